@@ -1,0 +1,6 @@
+-- What a reader must believe: what a document is, and which values a JSON text can have.
+pub mod Tests
+pub mod Kind
+pub mod Document
+pub mod Json
+
