@@ -1,5 +1,5 @@
 -- Two small tables, joined and computed.
-use Rattle.std.specs.Prelude.{◌≡◌, ℕ, List, [], ◌∷◌, true, refl}
+use Rattle.std.specs.Prelude.{◌≡◌, List, [], ◌∷◌, true, refl}
 use Rattle.documents.specs.Kind.{Null, Array}
 use Rattle.positions.specs.Position.{Position, True, Not, All, Any, Types, is_table}
 use Rattle.position_laws.specs.Join.{joined}

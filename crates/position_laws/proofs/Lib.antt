@@ -1,4 +1,5 @@
 pub mod Lists
+pub mod Counts
 pub mod Asks
 pub mod Tables
 pub mod Joined

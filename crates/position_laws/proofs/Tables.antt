@@ -1,56 +1,12 @@
 -- Numbers that fall in place make a list of positions a table: counting turns them into ranks below its length.
-use Rattle.std.proofs.Common.{◌≡◌, ℕ, zero, suc, ◌+◌, ◌<◌, ◌≤◌, inl, inr, Bool, true, false, cond, nat_lt, nat_eq, List, [], ◌∷◌, length, get_or, refl, sym, subst, arith}
+use Rattle.std.proofs.Common.{◌≡◌, ℕ, zero, suc, ◌+◌, ◌<◌, ◌≤◌, inl, inr, true, cond, nat_lt, nat_eq, List, [], ◌∷◌, length, get_or, refl, sym, subst, arith}
 use Rattle.std.specs.List.{AllByRecursion}
-use Rattle.std.proofs.lemmas.Bool.{and_parts, ltb-true, lt-ltb, le-ltb, cond-true, cond-false, cases_lt, cases_eq}
+use Rattle.std.proofs.lemmas.Bool.{and_parts, ltb-true, lt-ltb, le-ltb, cond-true, cond-false, cases_lt}
 use Rattle.documents.specs.Tests.{every}
 use Rattle.positions.specs.Position.{Position, False, position_at, in_place, names_below, ranks_fall, is_table}
 use Rattle.positions.specs.Holds.{IsTable}
+use Rattle.position_laws.proofs.Counts.{passing, passing-bound, passing-less}
 use Rattle.position_laws.proofs.Lists.{all-weaker, all-both, every-all}
-
--- counting
-
-abbrev counted : Bool → ℕ
-counted b = cond b 1 0
-
--- how many of the positions before n have a number below v
-abbrev lower : (ℕ → ℕ) → ℕ → ℕ → ℕ
-lower r zero v = 0
-lower r (suc n) v = counted (nat_lt (r n) v) + lower r n v
-
-counted-bound : (b : Bool) → counted b ≤ 1
-counted-bound true = omega arith
-counted-bound false = omega arith
-
-counted-rises : (a b : Bool) → (a ≡ true → b ≡ true) → counted a ≤ counted b
-counted-rises true true f = omega arith
-counted-rises true false f = cc (f refl)
-counted-rises false true f = omega arith
-counted-rises false false f = omega arith
-
-module _ (r : ℕ → ℕ) where
-  lower-bound : (n v : ℕ) → lower r n v ≤ n
-  lower-bound zero v = omega arith
-  lower-bound (suc n) v = omega (arith, lower-bound n v, counted-bound (nat_lt (r n) v))
-
-  counted-lower : (n v w : ℕ) → v ≤ w → counted (nat_lt (r n) v) ≤ counted (nat_lt (r n) w)
-  counted-lower n v w l = counted-rises _ _ (λ e. lt-ltb (r n) w (omega (arith, ltb-true (r n) v e)))
-
-  lower-rises : (n v w : ℕ) → v ≤ w → lower r n v ≤ lower r n w
-  lower-rises zero v w l = omega arith
-  lower-rises (suc n) v w l = omega (arith, lower-rises n v w l, counted-lower n v w l)
-
-  -- a position with a number between two others is counted below the higher one alone
-  lower-between : (n q v w : ℕ) → q < n → v ≤ r q → r q < w → lower r n v < lower r n w
-  lower-between zero q v w l a b = absurd (omega arith)
-  lower-between (suc n) q v w l a b =
-      elim (cases_eq q n) [
-        | inl e ↦
-            let no : nat_lt (r n) v ≡ false = le-ltb (r n) v (subst (λ k. v ≤ r k) e a) in
-            let yes : nat_lt (r n) w ≡ true = lt-ltb (r n) w (subst (λ k. r k < w) e b) in
-            let more : lower r n v ≤ lower r n w = lower-rises n v w (omega arith) in
-            rw (no, yes) (omega arith)
-        | inr ne ↦ omega (arith, lower-between n q v w (omega (arith, ne)) a b, counted-lower n v w (omega arith))
-      ]
 
 -- positions of a list
 
@@ -100,11 +56,21 @@ module _ (T : List Position) (ranks : List ℕ) (e : is_table T ranks ≡ true) 
   abbrev number : ℕ → ℕ
   number p = get_or ranks p 0
 
+  -- how many positions of the table have a number below v
+  abbrev lower : ℕ → ℕ
+  lower v = passing (λ q. nat_lt (number q) v) (length T)
+
+  -- a position with a number between two others is counted below the higher one alone
+  lower-less : (q v w : ℕ) → q < length T → v ≤ number q → number q < w → lower v < lower w
+  lower-less q v w l a b =
+      passing-less (λ k. nat_lt (number k) v) (λ k. nat_lt (number k) w)
+      (λ k e. lt-ltb (number k) w (omega (arith, ltb-true (number k) v e))) (length T) q l (le-ltb (number q) v a) (lt-ltb (number q) w b)
+
   -- how many positions of the table have a lesser number; 0 past the end
   abbrev rank_of : ℕ → ℕ
-  rank_of p = cond (nat_lt p (length T)) (lower number (length T) (number p)) 0
+  rank_of p = cond (nat_lt p (length T)) (lower (number p)) 0
 
-  rank_of-inside : (p : ℕ) → p < length T → rank_of p ≡ lower number (length T) (number p)
+  rank_of-inside : (p : ℕ) → p < length T → rank_of p ≡ lower (number p)
   rank_of-inside p l = cond-true (nat_lt p (length T)) _ 0 (lt-ltb p (length T) l)
 
   rank_of-past : (p : ℕ) → length T ≤ p → rank_of p ≡ 0
@@ -113,12 +79,11 @@ module _ (T : List Position) (ranks : List ℕ) (e : is_table T ranks ≡ true) 
   rank_of-bounded : 0 < length T → (p : ℕ) → rank_of p < length T
   rank_of-bounded some p =
       elim (cases_lt p (length T)) [
-        | inl l ↦ omega (
-          arith,
-          rank_of-inside p l,
-          lower-between number (length T) p (number p) (suc (number p)) l (omega arith) (omega arith),
-          lower-bound number (length T) (suc (number p)),
-        )
+        | inl l ↦
+            let less : lower (number p) < lower (suc (number p)) =
+            lower-less p (number p) (suc (number p)) l (omega arith) (omega arith) in
+            let bound : lower (suc (number p)) ≤ length T = passing-bound _ (length T) in
+            omega (arith, rank_of-inside p l)
         | inr l ↦ omega (arith, rank_of-past p l)
       ]
 
@@ -127,12 +92,10 @@ module _ (T : List Position) (ranks : List ℕ) (e : is_table T ranks ≡ true) 
       elim (cases_lt p (length T)) [
         | inl l ↦
             all-both _ _ _ (in_place (position_at T p))
-            (λ q below falls. omega (
-              arith,
-              rank_of-inside p l,
-              rank_of-inside q below,
-              lower-between number (length T) q (number q) (number p) below (omega arith) falls,
-            ))
+            (λ q below falls.
+            let less : lower (number q) < lower (number p) =
+            lower-less q (number q) (number p) below (omega arith) falls in
+            omega (arith, rank_of-inside p l, rank_of-inside q below))
             (is_table-named p) (fall p)
         | inr l ↦ subst (λ P. AllByRecursion (λ q. rank_of q < rank_of p) (in_place P)) (sym (position_at-past T p l)) tt
       ] where
