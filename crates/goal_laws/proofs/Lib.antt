@@ -1,0 +1,4 @@
+pub mod Signs
+pub mod Rules
+pub mod Steps
+pub mod Branches
