@@ -2,3 +2,4 @@ pub mod Signs
 pub mod Rules
 pub mod Steps
 pub mod Branches
+pub mod Saturated

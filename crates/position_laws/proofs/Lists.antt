@@ -1,7 +1,7 @@
 -- Tests of the elements of a list: what `every` and `some` give, and how they meet `map` and `++`.
-use Rattle.std.proofs.Common.{zero, suc, inl, inr, flat_map, Contains, subst, arith, ◌≡◌, Bool, true, false, ◌&&◌, ◌||◌, List, [], ◌∷◌, ◌++◌, map, refl, ap, ap₂, ◌∙◌}
+use Rattle.std.proofs.Common.{zero, suc, inl, inr, flat_map, Contains, subst, arith, ◌≡◌, Bool, true, false, ◌&&◌, ◌||◌, List, [], ◌∷◌, ◌++◌, map, refl, ap, ap₂, sym, ◌∙◌}
 use Rattle.std.specs.List.{AllByRecursion}
-use Rattle.std.proofs.lemmas.Bool.{and_parts, and_from, or_cases, or_parts}
+use Rattle.std.proofs.lemmas.Bool.{and_parts, and_from, or_cases, or_parts, or_left, or_right}
 use Rattle.documents.specs.Tests.{every, some}
 
 -- facts of each element
@@ -76,6 +76,11 @@ some-find p (x ∷ xs) e =
       | inl a ↦ (x, (0, omega arith, refl), a)
       | inr b ↦ let (y, (k, l, same), h) = some-find p xs b in (y, (suc k, omega arith, same), h)
     ]
+
+pub some-contains : {A : Type 0} (p : A → Bool) (xs : List A) (x : A) → Contains xs x → p x ≡ true → some p xs ≡ true
+some-contains p [] x (k, l, e) h = absurd (omega arith)
+some-contains p (y ∷ xs) x (zero, l, e) h = or_left (p y) (some p xs) (subst (λ z. p z ≡ true) (sym e) h)
+some-contains p (y ∷ xs) x (suc k, l, e) h = or_right (p y) (some p xs) (some-contains p xs x (k, omega arith, e) h)
 
 -- lists made by `map`, `++` and `flat_map`
 
