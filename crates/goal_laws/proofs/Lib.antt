@@ -3,3 +3,4 @@ pub mod Rules
 pub mod Steps
 pub mod Branches
 pub mod Saturated
+pub mod Forms
