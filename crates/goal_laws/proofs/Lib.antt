@@ -4,3 +4,5 @@ pub mod Steps
 pub mod Branches
 pub mod Saturated
 pub mod Forms
+pub mod GoodSound
+pub mod Written
