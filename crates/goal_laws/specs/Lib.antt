@@ -1,4 +1,5 @@
--- What a reader must believe: which sets are saturated, which goals are formed, and which certificate trees give.
+-- What a reader must believe: which sets are saturated, which goals are formed, and which certificate is
+-- written from trees.
 pub mod Saturated
 pub mod Formed
 pub mod Written
