@@ -1,0 +1,3 @@
+mod Examples
+pub mod Conversion
+pub mod ValueLemmas

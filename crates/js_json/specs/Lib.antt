@@ -1,0 +1,2 @@
+-- What a reader must believe: which JSON value a text stands for.
+pub mod Value
