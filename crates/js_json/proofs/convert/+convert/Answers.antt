@@ -3,7 +3,7 @@ use Rattle.std.proofs.lemmas.List.{take_all, append-nil}
 use Rattle.serde_json.specs.View as R
 use Rattle.serde_json.proofs.Views.{Entry}
 use Rattle.documents.specs.Json.{items_of, members_of}
-use Rattle.js_json.specs.Value.{json_of, json_items, json_members}
+use Rattle.js_json.specs.Value.{json_of, json_members}
 use Rattle.js_json.proofs.Conversion.{json_items-items_view, json_members-members_view, members_made_more}
 use Rattle.js_json.proofs.convert.+convert.Goals as goal
 
