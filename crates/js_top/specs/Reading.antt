@@ -2,7 +2,7 @@
 use Rattle.std.specs.Prelude.{◌≡◌, ℕ, List, [], ◌∷◌, ◌++◌, length, cond, nat_lt, Option, Some, None, codes}
 use Rattle.documents.specs.Json.{Json}
 use Rattle.js_json.specs.Value.{value_of}
-use Rattle.js_json.specs.Pointer.{pointer_text}
+use Rattle.js_json.specs.Pointer.{pointer_text, quoted}
 use Rattle.js_forms.specs.Forms.{first_fault}
 
 -- a schema, or the words of the refusal after the file's role
@@ -11,7 +11,7 @@ pub data Reading : Type 0 where
   Read : Json → Reading
 
 abbrev pub of_fault : Json → Option (List (List ℕ)) → Reading
-of_fault j (Some p) = Refused (codes "notyet " ++ pointer_text p)
+of_fault j (Some p) = Refused (codes "notyet " ++ quoted (pointer_text p))
 of_fault j None = Read j
 
 abbrev pub of_value : Option Json → Reading

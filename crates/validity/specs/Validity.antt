@@ -1,4 +1,6 @@
 -- When a document is valid for a schema, read off the schema's JSON value (JSON Schema validation, draft-06).
+-- The keywords type, allOf, anyOf and not are here, and every other member asks nothing; so a program has to refuse a
+-- schema with a further keyword of draft-06, or with a reference.
 use Rattle.std.specs.Prelude.{◌≡◌, ℕ, suc, List, [], ◌∷◌, Bool, true, false, ◌&&◌, ◌||◌, not, Option, Some, None, codes}
 use Rattle.documents.specs.Tests.{every, some, same_word}
 use Rattle.documents.specs.Kind.{Kind, Null, Boolean, Number, Text, Array, Object}
