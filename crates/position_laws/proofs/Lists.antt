@@ -1,7 +1,7 @@
 -- Tests of the elements of a list: what `every` and `some` give, and how they meet `map` and `++`.
-use Rattle.std.proofs.Common.{zero, suc, inl, inr, flat_map, Contains, subst, arith, ◌≡◌, Bool, true, false, ◌&&◌, ◌||◌, List, [], ◌∷◌, ◌++◌, map, refl, ap, ap₂, ◌∙◌}
+use Rattle.std.proofs.Common.{zero, suc, inl, inr, flat_map, Contains, subst, arith, ◌≡◌, Bool, true, false, ◌&&◌, ◌||◌, List, [], ◌∷◌, ◌++◌, map, refl, ap, ap₂, sym, ◌∙◌}
 use Rattle.std.specs.List.{AllByRecursion}
-use Rattle.std.proofs.lemmas.Bool.{and_parts, and_from, or_cases}
+use Rattle.std.proofs.lemmas.Bool.{and_parts, and_from, or_cases, or_parts, or_left, or_right}
 use Rattle.documents.specs.Tests.{every, some}
 
 -- facts of each element
@@ -29,6 +29,11 @@ pub all-append : {A : Type 0} (P : A → Type 0) (xs ys : List A) → AllByRecur
     → AllByRecursion P (xs ++ ys)
 all-append P [] ys g h = h
 all-append P (x ∷ xs) ys g h = (g.0, all-append P xs ys g.1 h)
+
+pub all-flat_map : {A B : Type 0} (P : B → Type 0) (f : A → List B) (xs : List A)
+    → AllByRecursion (λ x. AllByRecursion P (f x)) xs → AllByRecursion P (flat_map f xs)
+all-flat_map P f [] h = tt
+all-flat_map P f (x ∷ xs) h = all-append P (f x) (flat_map f xs) h.0 (all-flat_map P f xs h.1)
 
 pub all-at : {A : Type 0} (P : A → Type 0) (xs : List A) (x : A) → AllByRecursion P xs → Contains xs x → P x
 all-at P [] x h (k, l, e) = absurd (omega arith)
@@ -60,6 +65,10 @@ pub all-every : {A : Type 0} (p : A → Bool) (xs : List A) → AllByRecursion (
 all-every p [] h = refl
 all-every p (x ∷ xs) h = and_from (p x) (every p xs) h.0 (all-every p xs h.1)
 
+pub some-all : {A : Type 0} (p : A → Bool) (xs : List A) → some p xs ≡ false → AllByRecursion (λ x. p x ≡ false) xs
+some-all p [] e = tt
+some-all p (x ∷ xs) e = let (a, b) = or_parts (p x) (some p xs) e in (a, some-all p xs b)
+
 pub some-find : {A : Type 0} (p : A → Bool) (xs : List A) → some p xs ≡ true → (x : A) × Contains xs x × (p x ≡ true)
 some-find p [] e = cc
 some-find p (x ∷ xs) e =
@@ -67,6 +76,11 @@ some-find p (x ∷ xs) e =
       | inl a ↦ (x, (0, omega arith, refl), a)
       | inr b ↦ let (y, (k, l, same), h) = some-find p xs b in (y, (suc k, omega arith, same), h)
     ]
+
+pub some-contains : {A : Type 0} (p : A → Bool) (xs : List A) (x : A) → Contains xs x → p x ≡ true → some p xs ≡ true
+some-contains p [] x (k, l, e) h = absurd (omega arith)
+some-contains p (y ∷ xs) x (zero, l, e) h = or_left (p y) (some p xs) (subst (λ z. p z ≡ true) (sym e) h)
+some-contains p (y ∷ xs) x (suc k, l, e) h = or_right (p y) (some p xs) (some-contains p xs x (k, omega arith, e) h)
 
 -- lists made by `map`, `++` and `flat_map`
 
@@ -96,3 +110,8 @@ pub some-flat_map : {A B : Type 0} (p : B → Bool) (f : A → List B) (xs : Lis
     → some p (flat_map f xs) ≡ some (λ x. some p (f x)) xs
 some-flat_map p f [] = refl
 some-flat_map p f (x ∷ xs) = some-append p (f x) (flat_map f xs) ∙ ap (λ b. some p (f x) || b) (some-flat_map p f xs)
+
+pub flat_map-same : {A B : Type 0} (f g : A → List B) (xs : List A) → AllByRecursion (λ x. f x ≡ g x) xs
+    → flat_map f xs ≡ flat_map g xs
+flat_map-same f g [] h = refl
+flat_map-same f g (x ∷ xs) h = ap₂ (λ a b. a ++ b) h.0 (flat_map-same f g xs h.1)

@@ -1,0 +1,5 @@
+pub mod Signs
+pub mod Rules
+pub mod Steps
+pub mod Branches
+pub mod Saturated

@@ -1,0 +1,2 @@
+-- What a reader must believe: which sets are saturated.
+pub mod Saturated
