@@ -64,7 +64,7 @@ module _ (T : List Position) (ok : IsTable T) (J : Document) where
       no false = refl
 
   -- a set is met where one of the choices is met beside it
-  meets-choices : (S : List Signed) (x : Signed) (cs : List (List Signed)) → has x S ≡ true
+  pub meets-choices : (S : List Signed) (x : Signed) (cs : List (List Signed)) → has x S ≡ true
       → choices T (kind_of J) x ≡ Some cs → meets T S J ≡ some (λ C. meets T (add_all C S) J) cs
   meets-choices S x cs i e =
       let exact : some (λ C. meets T C J) cs ≡ met (λ p. holds T p J) x =

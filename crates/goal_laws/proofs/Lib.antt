@@ -3,3 +3,6 @@ pub mod Rules
 pub mod Steps
 pub mod Branches
 pub mod Saturated
+pub mod Forms
+pub mod GoodSound
+pub mod Written

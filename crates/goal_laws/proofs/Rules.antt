@@ -112,6 +112,10 @@ module _ (Q : ℕ → Type 0) (t : Kind) where
   choices-names T (Plus p) h = plus_choices-names (position_at T p) h
   choices-names T (Minus p) h = minus_choices-names (position_at T p) h
 
+pub unmet : (b : Bool) → (b ≡ true → ⊥) → b ≡ false
+unmet true f = absurd (f refl)
+unmet false f = refl
+
 -- the same in a table, of what a document meets
 module _ (T : List Position) (ok : IsTable T) (J : Document) where
   pub choices-met : (x : Signed)
@@ -128,10 +132,6 @@ module _ (T : List Position) (ok : IsTable T) (J : Document) where
       holds-asks T ok p J ∙ plus_wrong-asks (λ q. holds T q J) (holds T) (position_at T p) J e
   is_wrong-met (Minus p) e =
       ap not (holds-asks T ok p J ∙ minus_wrong-asks (λ q. holds T q J) (holds T) (position_at T p) J e)
-
-  unmet : (b : Bool) → (b ≡ true → ⊥) → b ≡ false
-  unmet true f = absurd (f refl)
-  unmet false f = refl
 
   -- a set with both signs of a position is met by no document
   pub meets-clash : (S : List Signed) (x : Signed) → has x S ≡ true → has (opposite x) S ≡ true → meets T S J ≡ false

@@ -113,6 +113,20 @@ module _ (p : Signed → Bool) where
         | inr j ↦ or_right (p y) (some p S) (has-some S x j h)
       ]
 
+  pub some-has : (S : List Signed) → some p S ≡ true → (x : Signed) × (has x S ≡ true) × (p x ≡ true)
+  some-has [] e = cc
+  some-has (x ∷ S) e =
+      elim (or_cases (p x) (some p S) e) [
+        | inl h ↦ (x, has-here x S, h)
+        | inr k ↦ let (y, i, h) = some-has S k in (y, has-there y x S i, h)
+      ]
+
+  pub some-none : (S : List Signed) (x : Signed) → some p S ≡ false → has x S ≡ true → p x ≡ false
+  some-none S x e i = go (p x) refl where
+    go : (b : Bool) → p x ≡ b → p x ≡ false
+    go true h = cc (has-some S x i h)
+    go false h = h
+
   -- a signed position that fails, where not all pass
   pub every-fails : (S : List Signed) → every p S ≡ false → (x : Signed) × (has x S ≡ true) × (p x ≡ false)
   every-fails [] e = cc

@@ -1,7 +1,7 @@
 -- Tests of the elements of a list: what `every` and `some` give, and how they meet `map` and `++`.
 use Rattle.std.proofs.Common.{zero, suc, inl, inr, flat_map, Contains, subst, arith, ◌≡◌, Bool, true, false, ◌&&◌, ◌||◌, List, [], ◌∷◌, ◌++◌, map, refl, ap, ap₂, sym, ◌∙◌}
 use Rattle.std.specs.List.{AllByRecursion}
-use Rattle.std.proofs.lemmas.Bool.{and_parts, and_from, or_cases, or_parts, or_left, or_right}
+use Rattle.std.proofs.lemmas.Bool.{and_parts, and_from, or_cases, or_parts, or_from, or_left, or_right}
 use Rattle.documents.specs.Tests.{every, some}
 
 -- facts of each element
@@ -34,6 +34,16 @@ pub all-flat_map : {A B : Type 0} (P : B → Type 0) (f : A → List B) (xs : Li
     → AllByRecursion (λ x. AllByRecursion P (f x)) xs → AllByRecursion P (flat_map f xs)
 all-flat_map P f [] h = tt
 all-flat_map P f (x ∷ xs) h = all-append P (f x) (flat_map f xs) h.0 (all-flat_map P f xs h.1)
+
+pub all-unmap : {A B : Type 0} (P : B → Type 0) (f : A → B) (xs : List A) → AllByRecursion P (map f xs)
+    → AllByRecursion (λ x. P (f x)) xs
+all-unmap P f [] h = tt
+all-unmap P f (x ∷ xs) h = (h.0, all-unmap P f xs h.1)
+
+pub all-split : {A : Type 0} (P : A → Type 0) (xs ys : List A) → AllByRecursion P (xs ++ ys)
+    → AllByRecursion P xs × AllByRecursion P ys
+all-split P [] ys h = (tt, h)
+all-split P (x ∷ xs) ys h = let (a, b) = all-split P xs ys h.1 in ((h.0, a), b)
 
 pub all-at : {A : Type 0} (P : A → Type 0) (xs : List A) (x : A) → AllByRecursion P xs → Contains xs x → P x
 all-at P [] x h (k, l, e) = absurd (omega arith)
@@ -68,6 +78,10 @@ all-every p (x ∷ xs) h = and_from (p x) (every p xs) h.0 (all-every p xs h.1)
 pub some-all : {A : Type 0} (p : A → Bool) (xs : List A) → some p xs ≡ false → AllByRecursion (λ x. p x ≡ false) xs
 some-all p [] e = tt
 some-all p (x ∷ xs) e = let (a, b) = or_parts (p x) (some p xs) e in (a, some-all p xs b)
+
+pub all-some : {A : Type 0} (p : A → Bool) (xs : List A) → AllByRecursion (λ x. p x ≡ false) xs → some p xs ≡ false
+all-some p [] h = refl
+all-some p (x ∷ xs) h = or_from (p x) (some p xs) h.0 (all-some p xs h.1)
 
 pub some-find : {A : Type 0} (p : A → Bool) (xs : List A) → some p xs ≡ true → (x : A) × Contains xs x × (p x ≡ true)
 some-find p [] e = cc
