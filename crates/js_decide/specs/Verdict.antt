@@ -1,14 +1,14 @@
 -- The verdict on two positions of a table whose branches hold literals of kinds alone: whether a document meets the
 -- first and not the second.
-use Rattle.std.specs.Prelude.{ℕ, List, [], ◌∷◌, ◌++◌, map, flat_map, Bool, true, false, ◌&&◌, not, cond, nat_lt, Option, Some, None}
+use Rattle.std.specs.Prelude.{ℕ, List, [], ◌∷◌, Bool, true, false, ◌&&◌, not, cond, nat_lt, Option, Some, None}
 use Rattle.documents.specs.Tests.{some}
 use Rattle.documents.specs.Kind.{Kind, all_kinds}
 use Rattle.positions.specs.Position.{Position}
 use Rattle.goals.specs.Signed.{Signed, Plus, Minus}
 use Rattle.goals.specs.Goal.{form}
 use Rattle.goals.specs.Tree.{steps, ends, branches, first}
-use Rattle.certificates.specs.Line.{Line, Version, Goals, Goal, Entry, At, End}
-use Rattle.certificates.specs.TreeLines.{line_of}
+use Rattle.certificates.specs.Line.{Line}
+use Rattle.certificates.specs.TreeLines.{written}
 
 pub data Verdict : Type 0 where
   -- a document of this kind settles the question, whichever it is
@@ -33,23 +33,13 @@ is_some_branch (B ∷ Bs) = true
 abbrev pub is_open : List Position → List Signed → Kind → Bool
 is_open T g t = not (is_over T g t) && is_some_branch (branches (steps T t g))
 
-abbrev pub kind_lines : List Position → List Signed → Kind → List Line
-kind_lines T g t = At t ∷ map line_of (steps T t g)
-
--- the certificate that lists one goal, and the one that lists none
-abbrev pub goal_lines : List Position → List Signed → List Line
-goal_lines T g = Version ∷ Goals 1 ∷ Goal g ∷ Entry 0 ∷ (flat_map (kind_lines T g) all_kinds ++ End ∷ [])
-
-abbrev pub no_lines : List Line
-no_lines = Version ∷ Goals 0 ∷ End ∷ []
-
 abbrev pub of_kinds : List Position → List Signed → Option Kind → Verdict
 of_kinds T g (Some t) = Document t
-of_kinds T g None = cond (some (is_over T g) all_kinds) (Limit g) (Certificate (goal_lines T g))
+of_kinds T g None = cond (some (is_over T g) all_kinds) (Limit g) (Certificate (written T (Some g)))
 
 -- the first kind with a branch has the document; else a tree that is over is a limit; else the trees are a certificate
 abbrev pub of_goal : List Position → Option (List Signed) → Verdict
-of_goal T None = Certificate no_lines
+of_goal T None = Certificate (written T None)
 of_goal T (Some g) = of_kinds T g (first (is_open T g) all_kinds)
 
 abbrev pub verdict : List Position → ℕ → ℕ → Verdict
