@@ -1,5 +1,3 @@
--- What a reader must believe: which sets are saturated, which goals are formed, and which certificate is
--- written from trees.
+-- What a reader must believe: which sets are saturated, and which goals are formed.
 pub mod Saturated
 pub mod Formed
-pub mod Written
