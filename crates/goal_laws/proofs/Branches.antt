@@ -1,14 +1,15 @@
 -- A document meets a set exactly where it meets one of the branches of the set's tree at the document's kind.
-use Rattle.std.proofs.Common.{◌≡◌, ℕ, ◌<◌, Bool, true, false, ◌&&◌, ◌||◌, List, [], ◌∷◌, ◌++◌, flat_map, Option, Some, IfSome, refl, ap, sym, ◌∙◌, subst}
+use Rattle.std.proofs.Common.{◌≡◌, Bool, true, false, ◌&&◌, ◌||◌, List, [], ◌∷◌, ◌++◌, flat_map, Some, IfSome, refl, ap, sym, ◌∙◌, subst}
 use Rattle.std.specs.List.{AllByRecursion}
+use Rattle.std.proofs.Math.Bool.{and-false, or-false}
 use Rattle.std.proofs.lemmas.Bool.{and_parts, and_from}
-use Rattle.documents.specs.Tests.{every, some}
+use Rattle.documents.specs.Tests.{some}
 use Rattle.documents.specs.Kind.{Kind}
 use Rattle.documents.specs.Document.{Document, kind_of}
 use Rattle.positions.specs.Position.{Position}
 use Rattle.positions.specs.Holds.{holds, IsTable}
 use Rattle.position_laws.proofs.Lists.{all-weaker, all-everywhere, all-flat_map, some-same, some-flat_map}
-use Rattle.goals.specs.Signed.{Signed, Plus, Minus, has, add_all, met, meets}
+use Rattle.goals.specs.Signed.{Signed, Plus, has, add_all, met, meets}
 use Rattle.goals.specs.Choices.{choices}
 use Rattle.goals.specs.Goal.{contains}
 use Rattle.goals.specs.Tree.{Step, Clash, Wrong, Rule, Saturated, steps_from, steps, branches}
@@ -54,21 +55,20 @@ module _ (T : List Position) (ok : IsTable T) (J : Document) where
   Agrees S ss = meets T S J ≡ some (λ B. meets T B J) (branches ss)
 
   -- a signed position of a set may be asked for besides
-  meets-and : (S : List Signed) (x : Signed) → has x S ≡ true → meets T S J ≡ (met (λ p. holds T p J) x && meets T S J)
+  meets-and : (S : List Signed) (x : Signed) → has x S ≡ true
+      → meets T S J ≡ (met (λ p. holds T p J) x && meets T S J)
   meets-and S x i = go (meets T S J) refl where
     go : (b : Bool) → meets T S J ≡ b → b ≡ (met (λ p. holds T p J) x && b)
     go true e = sym (and_from _ true (every-has (met (λ p. holds T p J)) S x e i) refl)
-    go false e = no (met (λ p. holds T p J) x) where
-      no : (a : Bool) → false ≡ (a && false)
-      no true = refl
-      no false = refl
+    go false e = sym (and-false (met (λ p. holds T p J) x))
 
   -- a set is met where one of the choices is met beside it
   pub meets-choices : (S : List Signed) (x : Signed) (cs : List (List Signed)) → has x S ≡ true
       → choices T (kind_of J) x ≡ Some cs → meets T S J ≡ some (λ C. meets T (add_all C S) J) cs
   meets-choices S x cs i e =
       let exact : some (λ C. meets T C J) cs ≡ met (λ p. holds T p J) x =
-          subst (λ o. IfSome o (λ ds. some (λ C. meets T C J) ds ≡ met (λ p. holds T p J) x)) e (choices-met T ok J x) in
+      subst (λ o. IfSome o (λ ds. some (λ C. meets T C J) ds ≡ met (λ p. holds T p J) x)) e
+      (choices-met T ok J x) in
       meets-and S x i
       ∙ ap (λ b. b && meets T S J) (sym exact)
       ∙ some-and (λ C. meets T C J) (meets T S J) cs
@@ -79,10 +79,7 @@ module _ (T : List Position) (ok : IsTable T) (J : Document) where
       → Agrees S (steps_from (steps T (kind_of J)) S s)
   agrees-up S (Clash p) (a, b) h = meets-clash T ok J S (Plus p) a b
   agrees-up S (Wrong x) (i, w) h = meets-wrong T ok J S x i w
-  agrees-up S (Saturated B) (e, full) h = ap (λ S'. meets T S' J) (sym e) ∙ sym (or-false (meets T B J)) where
-    or-false : (b : Bool) → (b || false) ≡ b
-    or-false true = refl
-    or-false false = refl
+  agrees-up S (Saturated B) (e, full) h = ap (λ S'. meets T S' J) (sym e) ∙ sym (or-false (meets T B J))
   agrees-up S (Rule x cs) (i, e, new) h =
       meets-choices S x cs i e
       ∙ some-same _ _ cs h
@@ -108,7 +105,8 @@ module _ (T : List Position) (ok : IsTable T) (t : Kind) where
       (full, (and_parts _ _ (sym (every-add_all (λ x. has x B) C S) ∙ e)).1)
 
   branch-up : (S : List Signed) (s : Step) → Told T t S s
-      → EachChoice T ok t (λ S'. HasBranches S' (steps T t S')) S s → HasBranches S (steps_from (steps T t) S s)
+      → EachChoice T ok t (λ S'. HasBranches S' (steps T t S')) S s
+      → HasBranches S (steps_from (steps T t) S s)
   branch-up S (Clash p) told h = tt
   branch-up S (Wrong x) told h = tt
   branch-up S (Saturated B) (e, full) h =
@@ -116,7 +114,7 @@ module _ (T : List Position) (ok : IsTable T) (t : Kind) where
   branch-up S (Rule x cs) told h =
       subst (AllByRecursion (IsBranch S)) (sym (branches-flat_map (λ C. steps T t (add_all C S)) cs))
       (all-flat_map _ (λ C. branches (steps T t (add_all C S))) cs
-        (all-weaker _ _ cs (λ C k. all-weaker _ _ _ (λ B b. branch-smaller C S B b) k) h))
+      (all-weaker _ _ cs (λ C k. all-weaker _ _ _ (λ B b. branch-smaller C S B b) k) h))
 
   pub branches-are : (S : List Signed) → AllByRecursion (IsBranch S) (branches (steps T t S))
   branches-are S = steps-induction T ok t HasBranches branch-up S

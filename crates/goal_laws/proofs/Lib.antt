@@ -6,3 +6,5 @@ pub mod Saturated
 pub mod Forms
 pub mod GoodSound
 pub mod Written
+pub mod Verdicts
+mod Examples

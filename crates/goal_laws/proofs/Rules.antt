@@ -1,6 +1,7 @@
 -- The choices of a signed position mean what it means: a clause for each kind of position.
-use Rattle.std.proofs.Common.{◌≡◌, ℕ, ◌<◌, Bool, true, false, ◌&&◌, ◌||◌, not, List, [], ◌∷◌, map, length, Option, Some, None, IfSome, refl, ap, ap₂, sym, ◌∙◌, subst}
+use Rattle.std.proofs.Common.{◌≡◌, ℕ, Bool, true, false, ◌&&◌, ◌||◌, not, List, [], ◌∷◌, map, IfSome, refl, ap, ap₂, sym, ◌∙◌, subst}
 use Rattle.std.specs.List.{AllByRecursion}
+use Rattle.std.proofs.Math.Bool.{and-true, or-false}
 use Rattle.documents.specs.Tests.{every, some}
 use Rattle.documents.specs.Kind.{Kind, same_kind}
 use Rattle.documents.specs.Document.{Document, kind_of}
@@ -11,14 +12,6 @@ use Rattle.position_laws.proofs.Asks.{holds-asks}
 use Rattle.goals.specs.Signed.{Signed, Plus, Minus, opposite, position_of, has, met, meets}
 use Rattle.goals.specs.Choices.{plus_choices, minus_choices, choices, plus_wrong, minus_wrong, is_wrong}
 use Rattle.goal_laws.proofs.Signs.{met-opposite, every-has}
-
-and-true : (b : Bool) → (b && true) ≡ b
-and-true true = refl
-and-true false = refl
-
-or-false : (b : Bool) → (b || false) ≡ b
-or-false true = refl
-or-false false = refl
 
 not-not : (b : Bool) → b ≡ not (not b)
 not-not true = refl
@@ -43,7 +36,8 @@ module _ (here : ℕ → Bool) where
 
   one_minus : (qs : List ℕ) → some (every (met here)) (map (λ q. Minus q ∷ []) qs) ≡ not (every here qs)
   one_minus [] = refl
-  one_minus (q ∷ qs) = ap₂ (λ a b. a || b) (and-true (not (here q))) (one_minus qs) ∙ not-and (here q) (every here qs)
+  one_minus (q ∷ qs) =
+      ap₂ (λ a b. a || b) (and-true (not (here q))) (one_minus qs) ∙ not-and (here q) (every here qs)
 
   single : (x : Signed) → some (every (met here)) ((x ∷ []) ∷ []) ≡ met here x
   single x = or-false (met here x && true) ∙ and-true (met here x)
@@ -67,7 +61,8 @@ module _ (here : ℕ → Bool) where
     minus_choices-asks (Any qs) J = or-false _ ∙ all_minus qs
     minus_choices-asks (Types ts) J = tt
 
-    plus_wrong-asks : (P : Position) (J : Document) → plus_wrong (kind_of J) P ≡ true → asks here below P J ≡ false
+    plus_wrong-asks : (P : Position) (J : Document) → plus_wrong (kind_of J) P ≡ true
+        → asks here below P J ≡ false
     plus_wrong-asks (Types ts) J e = go (some (same_kind (kind_of J)) ts) e where
       go : (b : Bool) → not b ≡ true → b ≡ false
       go true e = sym e
@@ -78,7 +73,8 @@ module _ (here : ℕ → Bool) where
     plus_wrong-asks (All qs) J e = cc
     plus_wrong-asks (Any qs) J e = cc
 
-    minus_wrong-asks : (P : Position) (J : Document) → minus_wrong (kind_of J) P ≡ true → asks here below P J ≡ true
+    minus_wrong-asks : (P : Position) (J : Document) → minus_wrong (kind_of J) P ≡ true
+        → asks here below P J ≡ true
     minus_wrong-asks (Types ts) J e = e
     minus_wrong-asks True J e = refl
     minus_wrong-asks False J e = cc
@@ -107,7 +103,8 @@ module _ (Q : ℕ → Type 0) (t : Kind) where
   minus_choices-names (Any qs) h = (all-map _ Minus qs h, tt)
   minus_choices-names (Types ts) h = tt
 
-  pub choices-names : (T : List Position) (x : Signed) → AllByRecursion Q (in_place (position_at T (position_of x)))
+  pub choices-names : (T : List Position) (x : Signed)
+      → AllByRecursion Q (in_place (position_at T (position_of x)))
       → IfSome (choices T t x) AreNames
   choices-names T (Plus p) h = plus_choices-names (position_at T p) h
   choices-names T (Minus p) h = minus_choices-names (position_at T p) h
@@ -124,7 +121,8 @@ module _ (T : List Position) (ok : IsTable T) (J : Document) where
       subst (λ b. IfSome (plus_choices (kind_of J) (position_at T p)) (λ cs. some (λ C. meets T C J) cs ≡ b))
       (sym (holds-asks T ok p J)) (plus_choices-asks (λ q. holds T q J) (holds T) (position_at T p) J)
   choices-met (Minus p) =
-      subst (λ b. IfSome (minus_choices (kind_of J) (position_at T p)) (λ cs. some (λ C. meets T C J) cs ≡ not b))
+      subst
+      (λ b. IfSome (minus_choices (kind_of J) (position_at T p)) (λ cs. some (λ C. meets T C J) cs ≡ not b))
       (sym (holds-asks T ok p J)) (minus_choices-asks (λ q. holds T q J) (holds T) (position_at T p) J)
 
   pub is_wrong-met : (x : Signed) → is_wrong T (kind_of J) x ≡ true → met (λ p. holds T p J) x ≡ false
@@ -134,14 +132,18 @@ module _ (T : List Position) (ok : IsTable T) (J : Document) where
       ap not (holds-asks T ok p J ∙ minus_wrong-asks (λ q. holds T q J) (holds T) (position_at T p) J e)
 
   -- a set with both signs of a position is met by no document
-  pub meets-clash : (S : List Signed) (x : Signed) → has x S ≡ true → has (opposite x) S ≡ true → meets T S J ≡ false
+  pub meets-clash : (S : List Signed) (x : Signed) → has x S ≡ true → has (opposite x) S ≡ true
+      → meets T S J ≡ false
   meets-clash S x a b = unmet (meets T S J) (λ e.
       let here : ℕ → Bool = λ p. holds T p J in
-      both (met here x) (every-has (met here) S x e a) (sym (met-opposite here x) ∙ every-has (met here) S (opposite x) e b)) where
-    both : (b : Bool) → b ≡ true → not b ≡ true → ⊥
-    both true a b = cc
-    both false a b = cc
+      both (met here x) (every-has (met here) S x e a)
+      (sym (met-opposite here x) ∙ every-has (met here) S (opposite x) e b)) where
+        both : (b : Bool) → b ≡ true → not b ≡ true → ⊥
+        both true a b = cc
+        both false a b = cc
 
   -- nor is one with a literal that is wrong at the document's kind
-  pub meets-wrong : (S : List Signed) (x : Signed) → has x S ≡ true → is_wrong T (kind_of J) x ≡ true → meets T S J ≡ false
-  meets-wrong S x i w = unmet (meets T S J) (λ e. cc (every-has (met (λ p. holds T p J)) S x e i, is_wrong-met x w))
+  pub meets-wrong : (S : List Signed) (x : Signed) → has x S ≡ true → is_wrong T (kind_of J) x ≡ true
+      → meets T S J ≡ false
+  meets-wrong S x i w =
+      unmet (meets T S J) (λ e. cc (every-has (met (λ p. holds T p J)) S x e i, is_wrong-met x w))

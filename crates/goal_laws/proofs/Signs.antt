@@ -1,5 +1,6 @@
 -- Signed positions, and sets of them as rising lists: what is in a set, and what adding to it does.
-use Rattle.std.proofs.Common.{◌≡◌, ℕ, ◌+◌, ◌*◌, ◌<◌, ◌⊎◌, inl, inr, Bool, true, false, ◌&&◌, ◌||◌, cond, not, List, [], ◌∷◌, Option, Some, None, refl, ap, sym, ◌∙◌, subst, arith}
+use Rattle.std.proofs.Common.{◌≡◌, ℕ, ◌+◌, ◌*◌, ◌<◌, ◌⊎◌, inl, inr, Bool, true, false, ◌&&◌, ◌||◌, cond, not, List, [], ◌∷◌, Some, None, refl, ap, sym, ◌∙◌, subst, arith}
+use Rattle.std.proofs.Math.Bool.{and_assoc, or_assoc}
 use Rattle.std.specs.List.{AllByRecursion}
 use Rattle.std.proofs.lemmas.Bool.{eqb-true, eqb-false, eq-eqb, ltb-true, ltb-false, lt-ltb, leb-true, leb-false, le-leb, and_parts, and_from, or_cases, or_left, or_right}
 use Rattle.documents.specs.Tests.{every, some}
@@ -47,13 +48,15 @@ key-comes_before (Plus p) (Minus q) l = le-leb p q (omega arith)
 key-comes_before (Minus p) (Plus q) l = lt-ltb p q (omega arith)
 key-comes_before (Minus p) (Minus q) l = lt-ltb p q (omega arith)
 
-pub comes_before-transitive : (x y z : Signed) → comes_before x y ≡ true → comes_before y z ≡ true → comes_before x z ≡ true
+pub comes_before-transitive : (x y z : Signed) → comes_before x y ≡ true → comes_before y z ≡ true
+    → comes_before x z ≡ true
 comes_before-transitive x y z a b =
     let l : key x < key y = comes_before-key x y a in
     let m : key y < key z = comes_before-key y z b in
     key-comes_before x z (omega arith)
 
-pub comes_before-total : (x y : Signed) → same_signed x y ≡ false → comes_before x y ≡ false → comes_before y x ≡ true
+pub comes_before-total : (x y : Signed) → same_signed x y ≡ false → comes_before x y ≡ false
+    → comes_before y x ≡ true
 comes_before-total (Plus p) (Plus q) d e = lt-ltb q p (omega (arith, ltb-false p q e, eqb-false p q d))
 comes_before-total (Plus p) (Minus q) d e = lt-ltb q p (omega (arith, leb-false p q e))
 comes_before-total (Minus p) (Plus q) d e = le-leb q p (omega (arith, ltb-false p q e))
@@ -165,14 +168,17 @@ module _ (p : Signed → Bool) where
     once : (a b : Bool) → (a && b) ≡ (a && (a && b))
     once true b = refl
     once false b = refl
+
     swap : (a b c : Bool) → (a && (b && c)) ≡ (b && (a && c))
     swap true b c = refl
     swap false true c = refl
     swap false false c = refl
+
     go : (b c : Bool) → same_signed x y ≡ b → every p (add x S) ≡ (p x && every p S)
         → every p (cond b (y ∷ S) (cond c (x ∷ y ∷ S) (y ∷ add x S))) ≡ (p x && (p y && every p S))
     go true c e more =
-        subst (λ z. (p y && every p S) ≡ (p z && (p y && every p S))) (sym (same_signed-true x y e)) (once (p y) (every p S))
+        subst (λ z. (p y && every p S) ≡ (p z && (p y && every p S))) (sym (same_signed-true x y e))
+        (once (p y) (every p S))
     go false true e more = refl
     go false false e more = ap (λ b. p y && b) more ∙ swap (p y) (p x) (every p S)
 
@@ -182,32 +188,31 @@ module _ (p : Signed → Bool) where
     once : (a b : Bool) → (a || b) ≡ (a || (a || b))
     once true b = refl
     once false b = refl
+
     swap : (a b c : Bool) → (a || (b || c)) ≡ (b || (a || c))
     swap true true c = refl
     swap true false c = refl
     swap false b c = refl
+
     go : (b c : Bool) → same_signed x y ≡ b → some p (add x S) ≡ (p x || some p S)
         → some p (cond b (y ∷ S) (cond c (x ∷ y ∷ S) (y ∷ add x S))) ≡ (p x || (p y || some p S))
     go true c e more =
-        subst (λ z. (p y || some p S) ≡ (p z || (p y || some p S))) (sym (same_signed-true x y e)) (once (p y) (some p S))
+        subst (λ z. (p y || some p S) ≡ (p z || (p y || some p S))) (sym (same_signed-true x y e))
+        (once (p y) (some p S))
     go false true e more = refl
     go false false e more = ap (λ b. p y || b) more ∙ swap (p y) (p x) (some p S)
 
   pub every-add_all : (C S : List Signed) → every p (add_all C S) ≡ (every p C && every p S)
   every-add_all [] S = refl
   every-add_all (x ∷ C) S =
-      every-add x (add_all C S) ∙ ap (λ b. p x && b) (every-add_all C S) ∙ assoc (p x) (every p C) (every p S) where
-    assoc : (a b c : Bool) → (a && (b && c)) ≡ ((a && b) && c)
-    assoc true b c = refl
-    assoc false b c = refl
+      every-add x (add_all C S) ∙ ap (λ b. p x && b) (every-add_all C S)
+      ∙ sym (and_assoc (p x) (every p C) (every p S))
 
   pub some-add_all : (C S : List Signed) → some p (add_all C S) ≡ (some p C || some p S)
   some-add_all [] S = refl
   some-add_all (x ∷ C) S =
-      some-add x (add_all C S) ∙ ap (λ b. p x || b) (some-add_all C S) ∙ assoc (p x) (some p C) (some p S) where
-    assoc : (a b c : Bool) → (a || (b || c)) ≡ ((a || b) || c)
-    assoc true b c = refl
-    assoc false b c = refl
+      some-add x (add_all C S) ∙ ap (λ b. p x || b) (some-add_all C S)
+      ∙ sym (or_assoc (p x) (some p C) (some p S))
 
 pub has-add : (z x : Signed) (S : List Signed) → has z (add x S) ≡ (same_signed z x || has z S)
 has-add z x S = some-add (same_signed z) x S
@@ -217,7 +222,8 @@ has-add_all z C S = some-add_all (same_signed z) C S
 
 -- rising lists stay rising
 
-comes_before-every : (x y : Signed) (S : List Signed) → comes_before x y ≡ true → every (comes_before y) S ≡ true
+comes_before-every : (x y : Signed) (S : List Signed) → comes_before x y ≡ true
+    → every (comes_before y) S ≡ true
     → every (comes_before x) S ≡ true
 comes_before-every x y S e h =
     has-every (comes_before x) S (λ z i. comes_before-transitive x y z e (every-has (comes_before y) S z h i))
@@ -227,14 +233,14 @@ is_rising-add x [] e = refl
 is_rising-add x (y ∷ S) e =
     let (least, rest) = and_parts (every (comes_before y) S) (is_rising S) e in
     go (same_signed x y) (comes_before x y) refl refl least (is_rising-add x S rest) where
-  go : (b c : Bool) → same_signed x y ≡ b → comes_before x y ≡ c → every (comes_before y) S ≡ true
-      → is_rising (add x S) ≡ true → is_rising (cond b (y ∷ S) (cond c (x ∷ y ∷ S) (y ∷ add x S))) ≡ true
-  go true c d before least more = e
-  go false true d before least more =
-      and_from _ _ (and_from (comes_before x y) _ before (comes_before-every x y S before least)) e
-  go false false d before least more =
-      and_from _ _
-      (every-add (comes_before y) x S ∙ and_from _ _ (comes_before-total x y d before) least) more
+      go : (b c : Bool) → same_signed x y ≡ b → comes_before x y ≡ c → every (comes_before y) S ≡ true
+          → is_rising (add x S) ≡ true → is_rising (cond b (y ∷ S) (cond c (x ∷ y ∷ S) (y ∷ add x S))) ≡ true
+      go true c d before least more = e
+      go false true d before least more =
+          and_from _ _ (and_from (comes_before x y) _ before (comes_before-every x y S before least)) e
+      go false false d before least more =
+          and_from _ _
+          (every-add (comes_before y) x S ∙ and_from _ _ (comes_before-total x y d before) least) more
 
 pub is_rising-add_all : (C S : List Signed) → is_rising S ≡ true → is_rising (add_all C S) ≡ true
 is_rising-add_all [] S e = e
@@ -246,10 +252,10 @@ add-head x [] e = refl
 add-head x (y ∷ S) e =
     let before = (and_parts (comes_before x y) (every (comes_before x) S) e).0 in
     go (same_signed x y) (comes_before x y) (comes_before-other x y before) before where
-  go : (b c : Bool) → b ≡ false → c ≡ true → cond b (y ∷ S) (cond c (x ∷ y ∷ S) (y ∷ add x S)) ≡ x ∷ y ∷ S
-  go true c d h = cc
-  go false false d h = cc
-  go false true d h = refl
+      go : (b c : Bool) → b ≡ false → c ≡ true → cond b (y ∷ S) (cond c (x ∷ y ∷ S) (y ∷ add x S)) ≡ x ∷ y ∷ S
+      go true c d h = cc
+      go false false d h = cc
+      go false true d h = refl
 
 -- a rising list is the set of its own elements
 pub add_all-itself : (S : List Signed) → is_rising S ≡ true → add_all S [] ≡ S

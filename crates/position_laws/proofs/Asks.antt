@@ -9,7 +9,7 @@ use Rattle.positions.specs.Holds.{asks, holds, IsTable}
 use Rattle.position_laws.specs.Join.{renamed}
 use Rattle.position_laws.proofs.Lists.{all-everywhere, every-same, some-same, every-map, some-map}
 
--- a position asks the same where the documents below agree on its names Q, and this document on those in place
+-- a position asks the same where this document agrees on its in-place names, and those below on all its names
 module _ (here here' : ℕ → Bool) (below below' : ℕ → Document → Bool) (Q : ℕ → Type 0) where
   pub asks-same : (P : Position) (J : Document)
       → AllByRecursion (λ q. here q ≡ here' q) (in_place P)
@@ -34,7 +34,8 @@ asks-renamed f here below (Any qs) J = some-map here f qs
 asks-renamed f here below (Types ts) J = refl
 
 -- what the positions of a list ask is local in their in-place names
-asks-local : (T : List Position) → IsLocal (λ here below p. asks here below (position_at T p)) (λ p. in_place (position_at T p))
+asks-local : (T : List Position)
+    → IsLocal (λ here below p. asks here below (position_at T p)) (λ p. in_place (position_at T p))
 asks-local T here here' below below' p J h b =
     asks-same here here' below below' (λ q. Unit {0}) (position_at T p) J h
     (all-everywhere _ (in_place (position_at T p)) (λ q. tt)) (λ q K u l. b q K l)
@@ -43,5 +44,5 @@ asks-local T here here' below below' p J h b =
 pub holds-asks : (T : List Position) → IsTable T → (p : ℕ) (J : Document)
     → holds T p J ≡ asks (λ q. holds T q J) (holds T) (position_at T p) J
 holds-asks T ok p J =
-    is_met-asks (λ here below q. asks here below (position_at T q)) (λ q. in_place (position_at T q)) (asks-local T)
-    (length T) ok.rank ok.ranked p J
+    is_met-asks (λ here below q. asks here below (position_at T q)) (λ q. in_place (position_at T q))
+    (asks-local T) (length T) ok.rank ok.ranked p J

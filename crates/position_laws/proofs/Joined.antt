@@ -1,5 +1,6 @@
--- Joined tables: the joined list is a table, and each position in it holds of what it held of in its own table.
-use Rattle.std.proofs.Common.{◌≡◌, ℕ, zero, suc, ◌+◌, ◌<◌, ◌≤◌, Bool, true, false, ◌&&◌, nat_lt, List, [], ◌∷◌, ◌++◌, map, length, get_or, refl, ap, ap₂, sym, ◌∙◌, subst, arith, length-append}
+-- Two tables joined are a table, and each position in it holds of what it held of in its own.
+use Rattle.std.proofs.Common.{◌≡◌, ℕ, zero, suc, ◌+◌, ◌<◌, ◌≤◌, Bool, true, ◌&&◌, nat_lt, List, [], ◌∷◌, ◌++◌, map, length, get_or, refl, ap, ap₂, sym, ◌∙◌, subst, arith, length-append}
+use Rattle.std.proofs.Math.Bool.{and_assoc}
 use Rattle.std.proofs.lemmas.Bool.{and_parts, and_from, lt-ltb, eqb-true, eq-eqb}
 use Rattle.std.proofs.lemmas.List.{length-map, get_or_append_left, get_or-append-add}
 use Rattle.documents.specs.Tests.{every}
@@ -37,12 +38,14 @@ in_place-renamed f (Types ts) = refl
 
 -- positions of joined lists
 
-pub position_at-append_left : (xs ys : List Position) (p : ℕ) → p < length xs → position_at (xs ++ ys) p ≡ position_at xs p
+pub position_at-append_left : (xs ys : List Position) (p : ℕ) → p < length xs
+    → position_at (xs ++ ys) p ≡ position_at xs p
 position_at-append_left [] ys p l = absurd (omega arith)
 position_at-append_left (x ∷ xs) ys zero l = refl
 position_at-append_left (x ∷ xs) ys (suc p) l = position_at-append_left xs ys p (omega arith)
 
-pub position_at-append_right : (xs ys : List Position) (p : ℕ) → position_at (xs ++ ys) (length xs + p) ≡ position_at ys p
+pub position_at-append_right : (xs ys : List Position) (p : ℕ)
+    → position_at (xs ++ ys) (length xs + p) ≡ position_at ys p
 position_at-append_right [] ys p =
     let same : p ≡ 0 + p = omega arith in
     subst (λ i. position_at ys i ≡ position_at ys p) same refl
@@ -57,7 +60,8 @@ position_at-renamed f (x ∷ xs) zero = refl
 position_at-renamed f (x ∷ xs) (suc p) = position_at-renamed f xs p
 
 pub length-joined : (A B : List Position) → length (joined A B) ≡ length A + length B
-length-joined A B = length-append A (map (moved (length A)) B) ∙ ap (λ n. length A + n) (length-map B (moved (length A)))
+length-joined A B =
+    length-append A (map (moved (length A)) B) ∙ ap (λ n. length A + n) (length-map B (moved (length A)))
 
 -- the joined list is a table
 
@@ -77,7 +81,8 @@ every-weaker : {A : Type 0} (p q : A → Bool) (xs : List A) → ((x : A) → p 
     → every p xs ≡ true → every q xs ≡ true
 every-weaker p q xs f e = all-every q xs (all-weaker _ _ xs f (every-all p xs e))
 
-names_below-joined : (A B : List Position) → every (names_below (length A)) A ≡ true → every (names_below (length B)) B ≡ true
+names_below-joined : (A B : List Position) → every (names_below (length A)) A ≡ true
+    → every (names_below (length B)) B ≡ true
     → every (names_below (length (joined A B))) (joined A B) ≡ true
 names_below-joined A B a b =
     rw (length-joined A B)
@@ -93,18 +98,17 @@ ranks_fall-append ranks k [] ys =
     ap (λ i. ranks_fall ranks i ys) same
 ranks_fall-append ranks k (x ∷ xs) ys =
     let same : suc k + length xs ≡ k + suc (length xs) = omega arith in
-    ap (λ b. falls x && b) (ranks_fall-append ranks (suc k) xs ys ∙ ap (λ i. ranks_fall ranks (suc k) xs && ranks_fall ranks i ys) same)
-    ∙ assoc (falls x) (ranks_fall ranks (suc k) xs) (ranks_fall ranks (k + suc (length xs)) ys) where
+    ap (λ b. falls x && b)
+    (ranks_fall-append ranks (suc k) xs ys
+    ∙ ap (λ i. ranks_fall ranks (suc k) xs && ranks_fall ranks i ys) same)
+    ∙ sym (and_assoc (falls x) (ranks_fall ranks (suc k) xs) (ranks_fall ranks (k + suc (length xs)) ys)) where
       falls : Position → Bool
       falls x = every (λ q. nat_lt (get_or ranks q 0) (get_or ranks k 0)) (in_place x)
 
-      assoc : (a b c : Bool) → (a && (b && c)) ≡ ((a && b) && c)
-      assoc true b c = refl
-      assoc false b c = refl
-
 module _ (ra rb : List ℕ) where
   -- the first table's part looks at its own ranks alone
-  ranks_fall-left : (k : ℕ) (xs : List Position) → every (names_below (length ra)) xs ≡ true → k + length xs ≤ length ra
+  ranks_fall-left : (k : ℕ) (xs : List Position) → every (names_below (length ra)) xs ≡ true
+      → k + length xs ≤ length ra
       → ranks_fall (ra ++ rb) k xs ≡ ranks_fall ra k xs
   ranks_fall-left k [] e l = refl
   ranks_fall-left k (x ∷ xs) e l =
@@ -125,7 +129,8 @@ module _ (ra rb : List ℕ) where
       (ap (every _) (in_place-renamed (λ q. length ra + q) x)
       ∙ every-map _ (λ q. length ra + q) (in_place x)
       ∙ every-same _ _ (in_place x)
-      (all-everywhere _ (in_place x) (λ q. ap₂ nat_lt (get_or-append-add ra rb q 0) (get_or-append-add ra rb k 0))))
+      (all-everywhere _ (in_place x)
+      (λ q. ap₂ nat_lt (get_or-append-add ra rb q 0) (get_or-append-add ra rb k 0))))
       (ap (λ i. ranks_fall (ra ++ rb) i (map (moved (length ra)) xs)) same ∙ ranks_fall-right (suc k) xs)
 
 pub is_table-joined : (A B : List Position) (ra rb : List ℕ) → is_table A ra ≡ true → is_table B rb ≡ true
@@ -140,7 +145,8 @@ is_table-joined A B ra rb a b =
     (ranks_fall-append (ra ++ rb) 0 A (map (moved (length A)) B) ∙ and_from _ _ (left la) (right la)) where
       left : length A ≡ length ra → ranks_fall (ra ++ rb) 0 A ≡ true
       left la =
-          ranks_fall-left ra rb 0 A (subst (λ n. every (names_below n) A ≡ true) la (is_table-below A ra a)) (omega arith)
+          ranks_fall-left ra rb 0 A (subst (λ n. every (names_below n) A ≡ true) la (is_table-below A ra a))
+          (omega arith)
           ∙ is_table-fall A ra a
 
       right : length A ≡ length ra → ranks_fall (ra ++ rb) (0 + length A) (map (moved (length A)) B) ≡ true
@@ -154,7 +160,8 @@ is_table-joined A B ra rb a b =
 -- a table that stands in another one under other names holds there of the same documents
 module _ (S T : List Position) (f : ℕ → ℕ) (inner : IsTable S) (outer : IsTable T)
     (placed : (p : ℕ) → p < length S → position_at T (f p) ≡ renamed f (position_at S p)) where
-  embedded : (d n p : ℕ) (J : Document) → depth J < d → inner.rank p < n → p < length S → holds T (f p) J ≡ holds S p J
+  embedded : (d n p : ℕ) (J : Document) → depth J < d → inner.rank p < n → p < length S
+      → holds T (f p) J ≡ holds S p J
   embedded zero n p J a b l = absurd (omega arith)
   embedded (suc d) zero p J a b l = absurd (omega arith)
   embedded (suc d) (suc n) p J a b l =
@@ -179,12 +186,19 @@ module _ (A B : List Position) (ra rb : List ℕ) (a : is_table A ra ≡ true) (
   pub holds-joined_left : (p : ℕ) (J : Document) → p < length A → holds (joined A B) p J ≡ holds A p J
   holds-joined_left p J l =
       let longer = length-joined A B in
-      holds-embedded A (joined A B) (λ q. q) (is_table-IsTable A ra a (omega arith)) (joined-IsTable (omega (arith, longer)))
-      (λ q m. position_at-append_left A (map (moved (length A)) B) q m ∙ sym (renamed-itself (position_at A q))) p J l
+      holds-embedded A (joined A B) (λ q. q) (is_table-IsTable A ra a (omega arith))
+      (joined-IsTable (omega (arith, longer)))
+      (λ q m.
+      position_at-append_left A (map (moved (length A)) B) q m ∙ sym (renamed-itself (position_at A q)))
+      p J l
 
-  pub holds-joined_right : (p : ℕ) (J : Document) → p < length B → holds (joined A B) (length A + p) J ≡ holds B p J
+  pub holds-joined_right : (p : ℕ) (J : Document) → p < length B
+      → holds (joined A B) (length A + p) J ≡ holds B p J
   holds-joined_right p J l =
       let longer = length-joined A B in
       holds-embedded B (joined A B) (λ q. length A + q) (is_table-IsTable B rb b (omega arith))
       (joined-IsTable (omega (arith, longer)))
-      (λ q m. position_at-append_right A (map (moved (length A)) B) q ∙ position_at-renamed (λ q. length A + q) B q) p J l
+      (λ q m.
+      position_at-append_right A (map (moved (length A)) B) q
+      ∙ position_at-renamed (λ q. length A + q) B q)
+      p J l

@@ -1,4 +1,4 @@
--- Numbers that fall in place make a list of positions a table: counting turns them into ranks below its length.
+-- Numbers that fall in place make a list of positions a table: counting makes ranks of them.
 use Rattle.std.proofs.Common.{◌≡◌, ℕ, zero, suc, ◌+◌, ◌<◌, ◌≤◌, inl, inr, true, cond, nat_lt, nat_eq, List, [], ◌∷◌, length, get_or, refl, sym, subst, arith}
 use Rattle.std.specs.List.{AllByRecursion}
 use Rattle.std.proofs.lemmas.Bool.{and_parts, ltb-true, lt-ltb, le-ltb, cond-true, cond-false, cases_lt}
@@ -21,7 +21,8 @@ position_at-past [] p l = refl
 position_at-past (x ∷ xs) zero l = absurd (omega arith)
 position_at-past (x ∷ xs) (suc p) l = position_at-past xs p (omega arith)
 
-pub names_below-all : (n : ℕ) (P : Position) → names_below n P ≡ true → AllByRecursion (λ q. q < n) (in_place P)
+pub names_below-all : (n : ℕ) (P : Position) → names_below n P ≡ true
+    → AllByRecursion (λ q. q < n) (in_place P)
 names_below-all n P e = all-weaker _ _ (in_place P) (λ q h. ltb-true q n h) (every-all _ (in_place P) e)
 
 ranks_fall-all : (ranks : List ℕ) (k : ℕ) (xs : List Position) → ranks_fall ranks k xs ≡ true
@@ -30,7 +31,8 @@ ranks_fall-all ranks k [] e p = tt
 ranks_fall-all ranks k (x ∷ xs) e zero =
     let same : k ≡ k + 0 = omega arith in
     let here = every-all _ (in_place x) (and_parts _ (ranks_fall ranks (suc k) xs) e).0 in
-    all-weaker _ _ (in_place x) (λ q h. subst (λ i. get_or ranks q 0 < get_or ranks i 0) same (ltb-true _ _ h)) here
+    all-weaker _ _ (in_place x)
+    (λ q h. subst (λ i. get_or ranks q 0 < get_or ranks i 0) same (ltb-true _ _ h)) here
 ranks_fall-all ranks k (x ∷ xs) e (suc p) =
     let same : suc k + p ≡ k + suc p = omega arith in
     subst (λ i. AllByRecursion (λ q. get_or ranks q 0 < get_or ranks i 0) (in_place (position_at xs p))) same
@@ -64,7 +66,8 @@ module _ (T : List Position) (ranks : List ℕ) (e : is_table T ranks ≡ true) 
   lower-less : (q v w : ℕ) → q < length T → v ≤ number q → number q < w → lower v < lower w
   lower-less q v w l a b =
       passing-less (λ k. nat_lt (number k) v) (λ k. nat_lt (number k) w)
-      (λ k e. lt-ltb (number k) w (omega (arith, ltb-true (number k) v e))) (length T) q l (le-ltb (number q) v a) (lt-ltb (number q) w b)
+      (λ k e. lt-ltb (number k) w (omega (arith, ltb-true (number k) v e))) (length T) q l
+      (le-ltb (number q) v a) (lt-ltb (number q) w b)
 
   -- how many positions of the table have a lesser number; 0 past the end
   abbrev rank_of : ℕ → ℕ
@@ -97,7 +100,9 @@ module _ (T : List Position) (ranks : List ℕ) (e : is_table T ranks ≡ true) 
             lower-less q (number q) (number p) below (omega arith) falls in
             omega (arith, rank_of-inside p l, rank_of-inside q below))
             (is_table-named p) (fall p)
-        | inr l ↦ subst (λ P. AllByRecursion (λ q. rank_of q < rank_of p) (in_place P)) (sym (position_at-past T p l)) tt
+        | inr l ↦
+            subst (λ P. AllByRecursion (λ q. rank_of q < rank_of p) (in_place P))
+            (sym (position_at-past T p l)) tt
       ] where
         fall : (p : ℕ) → AllByRecursion (λ q. number q < number p) (in_place (position_at T p))
         fall p =
