@@ -1,10 +1,5 @@
-<<<<<<< HEAD:crates/certificates/specs/TreeLines.antt
 -- The lines that a certificate has for trees, and the certificate that the trees of a formed goal give.
-use Rattle.std.specs.Prelude.{ℕ, List, [], ◌∷◌, ◌++◌, map, flat_map, Option, Some, None}
-=======
--- The certificate of a table's two positions that is read off the trees of their goal.
 use Rattle.std.specs.Prelude.{List, [], ◌∷◌, ◌++◌, map, flat_map, Option, Some, None}
->>>>>>> 922bb78b48c6d3ac008c195e44b408477512345c:crates/goal_laws/specs/Written.antt
 use Rattle.documents.specs.Kind.{Kind, all_kinds}
 use Rattle.positions.specs.Position.{Position}
 use Rattle.goals.specs.Signed.{Signed}

@@ -8,7 +8,7 @@ use Rattle.goals.specs.Tree as Tree
 use Rattle.goals.specs.Tree.{steps, branches}
 use Rattle.certificates.specs.Line.{Line, Version, Goals, Goal, Entry, At, Rule, OfKind, End}
 use Rattle.certificates.specs.Good.{is_good}
-use Rattle.goal_laws.specs.Written.{written}
+use Rattle.certificates.specs.TreeLines.{written}
 
 -- 0: null or an array, but no array; 1: null; 2: no array; 3: an array; 4: null or an array; 5: 1 or 2
 table : List Position

@@ -10,13 +10,8 @@ use Rattle.goals.specs.Signed.{Signed, Plus, Minus, position_of, has, add_all}
 use Rattle.goals.specs.Goal.{form, contains}
 use Rattle.goals.specs.Tree.{Step, Clash, Wrong, Rule, Saturated, steps_from, steps, branches}
 use Rattle.certificates.specs.Line.{Line, End}
-<<<<<<< HEAD
-use Rattle.certificates.specs.Good.{Duty, OfGoal, OfKindOf, OfSet, by_rule, where_true, go_on, do_duties, same_goal, judge_goals, is_good}
-use Rattle.certificates.specs.TreeLines.{line_of, tree_lines, written}
-=======
 use Rattle.certificates.specs.Good.{Duty, OfKindOf, OfSet, by_rule, where_true, go_on, do_duties, same_goal, judge_goals, is_good}
-use Rattle.goal_laws.specs.Written.{line_of, tree_lines, written}
->>>>>>> 922bb78b48c6d3ac008c195e44b408477512345c
+use Rattle.certificates.specs.TreeLines.{line_of, tree_lines, written}
 use Rattle.goal_laws.proofs.Signs.{same_signed-itself, has-every}
 use Rattle.goal_laws.proofs.Steps.{Told, EachChoice, steps-induction}
 use Rattle.goal_laws.proofs.Branches.{branches-append}
