@@ -1,11 +1,10 @@
 -- The lines that a certificate has for trees, and the certificate that the trees of a formed goal give.
-use Rattle.std.specs.Prelude.{ℕ, List, [], ◌∷◌, ◌++◌, map, flat_map, Option, Some, None}
+use Rattle.std.specs.Prelude.{List, [], ◌∷◌, ◌++◌, map, flat_map, Option, Some, None}
 use Rattle.documents.specs.Kind.{Kind, all_kinds}
 use Rattle.positions.specs.Position.{Position}
 use Rattle.goals.specs.Signed.{Signed}
 use Rattle.goals.specs.Tree as Tree
 use Rattle.goals.specs.Tree.{Step, steps}
-use Rattle.certificates.specs.Line as Line
 use Rattle.certificates.specs.Line.{Line, Version, Goals, Goal, Entry, At, End}
 
 -- the line of a step; a saturated end has none, and stops the certificate

@@ -20,11 +20,13 @@ abbrev pub Given : {A : Type 0} → (A → Type 0) → Option A → Type 0
 Given P None = Unit {0}
 Given P (Some a) = P a
 
-pub Given-map : {A B : Type 0} (P : A → Type 0) (Q : B → Type 0) (f : A → B) → ((a : A) → P a → Q (f a)) → (o : Option A) → Given P o → Given Q (option_map f o)
+pub Given-map : {A B : Type 0} (P : A → Type 0) (Q : B → Type 0) (f : A → B) → ((a : A) → P a → Q (f a))
+    → (o : Option A) → Given P o → Given Q (option_map f o)
 Given-map P Q f so None h = tt
 Given-map P Q f so (Some a) h = so a h
 
-pub Given-and_then : {A B : Type 0} (P : A → Type 0) (Q : B → Type 0) (f : A → Option B) → ((a : A) → P a → Given Q (f a)) → (o : Option A) → Given P o
+pub Given-and_then : {A B : Type 0} (P : A → Type 0) (Q : B → Type 0) (f : A → Option B)
+    → ((a : A) → P a → Given Q (f a)) → (o : Option A) → Given P o
     → Given Q (option_and_then f o)
 Given-and_then P Q f so None h = tt
 Given-and_then P Q f so (Some a) h = so a h
@@ -71,27 +73,35 @@ abbrev mutual
   AreMembersRead no_members = Unit {0}
   AreMembersRead (member k d ms) = IsUtf8 k × IsRead d × Below k ms × AreMembersRead ms
 
-Below-match_ordering : (l : List ℕ) (o : Ordering) (a b c : Members) → Below l a → Below l b → Below l c → Below l (match_ordering o a b c)
+Below-match_ordering : (l : List ℕ) (o : Ordering) (a b c : Members) → Below l a → Below l b → Below l c
+    → Below l (match_ordering o a b c)
 Below-match_ordering l Less a b c p q r = p
 Below-match_ordering l Equal a b c p q r = q
 Below-match_ordering l Greater a b c p q r = r
 
-Below-put : (l k : List ℕ) (d : Data) (ms : Members) → slice_cmp nat_cmp l k ≡ Less → Below l ms → Below l (put k d ms)
+Below-put : (l k : List ℕ) (d : Data) (ms : Members) → slice_cmp nat_cmp l k ≡ Less → Below l ms
+    → Below l (put k d ms)
 Below-put l k d no_members h below = h
 Below-put l k d (member m e ms) h below =
-    Below-match_ordering l (slice_cmp nat_cmp k m) (member k d (member m e ms)) (member m d ms) (member m e (put k d ms)) h below below
+    Below-match_ordering l (slice_cmp nat_cmp k m) (member k d (member m e ms)) (member m d ms)
+    (member m e (put k d ms)) h below below
 
-put_at : (o : Ordering) (k l : List ℕ) (d e : Data) (ms : Members) → slice_cmp nat_cmp k l ≡ o → IsUtf8 k → IsRead d → AreMembersRead (member l e ms)
-    → AreMembersRead (put k d ms) → AreMembersRead (match_ordering o (member k d (member l e ms)) (member l d ms) (member l e (put k d ms)))
+put_at : (o : Ordering) (k l : List ℕ) (d e : Data) (ms : Members) → slice_cmp nat_cmp k l ≡ o → IsUtf8 k
+    → IsRead d → AreMembersRead (member l e ms)
+    → AreMembersRead (put k d ms)
+    → AreMembersRead (match_ordering o (member k d (member l e ms)) (member l d ms)
+    (member l e (put k d ms)))
 put_at Less k l d e ms is u h old later = (u, h, is, old)
 put_at Equal k l d e ms is u h old later = (old.0, h, old.2, old.3)
 put_at Greater k l d e ms is u h old later =
     let back : slice_cmp nat_cmp l k ≡ Less = nat_list_cmp_total.antisymm l k ∙ ap ordering_reverse is in
     (old.0, old.1, Below-put l k d ms back old.2, later)
 
-AreMembersRead-put : (k : List ℕ) (d : Data) (ms : Members) → IsUtf8 k → IsRead d → AreMembersRead ms → AreMembersRead (put k d ms)
+AreMembersRead-put : (k : List ℕ) (d : Data) (ms : Members) → IsUtf8 k → IsRead d → AreMembersRead ms
+    → AreMembersRead (put k d ms)
 AreMembersRead-put k d no_members u h old = (u, h, tt, tt)
-AreMembersRead-put k d (member l e ms) u h old = put_at (slice_cmp nat_cmp k l) k l d e ms refl u h old (AreMembersRead-put k d ms u h old.3)
+AreMembersRead-put k d (member l e ms) u h old =
+    put_at (slice_cmp nat_cmp k l) k l d e ms refl u h old (AreMembersRead-put k d ms u h old.3)
 
 any_number : (o : Option AnyNum) → Given IsRead (option_map number o)
 any_number None = tt
@@ -103,19 +113,26 @@ mutual
   IsRead-of_json (T.boolean b) h = tt
   IsRead-of_json (T.number s) h = any_number (number_of s)
   IsRead-of_json (T.string s) h = h
-  IsRead-of_json (T.array js) h = Given-map AreRead IsRead array (λ ds k. k) (of_items js) (AreRead-of_items js h)
-  IsRead-of_json (T.object ms) h = Given-map AreMembersRead IsRead object (λ ds k. k) (of_members ms no_members) (AreMembersRead-of_members ms no_members h tt)
+  IsRead-of_json (T.array js) h =
+      Given-map AreRead IsRead array (λ ds k. k) (of_items js) (AreRead-of_items js h)
+  IsRead-of_json (T.object ms) h =
+      Given-map AreMembersRead IsRead object (λ ds k. k) (of_members ms no_members)
+      (AreMembersRead-of_members ms no_members h tt)
 
   AreRead-of_items : (js : T.Items) → TextsOfItems js → Given AreRead (of_items js)
   AreRead-of_items T.no_items h = tt
   AreRead-of_items (T.item j js) h =
-      Given-and_then IsRead AreRead (λ d. option_map (item d) (of_items js)) (λ d k. Given-map AreRead AreRead (item d) (λ ds ks. (k, ks)) (of_items js) (AreRead-of_items js h.1))
+      Given-and_then IsRead AreRead (λ d. option_map (item d) (of_items js))
+      (λ d k. Given-map AreRead AreRead (item d) (λ ds ks. (k, ks)) (of_items js)
+      (AreRead-of_items js h.1))
       (of_json j) (IsRead-of_json j h.0)
 
-  AreMembersRead-of_members : (ms : T.Members) (found : Members) → TextsOfMembers ms → AreMembersRead found → Given AreMembersRead (of_members ms found)
+  AreMembersRead-of_members : (ms : T.Members) (found : Members) → TextsOfMembers ms → AreMembersRead found
+      → Given AreMembersRead (of_members ms found)
   AreMembersRead-of_members T.no_members found h old = old
   AreMembersRead-of_members (T.member k j ms) found h old =
-      Given-and_then IsRead AreMembersRead (λ d. of_members ms (put k d found)) (λ d x. AreMembersRead-of_members ms (put k d found) h.2 (AreMembersRead-put k d found h.0 x old))
+      Given-and_then IsRead AreMembersRead (λ d. of_members ms (put k d found))
+      (λ d x. AreMembersRead-of_members ms (put k d found) h.2 (AreMembersRead-put k d found h.0 x old))
       (of_json j) (IsRead-of_json j h.1)
 
 -- ---- the value of such data is well formed
@@ -131,7 +148,8 @@ every-is_scalar : (cs : List ℕ) → all_scalars cs ≡ true → every is_scala
 every-is_scalar [] h = refl
 every-is_scalar (c ∷ cs) h =
     let p = and_parts _ _ h in
-    all (is_scalar c) (every is_scalar cs) (is_scalar-at (nat_lt c 55296) (nat_lt 57343 c && nat_lt c 1114112) p.0) (every-is_scalar cs p.1)
+    all (is_scalar c) (every is_scalar cs)
+    (is_scalar-at (nat_lt c 55296) (nat_lt 57343 c && nat_lt c 1114112) p.0) (every-is_scalar cs p.1)
 
 every-chars : (s : List ℕ) → IsUtf8 s → every is_scalar (chars s) ≡ true
 every-chars s u = every-is_scalar (chars s) (scalars-chars s u)
@@ -141,7 +159,8 @@ is_json-json_number (Num.unsigned n) = refl
 is_json-json_number (Num.negative z) = refl
 is_json-json_number (Num.float x) = refl
 
-is_before-json_members : (k : List ℕ) (ms : Members) → IsUtf8 k → Below k ms → AreMembersRead ms → is_before (chars k) (json_members ms) ≡ true
+is_before-json_members : (k : List ℕ) (ms : Members) → IsUtf8 k → Below k ms → AreMembersRead ms
+    → is_before (chars k) (json_members ms) ≡ true
 is_before-json_members k no_members u below h = refl
 is_before-json_members k (member l e ms) u below h = comes_before-chars k l u h.0 below
 
@@ -161,4 +180,5 @@ mutual
   are_members-json_members : (ms : Members) → AreMembersRead ms → are_members (json_members ms) ≡ true
   are_members-json_members no_members h = refl
   are_members-json_members (member k d ms) h =
-      all _ _ (all _ _ (all _ _ (every-chars k h.0) (is_json-json_of d h.1)) (is_before-json_members k ms h.0 h.2 h.3)) (are_members-json_members ms h.3)
+      all _ _ (all _ _ (all _ _ (every-chars k h.0) (is_json-json_of d h.1))
+      (is_before-json_members k ms h.0 h.2 h.3)) (are_members-json_members ms h.3)

@@ -1,10 +1,11 @@
+pub mod OnTexts
 mod Examples
-pub mod Conversion
-pub mod ValueLemmas
-pub mod PointerLemmas
-pub mod MembersLemmas
 pub mod WordOrder
-pub mod DataTexts
-pub mod TreeTexts
 pub mod StringTexts
 pub mod TokenTexts
+pub mod TreeTexts
+pub mod DataTexts
+pub mod ValueLemmas
+pub mod Conversion
+pub mod MembersLemmas
+pub mod PointerLemmas

@@ -25,16 +25,21 @@ same_word-chars a b u v =
     let bytes = bytes_eq-Decides b a in
     let as_bytes = same_word-bytes_eq (chars a) (chars b) in
     same_test _ _
-    (λ h. bytes.1 (sym (sym (encodes-chars a u) ∙ ap encode_utf8_all (words.0 (sym as_bytes ∙ h)) ∙ encodes-chars b v)))
+    (λ h. bytes.1 (sym (sym (encodes-chars a u) ∙ ap encode_utf8_all (words.0 (sym as_bytes ∙ h))
+    ∙ encodes-chars b v)))
     (λ h. as_bytes ∙ words.1 (ap chars (sym (bytes.0 h))))
 
 -- texts with the same bytes are the same word
-pub same_word-named : (name text key : List ℕ) (test : Bool) → IsUtf8 name → IsUtf8 text → chars text ≡ key → test ≡ bytes_eq text name
+pub same_word-named : (name text key : List ℕ) (test : Bool) → IsUtf8 name → IsUtf8 text → chars text ≡ key
+    → test ≡ bytes_eq text name
     → same_word (chars name) key ≡ test
-same_word-named name text key test u v is e = ap (same_word (chars name)) (sym is) ∙ same_word-chars name text u v ∙ sym e
+same_word-named name text key test u v is e =
+    ap (same_word (chars name)) (sym is) ∙ same_word-chars name text u v ∙ sym e
 
 -- the member at a place is looked at before those after it
-pub lookup-drop : (word : List ℕ) (items : List JsonMember) (i : ℕ) (entry : JsonMember) → i < length items → entry ≡ get_or items i entry
+pub lookup-drop : (word : List ℕ) (items : List JsonMember) (i : ℕ) (entry : JsonMember) → i < length items
+    → entry ≡ get_or items i entry
     → lookup word (members_of (map member_view (drop i items)))
-    ≡ cond (same_word word (member_view entry).0) (Some (member_view entry).1) (lookup word (members_of (map member_view (drop (i + 1) items))))
+    ≡ cond (same_word word (member_view entry).0) (Some (member_view entry).1)
+    (lookup word (members_of (map member_view (drop (i + 1) items))))
 lookup-drop word items i entry within is = rw (add-one, drop-cons items i entry, ← is) refl

@@ -26,25 +26,30 @@ TextOf-cond : (b : Bool) (s t : Token) → TextOf s → TextOf t → TextOf (con
 TextOf-cond true s t p q = p
 TextOf-cond false s t p q = q
 
-TextOf-cond3 : (a b c : Bool) (s t u v : Token) → TextOf s → TextOf t → TextOf u → TextOf v → TextOf (cond a s (cond b t (cond c u v)))
+TextOf-cond3 : (a b c : Bool) (s t u v : Token) → TextOf s → TextOf t → TextOf u → TextOf v
+    → TextOf (cond a s (cond b t (cond c u v)))
 TextOf-cond3 true b c s t u v p q r w = p
 TextOf-cond3 false true c s t u v p q r w = q
 TextOf-cond3 false false true s t u v p q r w = r
 TextOf-cond3 false false false s t u v p q r w = w
 
 TextOf-literal : (name : List ℕ) (t : Token) (text : List ℕ) → TextOf t → TextOf (literal name t text)
-TextOf-literal name t text h = TextOf-cond (starts_with nat_eq text name && ends_word (drop (length name) text)) t bad h tt
+TextOf-literal name t text h =
+    TextOf-cond (starts_with nat_eq text name && ends_word (drop (length name) text)) t bad h tt
 
 TextOf-number_before : (t : List ℕ) (rest : Option (List ℕ)) → TextOf (number_before t rest)
 TextOf-number_before t None = tt
-TextOf-number_before t (Some rest) = TextOf-cond (ends_word rest) (number (take (length t - length rest) t)) bad tt tt
+TextOf-number_before t (Some rest) =
+    TextOf-cond (ends_word rest) (number (take (length t - length rest) t)) bad tt tt
 
 TextOf-word : (t : List ℕ) → TextOf (word t)
 unfolding word
 TextOf-word t =
-    TextOf-cond3 (head t == 116) (head t == 102) (head t == 110) (literal true_text (boolean true) t) (literal false_text (boolean false) t)
+    TextOf-cond3 (head t == 116) (head t == 102) (head t == 110) (literal true_text (boolean true) t)
+    (literal false_text (boolean false) t)
     (literal null_text null t) (number_before t (after_number t))
-    (TextOf-literal true_text (boolean true) t tt) (TextOf-literal false_text (boolean false) t tt) (TextOf-literal null_text null t tt)
+    (TextOf-literal true_text (boolean true) t tt) (TextOf-literal false_text (boolean false) t tt)
+    (TextOf-literal null_text null t tt)
     (TextOf-number_before t (after_number t))
 
 TextOf-string_token : (o : Option (List ℕ)) → Given IsUtf8 o → TextOf (string_token o)
@@ -52,7 +57,9 @@ TextOf-string_token None h = tt
 TextOf-string_token (Some s) h = h
 
 one_operator : (a b c d e : Bool)
-    → TextOfLexeme (cond a (token begin_object) (cond b (token end_object) (cond c (token begin_array) (cond d (token end_array) (cond e comma colon)))))
+    → TextOfLexeme (cond a (token begin_object)
+    (cond b (token end_object)
+    (cond c (token begin_array) (cond d (token end_array) (cond e comma colon)))))
 one_operator true b c d e = tt
 one_operator false true c d e = tt
 one_operator false false true d e = tt
@@ -63,7 +70,8 @@ one_operator false false false false false = tt
 TextOfLexeme-operator : (x : ℕ) → TextOfLexeme (operator_lexeme x)
 TextOfLexeme-operator x = one_operator (x == 123) (x == 125) (x == 91) (x == 93) (x == 44)
 
-only_quote : (a b c d : Bool) → cond a quote (cond b backslash (cond c operator (cond d space other))) ≡ quote → a ≡ true
+only_quote : (a b c d : Bool)
+    → cond a quote (cond b backslash (cond c operator (cond d space other))) ≡ quote → a ≡ true
 only_quote true b c d e = refl
 only_quote false true c d e = cc
 only_quote false false true d e = cc
@@ -75,9 +83,13 @@ quote_ascii x e = omega (arith, eqb-true x 34 (only_quote (x == 34) (x == 92) (i
 
 -- ---- the lexemes
 
-lexemes_at : (m : Mode) (c : Class) (x : ℕ) (xs : List ℕ) → class x ≡ c → AfterAscii (x ∷ xs) → (k : Mode → List Lexeme)
+lexemes_at : (m : Mode) (c : Class) (x : ℕ) (xs : List ℕ) → class x ≡ c → AfterAscii (x ∷ xs)
+    → (k : Mode → List Lexeme)
     → ((next : Mode) → TextsOfLexemes (k next)) → TextsOfLexemes (lex_byte m c x xs k)
-lexemes_at between quote x xs e a k more = (TextOf-string_token (content plain xs) (IsUtf8-content xs (AfterAscii-head x xs a (quote_ascii x e))), more in_string)
+lexemes_at between quote x xs e a k more = (
+  TextOf-string_token (content plain xs) (IsUtf8-content xs (AfterAscii-head x xs a (quote_ascii x e))),
+  more in_string,
+)
 lexemes_at between backslash x xs e a k more = (tt, more in_word)
 lexemes_at between operator x xs e a k more = (TextOfLexeme-operator x, more between)
 lexemes_at between space x xs e a k more = more between
@@ -98,25 +110,33 @@ TextsOfLexemes-lex : (m : Mode) (xs : List ℕ) → AfterAscii xs → TextsOfLex
 unfolding lex
 TextsOfLexemes-lex m [] a = tt
 TextsOfLexemes-lex m (x ∷ xs) a =
-    lexemes_at m (class x) x xs refl a (λ next. lex next xs) (λ next. TextsOfLexemes-lex next xs (AfterAscii-tail x xs a))
+    lexemes_at m (class x) x xs refl a (λ next. lex next xs)
+    (λ next. TextsOfLexemes-lex next xs (AfterAscii-tail x xs a))
 
 -- ---- the tokens
 
-tokens_if_allowed : (b : Bool) (t : Token) (k : Place → List Token) (next : Place) → TextOf t → TextsOfTokens (k next) → TextsOfTokens (if_allowed b t k next)
+tokens_if_allowed : (b : Bool) (t : Token) (k : Place → List Token) (next : Place) → TextOf t
+    → TextsOfTokens (k next) → TextsOfTokens (if_allowed b t k next)
 tokens_if_allowed true t k next h more = (h, more)
 tokens_if_allowed false t k next h more = (tt, tt)
 
-tokens_at : (p : Place) (t : Token) (before_colon : Bool) (k : Place → List Token) → TextOf t → ((next : Place) → TextsOfTokens (k next))
+tokens_at : (p : Place) (t : Token) (before_colon : Bool) (k : Place → List Token) → TextOf t
+    → ((next : Place) → TextsOfTokens (k next))
     → TextsOfTokens (place_token p t before_colon k)
 tokens_at p begin_object b k h more = tokens_if_allowed (may_begin p) begin_object k fresh h (more fresh)
-tokens_at p end_object b k h more = tokens_if_allowed (may_close p) end_object k after_value h (more after_value)
+tokens_at p end_object b k h more =
+    tokens_if_allowed (may_close p) end_object k after_value h (more after_value)
 tokens_at p begin_array b k h more = tokens_if_allowed (may_begin p) begin_array k fresh h (more fresh)
-tokens_at p end_array b k h more = tokens_if_allowed (may_close p) end_array k after_value h (more after_value)
+tokens_at p end_array b k h more =
+    tokens_if_allowed (may_close p) end_array k after_value h (more after_value)
 tokens_at p (key s) b k h more = (tt, tt)
 tokens_at p (string s) true k h more = tokens_if_allowed (may_begin p) (key s) k after_key h (more after_key)
-tokens_at p (string s) false k h more = tokens_if_allowed (may_begin p) (string s) k after_value h (more after_value)
-tokens_at p (number s) b k h more = tokens_if_allowed (may_begin p) (number s) k after_value h (more after_value)
-tokens_at p (boolean v) b k h more = tokens_if_allowed (may_begin p) (boolean v) k after_value h (more after_value)
+tokens_at p (string s) false k h more =
+    tokens_if_allowed (may_begin p) (string s) k after_value h (more after_value)
+tokens_at p (number s) b k h more =
+    tokens_if_allowed (may_begin p) (number s) k after_value h (more after_value)
+tokens_at p (boolean v) b k h more =
+    tokens_if_allowed (may_begin p) (boolean v) k after_value h (more after_value)
 tokens_at p null b k h more = tokens_if_allowed (may_begin p) null k after_value h (more after_value)
 tokens_at p bad b k h more = (tt, tt)
 
@@ -126,7 +146,9 @@ TextsOfTokens-punctuate fresh [] h = tt
 TextsOfTokens-punctuate after_value [] h = tt
 TextsOfTokens-punctuate after_comma [] h = (tt, tt)
 TextsOfTokens-punctuate after_key [] h = (tt, tt)
-TextsOfTokens-punctuate p (token t ∷ ls) h = tokens_at p t (begins_colon ls) (λ next. punctuate next ls) h.0 (λ next. TextsOfTokens-punctuate next ls h.1)
+TextsOfTokens-punctuate p (token t ∷ ls) h =
+    tokens_at p t (begins_colon ls) (λ next. punctuate next ls) h.0
+    (λ next. TextsOfTokens-punctuate next ls h.1)
 TextsOfTokens-punctuate fresh (comma ∷ ls) h = (tt, tt)
 TextsOfTokens-punctuate after_value (comma ∷ ls) h = TextsOfTokens-punctuate after_comma ls h.1
 TextsOfTokens-punctuate after_comma (comma ∷ ls) h = (tt, tt)
@@ -138,4 +160,6 @@ TextsOfTokens-punctuate after_key (colon ∷ ls) h = TextsOfTokens-punctuate fre
 
 -- the names and strings of a text in UTF-8 are UTF-8
 pub TextsOfTokens-tokens : (text : List ℕ) → IsUtf8 text → TextsOfTokens (tokens text)
-TextsOfTokens-tokens text u = TextsOfTokens-punctuate fresh (lex between text) (TextsOfLexemes-lex between text (AfterAscii-IsUtf8 text u))
+TextsOfTokens-tokens text u =
+    TextsOfTokens-punctuate fresh (lex between text)
+    (TextsOfLexemes-lex between text (AfterAscii-IsUtf8 text u))

@@ -35,7 +35,8 @@ Lower-order : (xs ys more other : List ℕ) → Lower xs ys → order (xs ++ mor
 Lower-order [] ys more other h = absurd h
 Lower-order (x ∷ xs) [] more other h = absurd h
 Lower-order (x ∷ xs) (y ∷ ys) more other (inl h) = less_here x y (xs ++ more) (ys ++ other) h
-Lower-order (x ∷ xs) (y ∷ ys) more other (inr h) = less_later x y (xs ++ more) (ys ++ other) h.0 (Lower-order xs ys more other h.1)
+Lower-order (x ∷ xs) (y ∷ ys) more other (inr h) =
+    less_later x y (xs ++ more) (ys ++ other) h.0 (Lower-order xs ys more other h.1)
 
 -- numbers by their digits to the base 64
 digits2 : (a b : ℕ) → a < b → (a / 64 < b / 64) ⊎ ((a / 64 ≡ b / 64) × (a % 64 < b % 64))
@@ -52,11 +53,14 @@ bytes2 : (c : ℕ) → 128 ≤ c → c < 2048 → encode_utf8 c ≡ (192 + c / 6
 unfolding encode_utf8
 bytes2 c low high = rw (le-ltb c 128 low, lt-ltb c 2048 high) refl
 
-bytes3 : (c : ℕ) → 2048 ≤ c → c < 65536 → encode_utf8 c ≡ (224 + c / 4096) ∷ (128 + c / 64 % 64) ∷ (128 + c % 64) ∷ []
+bytes3 : (c : ℕ) → 2048 ≤ c → c < 65536
+    → encode_utf8 c ≡ (224 + c / 4096) ∷ (128 + c / 64 % 64) ∷ (128 + c % 64) ∷ []
 unfolding encode_utf8
-bytes3 c low high = let a : 128 ≤ c = omega arith in rw (le-ltb c 128 a, le-ltb c 2048 low, lt-ltb c 65536 high) refl
+bytes3 c low high = let a : 128 ≤ c =
+    omega arith in rw (le-ltb c 128 a, le-ltb c 2048 low, lt-ltb c 65536 high) refl
 
-bytes4 : (c : ℕ) → 65536 ≤ c → encode_utf8 c ≡ (240 + c / 262144) ∷ (128 + c / 4096 % 64) ∷ (128 + c / 64 % 64) ∷ (128 + c % 64) ∷ []
+bytes4 : (c : ℕ) → 65536 ≤ c
+    → encode_utf8 c ≡ (240 + c / 262144) ∷ (128 + c / 4096 % 64) ∷ (128 + c / 64 % 64) ∷ (128 + c % 64) ∷ []
 unfolding encode_utf8
 bytes4 c low =
     let a : 128 ≤ c = omega arith in
@@ -92,7 +96,8 @@ lower2 : (a b : ℕ) → a < b → 128 ≤ a → b < 2048 → Lower (encode_utf8
 lower2 a b h low high =
     let p : a < 2048 = omega arith in
     let q : 128 ≤ b = omega arith in
-    let ds : Lower ((192 + a / 64) ∷ (128 + a % 64) ∷ []) ((192 + b / 64) ∷ (128 + b % 64) ∷ []) = elim (digits2 a b h) [
+    let ds : Lower ((192 + a / 64) ∷ (128 + a % 64) ∷ []) ((192 + b / 64) ∷ (128 + b % 64) ∷ []) =
+    elim (digits2 a b h) [
       | inl l ↦ inl (omega (arith, l))
       | inr e ↦ inr (omega (arith, e.0), inl (omega (arith, e.1)))
     ] in
@@ -102,13 +107,17 @@ lower3 : (a b : ℕ) → a < b → 2048 ≤ a → b < 65536 → Lower (encode_ut
 lower3 a b h low high =
     let p : a < 65536 = omega arith in
     let q : 2048 ≤ b = omega arith in
-    let ds : Lower ((224 + a / 4096) ∷ (128 + a / 64 % 64) ∷ (128 + a % 64) ∷ []) ((224 + b / 4096) ∷ (128 + b / 64 % 64) ∷ (128 + b % 64) ∷ []) =
+    let ds : Lower ((224 + a / 4096) ∷ (128 + a / 64 % 64) ∷ (128 + a % 64) ∷ [])
+    ((224 + b / 4096) ∷ (128 + b / 64 % 64) ∷ (128 + b % 64) ∷ []) =
     elim (digits2 a b h) [
       | inl l ↦ elim (digits2 (a / 64) (b / 64) l) [
         | inl m ↦ inl (omega (arith, m, thousands a, thousands b))
         | inr e ↦ inr (omega (arith, e.0, thousands a, thousands b), inl (omega (arith, e.1)))
       ]
-      | inr e ↦ inr (omega (arith, e.0, thousands a, thousands b), inr (omega (arith, e.0), inl (omega (arith, e.1))))
+      | inr e ↦ inr (
+        omega (arith, e.0, thousands a, thousands b),
+        inr (omega (arith, e.0), inl (omega (arith, e.1))),
+      )
     ] in
     rw (bytes3 a low p, bytes3 b q high) ds
 
@@ -121,12 +130,24 @@ lower4 a b h low =
       | inl l ↦ elim (digits2 (a / 64) (b / 64) l) [
         | inl m ↦ elim (digits2 (a / 64 / 64) (b / 64 / 64) m) [
           | inl n ↦ inl (omega (arith, n, thousands a, thousands b, millions a, millions b))
-          | inr e ↦ inr (omega (arith, e.0, thousands a, thousands b, millions a, millions b), inl (omega (arith, e.1, thousands a, thousands b)))
+          | inr e ↦ inr (
+            omega (arith, e.0, thousands a, thousands b, millions a, millions b),
+            inl (omega (arith, e.1, thousands a, thousands b)),
+          )
         ]
-        | inr e ↦ inr (omega (arith, e.0, thousands a, thousands b, millions a, millions b), inr (omega (arith, e.0, thousands a, thousands b), inl (omega (arith, e.1))))
+        | inr e ↦ inr (
+          omega (arith, e.0, thousands a, thousands b, millions a, millions b),
+          inr (omega (arith, e.0, thousands a, thousands b), inl (omega (arith, e.1))),
+        )
       ]
       | inr e ↦
-          inr (omega (arith, e.0, thousands a, thousands b, millions a, millions b), inr (omega (arith, e.0, thousands a, thousands b), inr (omega (arith, e.0), inl (omega (arith, e.1)))))
+          inr (
+            omega (arith, e.0, thousands a, thousands b, millions a, millions b),
+            inr (
+              omega (arith, e.0, thousands a, thousands b),
+              inr (omega (arith, e.0), inl (omega (arith, e.1))),
+            ),
+          )
     ] in
     rw (bytes4 a low, bytes4 b q) ds
 
@@ -143,11 +164,13 @@ lower a b h = elim (cases_lt b 128) [
     | inr a2 ↦ elim (cases_lt b 2048) [
       | inl b2 ↦ lower2 a b h a2 b2
       | inr b3 ↦ elim (cases_lt a 2048) [
-        | inl small ↦ let f = begins3 b b3 in lower_first _ f.0 _ _ _ _ (bytes2 a a2 small) f.2 (omega (arith, f.3))
+        | inl small ↦ let f =
+            begins3 b b3 in lower_first _ f.0 _ _ _ _ (bytes2 a a2 small) f.2 (omega (arith, f.3))
         | inr a3 ↦ elim (cases_lt b 65536) [
           | inl b3 ↦ lower3 a b h a3 b3
           | inr b4 ↦ elim (cases_lt a 65536) [
-            | inl small ↦ let f = begins4 b b4 in lower_first _ f.0 _ _ _ _ (bytes3 a a3 small) f.2 (omega (arith, f.3))
+            | inl small ↦ let f =
+                begins4 b b4 in lower_first _ f.0 _ _ _ _ (bytes3 a a3 small) f.2 (omega (arith, f.3))
             | inr a4 ↦ lower4 a b h a4
           ]
         ]
@@ -164,29 +187,37 @@ not_before_nothing : (xs : List ℕ) → order xs [] ≡ Less → ⊥
 not_before_nothing [] e = cc
 not_before_nothing (x ∷ xs) e = cc
 
-same_first : (c d : ℕ) (cs ds : List ℕ) → c ≡ d → comes_before cs ds ≡ true → comes_before (c ∷ cs) (d ∷ ds) ≡ true
+same_first : (c d : ℕ) (cs ds : List ℕ) → c ≡ d → comes_before cs ds ≡ true
+    → comes_before (c ∷ cs) (d ∷ ds) ≡ true
 same_first c d cs ds e h = rw (eq-eqb c d e) h
 
 smaller_first : (c d : ℕ) (cs ds : List ℕ) → c < d → comes_before (c ∷ cs) (d ∷ ds) ≡ true
 smaller_first c d cs ds h = let other : c ≡ d → ⊥ = λ e. omega arith in rw (ne_eqb c d other) (lt-ltb c d h)
 
 -- in the order of the bytes, so in the order of the characters
-pub comes_before-encodes : (cs ds : List ℕ) → order (encode_utf8_all cs) (encode_utf8_all ds) ≡ Less → comes_before cs ds ≡ true
+pub comes_before-encodes : (cs ds : List ℕ) → order (encode_utf8_all cs) (encode_utf8_all ds) ≡ Less
+    → comes_before cs ds ≡ true
 comes_before-encodes [] [] e = absurd (not_before_nothing [] e)
 comes_before-encodes [] (d ∷ ds) e = refl
 comes_before-encodes (c ∷ cs) [] e = absurd (not_before_nothing _ e)
 comes_before-encodes (c ∷ cs) (d ∷ ds) e = elim (cases_order c d) [
   | inl same ↦
       let rest : order (encode_utf8_all cs) (encode_utf8_all ds) ≡ Less =
-      sym (prefix_order (encode_utf8 c) _ _) ∙ ap (λ n. order (encode_utf8 c ++ encode_utf8_all cs) (encode_utf8 n ++ encode_utf8_all ds)) same ∙ e in
+      sym (prefix_order (encode_utf8 c) _ _)
+      ∙ ap (λ n. order (encode_utf8 c ++ encode_utf8_all cs) (encode_utf8 n ++ encode_utf8_all ds)) same
+      ∙ e in
       same_first c d cs ds same (comes_before-encodes cs ds rest)
   | inr (inl less) ↦ smaller_first c d cs ds less
   | inr (inr greater) ↦
-      let back = Lower-order (encode_utf8 d) (encode_utf8 c) (encode_utf8_all ds) (encode_utf8_all cs) (lower d c greater) in
-      let flipped = nat_list_cmp_total.antisymm (encode_utf8_all (c ∷ cs)) (encode_utf8_all (d ∷ ds)) ∙ ap ordering_reverse back in
+      let back = Lower-order (encode_utf8 d) (encode_utf8 c) (encode_utf8_all ds) (encode_utf8_all cs)
+      (lower d c greater) in
+      let flipped = nat_list_cmp_total.antisymm (encode_utf8_all (c ∷ cs)) (encode_utf8_all (d ∷ ds))
+      ∙ ap ordering_reverse back in
       cc
 ]
 
 -- the same of texts
-pub comes_before-chars : (a b : List ℕ) → IsUtf8 a → IsUtf8 b → order a b ≡ Less → comes_before (chars a) (chars b) ≡ true
-comes_before-chars a b u v e = comes_before-encodes (chars a) (chars b) (rw (encodes-chars a u, encodes-chars b v) e)
+pub comes_before-chars : (a b : List ℕ) → IsUtf8 a → IsUtf8 b → order a b ≡ Less
+    → comes_before (chars a) (chars b) ≡ true
+comes_before-chars a b u v e =
+    comes_before-encodes (chars a) (chars b) (rw (encodes-chars a u, encodes-chars b v) e)

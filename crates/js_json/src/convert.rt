@@ -1,4 +1,7 @@
-//! What the JSON reader gives, as this program's own JSON value.
+//! What the JSON reader gives, made into this program's own JSON value.
+//!
+//! The new value is `json_of` of the old one, level by level. It takes memory and time in proportion to it, and
+//! nests as deep. `read_json` stands on it.
 
 ghost use Rattle.std.specs.Prelude.{◌≡◌, IfOk};
 ghost use Rattle.serde_json.specs.View as read;

@@ -1,8 +1,8 @@
 //! Places in a JSON text (RFC 6901).
 //!
-//! A [`Pointer`] is a stack of tokens, which contracts see as the list of their scalar values, outermost first. The
-//! walk of a schema pushes a token on its way down and pops it on its way up. `text` and `copy` cost time in
-//! proportion to the pointer, and a push to its token.
+//! A [`Pointer`] is a stack of tokens, which contracts see as the list of their scalar values, outermost
+//! first. The walk of a schema pushes a token on its way down and pops it on its way up. `text` and `copy`
+//! cost time in proportion to the pointer, and a push in proportion to its token.
 
 ghost use Rattle.std.specs.Prelude.{◌≡◌, ◌++◌, ◌∷◌, [], ℕ, List, IfOk, OnOk, OnErr};
 ghost use Rattle.std.specs.Prelude.{chars, decimal, encode_utf8_all, string_bytes};
@@ -13,7 +13,7 @@ use serde_json::Value;
 use std::alloc::{AllocError, Global};
 use std::marker::Model;
 
-/// The tokens that lead from the whole value to a place in it, decoded: a member's name or an element's index.
+/// The tokens that lead from the whole value to a place in it, decoded: members' names and elements' indices.
 #[derive(Drop)]
 pub struct Pointer {
     tokens: Vec<Str>,

@@ -1,5 +1,5 @@
 -- Maps of files, made of elements of another type by `f`.
-use Rattle.std.proofs.Common.{◌≡◌, ◌≢◌, ℕ, zero, suc, ◌<◌, ◌≤◌, arith, List, [], ◌∷◌, ◌++◌, map, length, get_or, set, take, drop, refl, ap, sym, ◌∙◌, Bool, true, false, Some, if◌then◌else◌}
+use Rattle.std.proofs.Common.{Option, ◌≡◌, ◌≢◌, ℕ, zero, suc, ◌<◌, ◌≤◌, arith, List, [], ◌∷◌, ◌++◌, map, length, get_or, set, take, drop, refl, ap, sym, ◌∙◌, Bool, true, false, Some, if◌then◌else◌}
 use Rattle.std.proofs.lemmas.Bool.{true≢false}
 use Rattle.std.proofs.lemmas.List.{length-map}
 use Rattle.std.specs.Str.{bytes_eq}
@@ -102,6 +102,9 @@ place-step file files name o e = ap (λ p. if is_gt p then suc (place_of files n
 less-apart : {P : Type 0} → Less ≡ Equal → P
 less-apart e = absurd (true≢false (ap is_lt e))
 
+greater-apart : {P : Type 0} → Greater ≡ Equal → P
+greater-apart e = absurd (true≢false (ap is_gt e))
+
 -- a file of that name is at its place: its bytes are replaced
 set-by : {A : Type 0} (f : A → List ℕ × List ℕ) (z : A) (zs : List A) (x y : A) (name bytes : List ℕ)
     → (f x).0 ≡ name → f y ≡ ((f x).0, bytes)
@@ -176,3 +179,42 @@ pub place_of-within : (files : Entries) (name : List ℕ) → place_of files nam
 place_of-within [] name = omega arith
 place_of-within (file ∷ files) name =
     within-by (place_of files name) (length files) (is_gt (slice_cmp nat_cmp name file.0)) (place_of-within files name)
+
+-- two tests that don't both pass may be asked in either order
+either-first : {X : Type 0} (p r : Bool) (x y z : X) → (p ≡ true → r ≡ true → ⊥)
+    → (if p then x else (if r then y else z)) ≡ (if r then y else (if p then x else z))
+either-first true true x y z apart = absurd (apart refl refl)
+either-first true false x y z apart = refl
+either-first false r x y z apart = refl
+
+-- what a map tells at each name after one file was set, by how the name compares with that of the first file
+contents-by : (file : List ℕ × List ℕ) (files : Entries) (name bytes asked : List ℕ)
+    → contents (with_file files name bytes) asked ≡ (if bytes_eq asked name then Some bytes else contents files asked)
+    → (o : Ordering) → slice_cmp nat_cmp name file.0 ≡ o
+    → contents (with_file (file ∷ files) name bytes) asked
+    ≡ (if bytes_eq asked name then Some bytes else contents (file ∷ files) asked)
+contents-by file files name bytes asked below Less e =
+    ap (λ l. contents l asked) (set-step file files name bytes Less e)
+contents-by file files name bytes asked below Equal e =
+    ap (λ l. contents l asked) (set-step file files name bytes Equal e)
+    ∙ ap (λ n. if bytes_eq asked n then Some bytes else contents files asked) (sym (same-cmp name file.0 e))
+    ∙ again (bytes_eq asked name) (contents files asked) (contents (file ∷ files) asked)
+    (λ no. ap (λ n. if bytes_eq asked n then Some file.1 else contents files asked) (sym (same-cmp name file.0 e))
+    ∙ ap (λ b. if b then Some file.1 else contents files asked) no)
+  where
+    again : (b : Bool) (x y : Option (List ℕ)) → (b ≡ false → y ≡ x) → (if b then Some bytes else x) ≡ (if b then Some bytes else y)
+    again true x y h = refl
+    again false x y h = sym (h refl)
+contents-by file files name bytes asked below Greater e =
+    ap (λ l. contents l asked) (set-step file files name bytes Greater e)
+    ∙ ap (λ c. if bytes_eq asked file.0 then Some file.1 else c) below
+    ∙ either-first (bytes_eq asked file.0) (bytes_eq asked name) (Some file.1) (Some bytes) (contents files asked)
+    (λ first this. greater-apart (sym e ∙ cmp-same name file.0
+    (sym ((bytes_eq-Decides asked name).0 this) ∙ (bytes_eq-Decides asked file.0).0 first)))
+
+-- setting a file gives its bytes at its name, and leaves all other files
+pub contents-with_file : (files : Entries) (name bytes asked : List ℕ)
+    → contents (with_file files name bytes) asked ≡ (if bytes_eq asked name then Some bytes else contents files asked)
+contents-with_file [] name bytes asked = refl
+contents-with_file (file ∷ files) name bytes asked =
+    contents-by file files name bytes asked (contents-with_file files name bytes asked) (slice_cmp nat_cmp name file.0) refl

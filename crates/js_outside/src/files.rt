@@ -1,6 +1,7 @@
 //! A finite map of files, in the order of their names.
 
-ghost use Rattle.std.specs.Prelude.{◌≡◌, ◌+◌, ◌^◌, ◌<◌, length, [], drop, encode_utf8_all, IfNone, IfSome, OnOk, OnErr, None, Some};
+ghost use Rattle.std.specs.Prelude.{◌≡◌, ℕ, List, if◌then◌else◌, ◌+◌, ◌^◌, ◌<◌, length, [], drop, encode_utf8_all, IfNone, IfSome, OnOk, OnErr, None, Some};
+ghost use Rattle.std.specs.Str.{bytes_eq};
 ghost use Rattle.js_outside.specs.Contents.{contents, bytes_at, place_of, with_file};
 
 use js_doc::{Memory, Str};
@@ -14,7 +15,7 @@ pub(crate) struct NamedFile {
     bytes: Vec<u8>,
 }
 
-/// Files by name, one for each name. Setting or finding a file takes time in proportion to the number of files.
+/// A map of files by their names. Setting or finding a file takes time in proportion to the number of files.
 #[derive(Drop)]
 pub struct FileMap {
     files: Vec<NamedFile>,
@@ -41,7 +42,9 @@ impl FileMap {
 
     /// Sets the file of a name, in place of the one that had it.
     pub fn insert(&mut self, name: Str, bytes: Vec<u8>) -> Result<(), Memory>
-        ensures ok { OnOk result (self.new ≡ with_file self.old (encode_utf8_all name) bytes.items) }
+        ensures sets { OnOk result ((asked : List ℕ) → contents self.new asked
+            ≡ (if bytes_eq asked (encode_utf8_all name) then Some bytes.items else contents self.old asked)) }
+        ensures placed { OnOk result (self.new ≡ with_file self.old (encode_utf8_all name) bytes.items) }
         ensures err { OnErr result (self.new ≡ self.old) }
     {
         let place = self.place_of(name.as_text());

@@ -9,6 +9,8 @@ mod memory_sink;
 mod real;
 mod shelf;
 mod sink;
+#[cfg(test)]
+mod tests;
 
 pub use calls::CallList;
 pub use faults::{BeginFault, Failed};

@@ -1,7 +1,7 @@
 //! The file system and standard output, as a shelf and a sink. They tell no content: what the system gives and takes
 //! is trusted.
 
-ghost use Rattle.std.specs.Prelude.{◌≡◌, None};
+ghost use Rattle.std.specs.Prelude.{◌≡◌};
 
 use crate::faults::{BeginFault, Failed, raised};
 use crate::shelf::Shelf;
@@ -19,7 +19,9 @@ pub struct FileShelf<'a, R: Files> {
 }
 
 impl<'a, R: Files> FileShelf<'a, R> {
-    pub fn new(rt: &'a R) -> FileShelf<'a, R> {
+    pub fn new(rt: &'a R) -> FileShelf<'a, R>
+        ensures { ⟦<FileShelf<'a, R> as Shelf>⟧.faults result ≡ 0 }
+    {
         FileShelf {
             rt,
             file: None,
@@ -76,7 +78,9 @@ pub struct StdoutSink<'a, R: Print> {
 }
 
 impl<'a, R: Print> StdoutSink<'a, R> {
-    pub fn new(rt: &'a R) -> StdoutSink<'a, R> {
+    pub fn new(rt: &'a R) -> StdoutSink<'a, R>
+        ensures { ⟦<StdoutSink<'a, R> as Sink>⟧.faults result ≡ 0 }
+    {
         StdoutSink { rt, faults: 0 }
     }
 }

@@ -1,9 +1,9 @@
 -- What the bytes of a schema file are read as.
-use Rattle.std.specs.Prelude.{◌≡◌, ℕ, List, [], ◌∷◌, ◌++◌, length, cond, nat_lt, Option, Some, None, codes}
+use Rattle.std.specs.Prelude.{◌≡◌, ℕ, List, [], ◌∷◌, ◌++◌, length, cond, nat_lt, Option, Some, None, codes, encode_utf8_all}
 use Rattle.documents.specs.Json.{Json}
 use Rattle.js_json.specs.Value.{value_of}
 use Rattle.js_json.specs.Pointer.{pointer_text, quoted}
-use Rattle.js_forms.specs.Forms.{first_fault}
+use Rattle.js_forms.specs.Places.{first_fault}
 
 -- a schema, or the words of the refusal after the file's role
 pub data Reading : Type 0 where
@@ -25,5 +25,5 @@ reading bytes = cond (nat_lt 16777216 (length bytes)) (Refused (codes "toolong")
 -- the file of that name is a schema that is read, with this value
 pub record IsSchema (files : List ℕ → Option (List ℕ)) (name : List ℕ) (j : Json) : Type 0 where
   pub bytes : List ℕ
-  pub told : files name ≡ Some bytes
+  pub told : files (encode_utf8_all name) ≡ Some bytes
   pub read : reading bytes ≡ Read j

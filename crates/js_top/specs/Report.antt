@@ -1,10 +1,10 @@
 -- The report of a command over files: what is printed, and the status.
-use Rattle.std.specs.Prelude.{◌≡◌, ℕ, List, [], ◌∷◌, ◌++◌, length, Option, Some, None, codes}
+use Rattle.std.specs.Prelude.{◌≡◌, ℕ, List, [], ◌∷◌, ◌++◌, length, Option, Some, None, codes, encode_utf8_all}
 use Rattle.documents.specs.Kind.{Kind, Null, Boolean, Number, Text, Array, Object}
 use Rattle.documents.specs.Json.{Json}
 use Rattle.position_laws.specs.Join.{joined}
 use Rattle.certificates.specs.Line.{signed_list_text, lines_text}
-use Rattle.js_forms.specs.Forms.{table_of}
+use Rattle.js_forms.specs.Table.{table_of}
 use Rattle.js_decide.specs.Verdict.{Verdict, Document, Limit, Certificate, verdict}
 use Rattle.js_top.specs.Command.{command}
 use Rattle.js_top.specs.Reading.{Reading, Refused, Read, reading}
@@ -52,7 +52,7 @@ of_file role (Some bytes) more = of_reading role (reading bytes) more
 abbrev pub of_command : (List ℕ → Option (List ℕ)) → Option (List ℕ × List ℕ) → Report
 of_command files None = printed (codes "usage") S.Usage
 of_command files (Some (a, b)) =
-    of_file (codes "first") (files a) (λ x. of_file (codes "second") (files b) (λ y. include_report x y))
+    of_file (codes "first") (files (encode_utf8_all a)) (λ x. of_file (codes "second") (files (encode_utf8_all b)) (λ y. include_report x y))
 
 abbrev pub report : (List ℕ → Option (List ℕ)) → List (List ℕ) → Report
 report files words = of_command files (command words)

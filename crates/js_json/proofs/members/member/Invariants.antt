@@ -5,4 +5,5 @@ use Rattle.js_json.proofs.members.member.Given as goal
 
 abbrev pub invariant-loop-entry : goal.invariant-loop-entry
 invariant-loop-entry l =
-    lookup (chars l.name) (members_of (map member_view (drop l.entry-index l.entry-items))) ≡ lookup (chars l.name) (map_view l.fn.map)
+    lookup (chars l.name) (members_of (map member_view (drop l.entry-index l.entry-items)))
+    ≡ lookup (chars l.name) (map_view l.fn.map)

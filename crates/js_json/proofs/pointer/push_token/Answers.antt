@@ -6,9 +6,12 @@ use Rattle.js_json.proofs.PointerLemmas.{escaped_more}
 use Rattle.js_json.proofs.pointer.push_token.Goals as goal
 
 pub loop-c-preserved : goal.loop-c-preserved
-loop-c-preserved c = escaped_more _ _ _ c.loop-c.yielded c.in-Some.c c.loop-c.invariant c.in_ok-push_escaped.ensures
+loop-c-preserved c =
+    escaped_more _ _ _ c.loop-c.yielded c.in-Some.c c.loop-c.invariant c.in_ok-push_escaped.ensures
 
 pub returns : goal.returns
 returns c =
-    let end = YieldsList-end (YieldsList-from_chars c.args.token.now c.utf8.token cc) c.loop-c.yielded _ c.loop-c.yielded_by _ _ c.in-None.is c.next.ensures.steps in
-    c.loop-c.invariant ∙ ap (λ cs. string_bytes c.args.out.now ++ encode_utf8_all (escaped cs)) (sym (map-id c.loop-c.yielded) ∙ end.0)
+    let token = YieldsList-from_chars c.args.token.now c.utf8.token cc in
+    let end = YieldsList-end token c.loop-c.yielded _ c.loop-c.yielded_by _ _ c.in-None.is c.next.ensures.steps in
+    let all = sym (map-id c.loop-c.yielded) ∙ end.0 in
+    c.loop-c.invariant ∙ ap (λ cs. string_bytes c.args.out.now ++ encode_utf8_all (escaped cs)) all

@@ -3,8 +3,8 @@ use Rattle.std.proofs.lemmas.List.{length-map, get_or_default}
 use Rattle.std.proofs.lemmas.Bool.{true≢false}
 use Rattle.std.proofs.lemmas.Slice.Eq.{bytes_eq-Decides}
 use Rattle.js_outside.specs.NamedFiles.{entry_of}
-use Rattle.js_outside.specs.Contents.{place_of}
-use Rattle.js_outside.proofs.ContentsLemmas.{with_file-set, with_file-new, place_of-within}
+use Rattle.js_outside.specs.Contents.{place_of, contents}
+use Rattle.js_outside.proofs.ContentsLemmas.{with_file-set, with_file-new, place_of-within, contents-with_file}
 use Rattle.js_outside.proofs.files.FileMap.insert.Goals as goal
 use Rattle.js_outside.proofs.files.FileMap.insert.Goals.{else-place-len-via-then-place-len+else-eq, else-place-len-via-else-place-len}
 
@@ -16,8 +16,8 @@ insert-requires c =
     length-map c.self.inside.files.items entry_of ∙ sym c.self.inside.files.ok.0 in
     omega (arith, within, n, c.place_of-place.ensures)
 
-pub returns-then-eq-clause-ok : goal.returns-then-eq-clause-ok
-returns-then-eq-clause-ok c =
+pub returns-then-eq-clause-placed : goal.returns-then-eq-clause-placed
+returns-then-eq-clause-placed c =
     let g : c.index.result.now ≡ get_or c.self.inside.files.items c.place_of-place.result c.index.result.now = search rules in
     let k : c.index_mut.result.now ≡ get_or c.self.inside.files.items c.place_of-place.result c.index_mut.result.now = search rules in
     let within : c.place_of-place.result < length c.self.inside.files.items = omega (arith, c.self.inside.files.ok) in
@@ -28,8 +28,8 @@ returns-then-eq-clause-ok c =
     rw (← c.self.view_is) (with_file-set entry_of c.self.inside.files.items c.place_of-place.result c.index_mut.result.now
     _ _ _ named refl place within k)
 
-pub returns-in_ok-insert-clause-ok : goal.returns-in_ok-insert-clause-ok
-returns-in_ok-insert-clause-ok c =
+pub returns-in_ok-insert-clause-placed : goal.returns-in_ok-insert-clause-placed
+returns-in_ok-insert-clause-placed c =
     let place = c.place_of-place.ensures ∙ ap (place_of c.args.self.now) c.as_text.ensures.bytes ∙ ap (λ m. place_of m (encode_utf8_all c.args.name)) (sym c.self.view_is) in
     let items = rw c.in_ok-insert.was at c.insert.ensures.items in
     rw (items, ← c.self.view_is) (with_file-new entry_of c.self.inside.files.items c.place_of-place.result _ _ _ refl place
@@ -41,3 +41,11 @@ returns-in_ok-insert-clause-ok c =
           absurd (true≢false (sym ((bytes_eq-Decides _ _).1 named) ∙ sym w.if-eq.ensures))
       | else-place-len-via-else-place-len w ↦ absurd (omega (arith, c.self.inside.files.ok, within))
     ]))
+
+pub returns-then-eq-clause-sets : goal.returns-then-eq-clause-sets
+returns-then-eq-clause-sets c asked =
+    ap (λ l. contents l asked) (returns-then-eq-clause-placed c) ∙ contents-with_file _ _ _ asked
+
+pub returns-in_ok-insert-clause-sets : goal.returns-in_ok-insert-clause-sets
+returns-in_ok-insert-clause-sets c asked =
+    ap (λ l. contents l asked) (returns-in_ok-insert-clause-placed c) ∙ contents-with_file _ _ _ asked
