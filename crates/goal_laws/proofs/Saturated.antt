@@ -1,5 +1,5 @@
--- In a saturated set all is met where its literals are. Where these name kinds alone, a set with a branch is met
--- by each document of the kind.
+-- In a saturated set all is met where its literals are. Where these name kinds alone, a set with a branch is
+-- met by each document of the kind.
 use Rattle.std.proofs.Common.{◌≡◌, ℕ, zero, suc, ◌<◌, Bool, true, false, List, [], ◌∷◌, Option, Some, None, IfSome, refl, ap, sym, ◌∙◌, subst, arith}
 use Rattle.std.specs.List.{AllByRecursion}
 use Rattle.std.proofs.lemmas.Bool.{not-false, not_from_false, or_left}

@@ -1,11 +1,11 @@
 -- Signed positions, and sets of them as rising lists: what is in a set, and what adding to it does.
-use Rattle.std.proofs.Common.{◌≡◌, ℕ, ◌+◌, ◌*◌, ◌<◌, ◌⊎◌, inl, inr, Bool, true, false, ◌&&◌, ◌||◌, cond, not, List, [], ◌∷◌, Some, None, refl, ap, sym, ◌∙◌, subst, arith}
+use Rattle.std.proofs.Common.{Contains, ◌≡◌, ℕ, ◌+◌, ◌*◌, ◌<◌, ◌⊎◌, inl, inr, Bool, true, false, ◌&&◌, ◌||◌, cond, not, List, [], ◌∷◌, refl, ap, sym, ◌∙◌, subst, arith}
 use Rattle.std.proofs.Math.Bool.{and_assoc, or_assoc}
 use Rattle.std.specs.List.{AllByRecursion}
 use Rattle.std.proofs.lemmas.Bool.{eqb-true, eqb-false, eq-eqb, ltb-true, ltb-false, lt-ltb, leb-true, leb-false, le-leb, and_parts, and_from, or_cases, or_left, or_right}
 use Rattle.documents.specs.Tests.{every, some}
+use Rattle.position_laws.proofs.Lists.{some-contains}
 use Rattle.goals.specs.Signed.{Signed, Plus, Minus, opposite, same_signed, comes_before, has, add, add_all, is_rising, met}
-use Rattle.goals.specs.Tree.{first}
 
 -- signed positions
 
@@ -94,6 +94,9 @@ all-has P (y ∷ S) x h i =
       | inr j ↦ all-has P S x h.1 j
     ]
 
+pub contains-has : (S : List Signed) (x : Signed) → Contains S x → has x S ≡ true
+contains-has S x i = some-contains (same_signed x) S x i (same_signed-itself x)
+
 module _ (p : Signed → Bool) where
   pub every-has : (S : List Signed) (x : Signed) → every p S ≡ true → has x S ≡ true → p x ≡ true
   every-has [] x e i = cc
@@ -139,25 +142,6 @@ module _ (p : Signed → Bool) where
         → (y : Signed) × (has y (x ∷ S) ≡ true) × (p y ≡ false)
     go false h e more = (x, has-here x S, h)
     go true h e more = let (y, i, k) = more e in (y, has-there y x S i, k)
-
-  pub first-some : (S : List Signed) (x : Signed) → first p S ≡ Some x → (has x S ≡ true) × (p x ≡ true)
-  first-some [] x e = cc
-  first-some (y ∷ S) x e = go (p y) refl e (first-some S x) where
-    go : (b : Bool) → p y ≡ b → cond b (Some y) (first p S) ≡ Some x
-        → (first p S ≡ Some x → (has x S ≡ true) × (p x ≡ true)) → (has x (y ∷ S) ≡ true) × (p x ≡ true)
-    go true h e more =
-        let same : y ≡ x = cc in
-        (subst (λ z. has z (y ∷ S) ≡ true) same (has-here y S), subst (λ z. p z ≡ true) same h)
-    go false h e more = let (i, k) = more e in (has-there x y S i, k)
-
-  pub first-none : (S : List Signed) (x : Signed) → first p S ≡ None → has x S ≡ true → p x ≡ false
-  first-none [] x e i = cc
-  first-none (y ∷ S) x e i = go (p y) refl e (has-cases x y S i) (first-none S x) where
-    go : (b : Bool) → p y ≡ b → cond b (Some y) (first p S) ≡ None → (x ≡ y) ⊎ (has x S ≡ true)
-        → (first p S ≡ None → has x S ≡ true → p x ≡ false) → p x ≡ false
-    go true h e i more = cc
-    go false h e (inl same) more = subst (λ z. p z ≡ false) (sym same) h
-    go false h e (inr j) more = more e j
 
 -- what adding does
 

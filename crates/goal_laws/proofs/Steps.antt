@@ -12,7 +12,8 @@ use Rattle.goals.specs.Signed.{Signed, Plus, Minus, position_of, opposite, has, 
 use Rattle.goals.specs.Choices.{choices, is_wrong}
 use Rattle.goals.specs.Tree.{Step, Clash, Wrong, Rule, Saturated, has_choice, first, choice_list, step_at, next, steps_from, steps_within, steps}
 use Rattle.goal_laws.specs.Saturated.{IsSaturated}
-use Rattle.goal_laws.proofs.Signs.{has-add_all, every-fails, all-has, first-some, first-none}
+use Rattle.goal_laws.proofs.Firsts.{first-some, first-none}
+use Rattle.goal_laws.proofs.Signs.{has-add_all, every-fails, all-has, contains-has}
 use Rattle.goal_laws.proofs.Rules.{AreNames, choices-names}
 
 -- what a step tells of its set
@@ -42,17 +43,21 @@ module _ (T : List Position) (t : Kind) (S : List Signed) where
             → first (λ x. not (has_choice S (choices T t x))) S ≡ c
             → Told T t S (step_at (λ x. Clash (position_of x)) a (step_at Wrong b
             (step_at (λ x. Rule x (choice_list (choices T t x))) c (Saturated S))))
-        go (Some x) b c e f g = let (i, h) = first-some (λ x. has (opposite x) S) S x e in clash_told x i h
-        go None (Some x) c e f g = first-some (is_wrong T t) S x f
+        go (Some x) b c e f g =
+            let (i, h) = first-some (λ x. has (opposite x) S) S x e in clash_told x (contains-has S x i) h
+        go None (Some x) c e f g = let (i, h) = first-some (is_wrong T t) S x f in (contains-has S x i, h)
         go None None (Some x) e f g =
             let (i, h) = first-some (λ x. not (has_choice S (choices T t x))) S x g in
-            rule_told x (choices T t x) i refl (not-true _ h)
+            rule_told x (choices T t x) (contains-has S x i) refl (not-true _ h)
         go None None None e f g = (
           refl,
           record {
-            no_clash = λ x i. first-none (λ y. has (opposite y) S) S x e i;
-            none_wrong = λ x i. first-none (is_wrong T t) S x f i;
-            chosen = λ x i. not-false _ (first-none (λ y. not (has_choice S (choices T t y))) S x g i);
+            no_clash = λ x i. all-has _ S x (first-none (λ y. has (opposite y) S) S e) i;
+            none_wrong = λ x i. all-has _ S x (first-none (is_wrong T t) S f) i;
+            chosen =
+                λ x i.
+                let all = first-none (λ y. not (has_choice S (choices T t y))) S g in
+                not-false _ (all-has _ S x all i);
           },
         )
 

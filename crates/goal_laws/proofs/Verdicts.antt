@@ -1,5 +1,5 @@
--- What the trees of two positions' goal decide: a branch is a document with the first position and not the second,
--- and without a branch there is none.
+-- What the trees of two positions' goal decide: with a branch a document has the first position and not the
+-- second, and without one none has.
 use Rattle.std.proofs.Common.{◌≡◌, ℕ, Bool, true, false, ◌&&◌, not, List, [], ◌∷◌, Option, Some, None, IfSome, refl, ap, sym, ◌∙◌}
 use Rattle.documents.specs.Document.{Document, kind_of}
 use Rattle.positions.specs.Position.{Position}
@@ -38,6 +38,7 @@ module _ (T : List Position) (ok : IsTable T) (J : Document) (a b : ℕ) where
   branches-include closed =
       implied (holds T a J) (holds T b J)
       (sym (meets-root T ok J a b) ∙ go (form T (Plus a ∷ Minus b ∷ [])) closed) where
-        go : (o : Option (List Signed)) → IfSome o (λ g. branches (steps T (kind_of J) g) ≡ []) → meets_goal T o J ≡ false
+        go : (o : Option (List Signed)) → IfSome o (λ g. branches (steps T (kind_of J) g) ≡ [])
+            → meets_goal T o J ≡ false
         go None closed = refl
         go (Some g) closed = branches-none_met T ok J (kind_of J) refl g closed

@@ -13,8 +13,8 @@ use Rattle.goals.specs.Tree.{steps, branches, first}
 use Rattle.goal_laws.specs.Formed.{meets_goal}
 use Rattle.goal_laws.proofs.Forms.{meets-form}
 use Rattle.goal_laws.proofs.Saturated.{branches-some_met}
-use Rattle.goal_laws.proofs.Written.{is_good-written}
-use Rattle.goal_laws.proofs.GoodSound.{is_good-holds}
+use Rattle.certificate_laws.proofs.Written.{is_good-written}
+use Rattle.certificate_laws.proofs.GoodSound.{is_good-holds}
 use Rattle.certificates.specs.Line.{Line}
 use Rattle.certificates.specs.TreeLines.{written}
 use Rattle.certificates.specs.Good.{is_good}
