@@ -29,7 +29,8 @@ unbegun s = record s { left = []; faults = one_more s.faults }
 
 -- `begin`: the file of the name is there and is all left to be read, or it isn't there and the call failed
 abbrev pub BeginsIn : {T : Type 0} → ShelfState → ShelfState → List ℕ → Result T BeginFault → Type 0
-BeginsIn old new name (Ok x) = (contents old.files name ≡ Some new.left) × (new ≡ record old { left = new.left })
+BeginsIn old new name (Ok x) =
+    (contents old.files name ≡ Some new.left) × (new ≡ record old { left = new.left })
 BeginsIn old new name (Err Failed) = (contents old.files name ≡ None) × (new ≡ unbegun old)
 BeginsIn old new name (Err Memory) = ⊥
 
@@ -37,8 +38,8 @@ BeginsIn old new name (Err Memory) = ⊥
 abbrev pub unread : ShelfState → ShelfState
 unread s = record s { faults = one_more s.faults }
 
--- `read` of at most `most` bytes: as many as are left and wanted come from the front of what is left, into the
--- front of the buffer. It doesn't fail
+-- `read` of at most `most` bytes: as many as are left and wanted come from the front of what is left, into
+-- the front of the buffer. It doesn't fail
 abbrev pub ReadsIn : {E : Type 0} → ShelfState → ShelfState → ℕ → List ℕ → List ℕ → Result ℕ E → Type 0
 ReadsIn old new most before after (Ok count) =
     (count ≡ min (length old.left) (min most (length before)))

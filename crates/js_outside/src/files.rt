@@ -1,6 +1,7 @@
 //! A finite map of files, in the order of their names.
 
-ghost use Rattle.std.specs.Prelude.{◌≡◌, ℕ, List, if◌then◌else◌, ◌+◌, ◌^◌, ◌<◌, length, [], drop, encode_utf8_all, IfNone, IfSome, OnOk, OnErr, None, Some};
+ghost use Rattle.std.specs.Prelude.{◌≡◌, ℕ, ◌+◌, ◌^◌, ◌<◌, List, [], length, drop, encode_utf8_all};
+ghost use Rattle.std.specs.Prelude.{if◌then◌else◌, None, Some, IfNone, IfSome, OnErr, OnOk};
 ghost use Rattle.std.specs.Str.{bytes_eq};
 ghost use Rattle.js_outside.specs.Contents.{contents, bytes_at, place_of, with_file};
 

@@ -2,7 +2,8 @@
 //! at a time. None of them takes memory.
 
 ghost use Rattle.std.specs.Prelude.{◌≡◌, ◌<◌, ◌++◌, take, drop, min, length, true, false};
-ghost use Rattle.js_outside.specs.InMemory.{BeginsIn, ReadsIn, RefusesBegin, RefusesRead, counted, is_due, new_shelf, unbegun, unread};
+ghost use Rattle.js_outside.specs.InMemory.{BeginsIn, ReadsIn, RefusesBegin, RefusesRead};
+ghost use Rattle.js_outside.specs.InMemory.{counted, is_due, new_shelf, unbegun, unread};
 
 use crate::calls::{CallList, Plan};
 use crate::faults::{BeginFault, Failed, raised};

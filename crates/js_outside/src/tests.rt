@@ -6,7 +6,7 @@ use crate::{
 };
 use js_doc::{Memory, Str};
 use std::alloc::{AllocError, Global};
-use std::test::Fail;
+use std::process::Abort;
 
 /// The files `a` and `b`.
 fn two_files(alloc: Global) -> Result<FileMap, Memory> {
@@ -24,77 +24,74 @@ fn calls(alloc: Global, numbers: &[u64]) -> Result<CallList, AllocError> {
     Ok(CallList::from_vec(Vec::from_slice(alloc, numbers)?))
 }
 
-/// What a file's `begin` and then four reads with a buffer of 4 bytes answer.
-type Answers = (Result<(), BeginFault>, [Result<usize, Failed>; 4]);
-
-fn answers<H: Shelf>(shelf: &mut H, name: &str) -> Answers {
-    let begun = shelf.begin(name);
+/// Begins a file and reads it by a buffer of 4 bytes, as often as answers are wanted.
+fn expect_reads<H: Shelf>(
+    rt: &impl Abort,
+    shelf: &mut H,
+    name: &str,
+    begun: Result<(), BeginFault>,
+    wanted: &[Result<usize, Failed>],
+) {
+    assert_eq!(rt; shelf.begin(name), begun, "{name}");
     let mut buffer = [0; 4];
-    let first = shelf.read(&mut buffer);
-    let second = shelf.read(&mut buffer);
-    let third = shelf.read(&mut buffer);
-    (begun, [first, second, third, shelf.read(&mut buffer)])
+    for (call, answer) in wanted.iter().enumerate() {
+        assert_eq!(rt; shelf.read(&mut buffer), *answer, "{name}, read {call}");
+    }
 }
 
 #[test]
 fn shelves_give_their_files(rt: HostRuntime) -> Result<(), Memory> {
     let alloc = rt.alloc();
     let mut whole = MemoryShelf::new(two_files(alloc)?);
-    assert_eq!(rt;
-        answers(&mut whole, "a"),
-        (Ok(()), [Ok(4), Ok(1), Ok(0), Ok(0)])
-    );
-    assert_eq!(rt;
-        answers(&mut whole, "b"),
-        (Ok(()), [Ok(2), Ok(0), Ok(0), Ok(0)])
-    );
-    let missing = (Err(BeginFault::Failed), [Ok(0), Ok(0), Ok(0), Ok(0)]);
-    assert_eq!(rt; answers(&mut whole, "c"), missing);
+    expect_reads(&rt, &mut whole, "a", Ok(()), &[Ok(4), Ok(1), Ok(0), Ok(0)]);
+    expect_reads(&rt, &mut whole, "b", Ok(()), &[Ok(2), Ok(0)]);
+    expect_reads(&rt, &mut whole, "c", Err(BeginFault::Failed), &[Ok(0)]);
 
     let mut cut = CutShelf::new(two_files(alloc)?, 2);
-    assert_eq!(rt;
-        answers(&mut cut, "a"),
-        (Ok(()), [Ok(2), Ok(2), Ok(1), Ok(0)])
-    );
+    expect_reads(&rt, &mut cut, "a", Ok(()), &[Ok(2), Ok(2), Ok(1), Ok(0)]);
 
     let mut failing = FailingShelf::new(two_files(alloc)?, calls(alloc, &[2, 5])?);
-    assert_eq!(rt;
-        answers(&mut failing, "a"),
-        (Ok(()), [Ok(4), Err(Failed), Ok(1), Ok(0)])
+    expect_reads(
+        &rt,
+        &mut failing,
+        "a",
+        Ok(()),
+        &[Ok(4), Err(Failed), Ok(1), Ok(0)],
     );
-    assert_eq!(rt; answers(&mut failing, "a"), missing);
+    expect_reads(&rt, &mut failing, "b", Err(BeginFault::Failed), &[Ok(0)]);
+    expect_reads(&rt, &mut failing, "b", Ok(()), &[Ok(2)]);
     Ok(())
 }
 
-fn writes<K: Sink>(sink: &mut K) -> [Result<usize, Failed>; 3] {
-    let first = sink.write(b"ab");
-    let second = sink.write(b"cde");
-    [first, second, sink.write(b"f")]
+/// Writes `ab`, `cde` and `f`.
+fn expect_writes<K: Sink>(rt: &impl Abort, sink: &mut K, wanted: [Result<usize, Failed>; 3]) {
+    assert_eq!(rt; sink.write(b"ab"), wanted[0]);
+    assert_eq!(rt; sink.write(b"cde"), wanted[1]);
+    assert_eq!(rt; sink.write(b"f"), wanted[2]);
 }
 
 #[test]
 fn sinks_take_what_fits(rt: HostRuntime) -> Result<(), Memory> {
     let alloc = rt.alloc();
     let mut whole = MemorySink::new(alloc, 4)?;
-    assert_eq!(rt; writes(&mut whole), [Ok(2), Err(Failed), Ok(1)]);
+    expect_writes(&rt, &mut whole, [Ok(2), Err(Failed), Ok(1)]);
     assert_eq!(rt; whole.written(), b"abf".as_slice());
 
     let mut cut = CutSink::new(alloc, 4, 1)?;
-    assert_eq!(rt; writes(&mut cut), [Ok(1), Ok(1), Ok(1)]);
+    expect_writes(&rt, &mut cut, [Ok(1), Ok(1), Ok(1)]);
     assert_eq!(rt; cut.written(), b"acf".as_slice());
 
     let mut failing = FailingSink::new(alloc, 9, calls(alloc, &[0])?)?;
-    assert_eq!(rt; writes(&mut failing), [Err(Failed), Ok(3), Ok(1)]);
+    expect_writes(&rt, &mut failing, [Err(Failed), Ok(3), Ok(1)]);
     assert_eq!(rt; failing.written(), b"cdef".as_slice());
     Ok(())
 }
 
 #[test]
-fn a_missing_real_file_is_a_fault(rt: HostRuntime) -> Result<(), Fail> {
+fn a_missing_real_file_is_a_fault(rt: HostRuntime) {
     let mut shelf = FileShelf::new(&rt);
     assert_eq!(rt; shelf.begin("no such file"), Err(BeginFault::Failed));
     assert_eq!(rt; shelf.read(&mut [0; 4]), Ok(0));
     let mut sink = StdoutSink::new(&rt);
     assert_eq!(rt; sink.write(b""), Ok(0));
-    Ok(())
 }

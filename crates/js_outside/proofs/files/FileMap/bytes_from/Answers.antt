@@ -12,18 +12,21 @@ returns-then-index-files-clause-rest c =
 
 pub returns-then-position-bytes-clause-rest : goal.returns-then-position-bytes-clause-rest
 returns-then-position-bytes-clause-rest c =
+    let seen = ap (map entry_of) c.as_slice-files.ensures.value ∙ c.self.view_is in
     sym (drop_of_length-le c.as_slice-bytes.result.now c.if-position-bytes.true)
     ∙ ap (drop c.args.position) c.as_slice-bytes.ensures.value
     ∙ ap (λ f. drop c.args.position f.bytes.items) (sym c.index-files-index.is)
     ∙ rest-at entry_of c.as_slice-files.result.now _ c.args.index c.args.position c.index-files-index.result
-    (ap (map entry_of) c.as_slice-files.ensures.value ∙ c.self.view_is) c.if-index-files.false c.index-files-index.is
+    seen c.if-index-files.false c.index-files-index.is
 
 pub returns-clause-rest : goal.returns-clause-rest
 returns-clause-rest c =
-    let rest : length (drop c.args.position c.as_slice-bytes.result.now) ≤ length c.as_slice-bytes.result.now - c.args.position =
-    omega (arith, length-drop c.args.position c.as_slice-bytes.result.now) in
-    take_all _ (drop c.args.position c.as_slice-bytes.result.now) rest
+    let bytes = c.as_slice-bytes.result.now in
+    let rest : length (drop c.args.position bytes) ≤ length bytes - c.args.position =
+    omega (arith, length-drop c.args.position bytes) in
+    let seen = ap (map entry_of) c.as_slice-files.ensures.value ∙ c.self.view_is in
+    take_all _ (drop c.args.position bytes) rest
     ∙ ap (drop c.args.position) c.as_slice-bytes.ensures.value
     ∙ ap (λ f. drop c.args.position f.bytes.items) (sym c.index-files-index.is)
     ∙ rest-at entry_of c.as_slice-files.result.now _ c.args.index c.args.position c.index-files-index.result
-    (ap (map entry_of) c.as_slice-files.ensures.value ∙ c.self.view_is) c.if-index-files.false c.index-files-index.is
+    seen c.if-index-files.false c.index-files-index.is

@@ -7,6 +7,7 @@ use Rattle.js_outside.proofs.files.FileMap.index_of.Goals as goal
 pub returns-then-eq-clause-found : goal.returns-then-eq-clause-found
 returns-then-eq-clause-found c =
     contents-found entry_of c.as_slice-files.result.now _ c.loop-index.index c.index-files-index.result _
-    (ap (map entry_of) c.as_slice-files.ensures.value ∙ c.self.view_is) c.loop-index-test.true c.index-files-index.is
+    (ap (map entry_of) c.as_slice-files.ensures.value ∙ c.self.view_is)
+    c.loop-index-test.true c.index-files-index.is
     (ap (bytes_eq c.args.name.now) (sym c.as_text.ensures.bytes) ∙ sym c.if-eq.ensures)
     c.loop-index.invariant
