@@ -80,6 +80,6 @@ looked_up : lookup (codes "b") (member (codes "a") (boolean true) (member (codes
     ≡ Some not_whole
 looked_up = refl
 
-not_there : lookup (codes "ab") (member (codes "a") (boolean true) (member (codes "abc") not_whole no_members))
+absent : lookup (codes "ab") (member (codes "a") (boolean true) (member (codes "abc") not_whole no_members))
     ≡ None
-not_there = refl
+absent = refl

@@ -2,6 +2,7 @@
 
 use crate::{JsonFault, Pointer, member, read_json};
 use js_doc::Json;
+use std::alloc::{AllocError, Global};
 use std::test::Fail;
 
 #[test]
@@ -19,7 +20,26 @@ fn reads_json_and_refuses_the_rest(rt: HostRuntime) -> Result<(), Fail> {
         let fault = read_json(rt.alloc(), text.as_bytes()).err();
         assert_eq!(rt; fault, expected, "{text}");
     }
+    for (levels, expected) in [(127, None), (128, Some(JsonFault::NotJson))] {
+        let text = nested(rt.alloc(), levels)?;
+        assert_eq!(rt;
+            read_json(rt.alloc(), text.as_bytes()).err(),
+            expected,
+            "{levels} levels"
+        );
+    }
     Ok(())
+}
+
+fn nested(alloc: Global, levels: usize) -> Result<String, AllocError> {
+    let mut text = String::new(alloc);
+    for _ in 0..levels {
+        text.push('[')?;
+    }
+    for _ in 0..levels {
+        text.push(']')?;
+    }
+    Ok(text)
 }
 
 #[test]

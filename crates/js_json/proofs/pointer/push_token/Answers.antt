@@ -12,6 +12,7 @@ loop-c-preserved c =
 pub returns : goal.returns
 returns c =
     let token = YieldsList-from_chars c.args.token.now c.utf8.token cc in
-    let end = YieldsList-end token c.loop-c.yielded _ c.loop-c.yielded_by _ _ c.in-None.is c.next.ensures.steps in
+    let ended = c.in-None.is in
+    let end = YieldsList-end token c.loop-c.yielded _ c.loop-c.yielded_by _ _ ended c.next.ensures.steps in
     let all = sym (map-id c.loop-c.yielded) ∙ end.0 in
     c.loop-c.invariant ∙ ap (λ cs. string_bytes c.args.out.now ++ encode_utf8_all (escaped cs)) all
