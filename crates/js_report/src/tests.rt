@@ -3,7 +3,8 @@
 use crate::{FileFault, LONGEST_FILE, read_file, write_report};
 use js_doc::{Memory, Str};
 use js_outside::{
-    CallList, CutShelf, CutSink, Failed, FailingShelf, FailingSink, FileMap, MemoryShelf, MemorySink, Shelf,
+    CallList, CutShelf, CutSink, Failed, FailingShelf, FailingSink, FileMap, MemoryShelf,
+    MemorySink, Shelf,
 };
 use std::alloc::{AllocError, Global};
 use std::process::Abort;
@@ -46,11 +47,27 @@ fn expect_file<H: Shelf>(
 fn a_file_is_read_whole_or_not_at_all(rt: HostRuntime) -> Result<(), Memory> {
     let alloc = rt.alloc();
     let whole = Ok(b"abcde".as_slice());
-    expect_file(&rt, alloc, &mut CutShelf::new(five_bytes(alloc)?, 1), "a", whole);
-    expect_file(&rt, alloc, &mut MemoryShelf::new(five_bytes(alloc)?), "b", Err(FileFault::Read));
+    expect_file(
+        &rt,
+        alloc,
+        &mut CutShelf::new(five_bytes(alloc)?, 1),
+        "a",
+        whole,
+    );
+    expect_file(
+        &rt,
+        alloc,
+        &mut MemoryShelf::new(five_bytes(alloc)?),
+        "b",
+        Err(FileFault::Read),
+    );
     for call in 0..4u64 {
         let mut shelf = FailingShelf::new(five_bytes(alloc)?, one_call(alloc, call)?);
-        let wanted = if call < 3 { Err(FileFault::Read) } else { whole };
+        let wanted = if call < 3 {
+            Err(FileFault::Read)
+        } else {
+            whole
+        };
         expect_file(&rt, alloc, &mut shelf, "a", wanted);
     }
     Ok(())
@@ -59,9 +76,17 @@ fn a_file_is_read_whole_or_not_at_all(rt: HostRuntime) -> Result<(), Memory> {
 #[test]
 fn a_file_may_have_the_longest_length(rt: HostRuntime) -> Result<(), Memory> {
     let alloc = rt.alloc();
-    let longest = read_file(alloc, &mut MemoryShelf::new(zeros(alloc, LONGEST_FILE)?), "a");
+    let longest = read_file(
+        alloc,
+        &mut MemoryShelf::new(zeros(alloc, LONGEST_FILE)?),
+        "a",
+    );
     assert!(rt; longest.is_ok());
-    let longer = read_file(alloc, &mut MemoryShelf::new(zeros(alloc, LONGEST_FILE + 1)?), "a");
+    let longer = read_file(
+        alloc,
+        &mut MemoryShelf::new(zeros(alloc, LONGEST_FILE + 1)?),
+        "a",
+    );
     assert!(rt; matches!(&longer, Err(FileFault::TooLong)));
     Ok(())
 }

@@ -15,8 +15,9 @@ pieces-init g c = record {
 pub pieces-preserved : goal.pieces-preserved
 pieces-preserved g c =
     let filled : length c.read.new.into ≡ vec_len c.pieces.buffer =
-      c.read.auto.into ∙ c.deref_mut.ensures.len in
-    let buffer = c.deref.ensures.value ∙ take-front c.read.new.into _ _ filled in
+    c.read.auto.into ∙ c.deref_mut.ensures.len in
+    let buffer : c.deref.result.now ≡ c.read.new.into =
+      rw c.deref.ensures.value (take-front c.read.new.into _ _ filled) in
     let grown = c.in_ok-extend_from_slice-in-Ok-read.ensures.items
     ∙ ap (λ l. c.pieces.bytes.items ++ take c.in-Ok-read.count l) buffer in
     record {
@@ -30,9 +31,9 @@ pieces-preserved g c =
 pub returns-in-Ok-eq0-clause-whole : goal.returns-in-Ok-eq0-clause-whole
 returns-in-Ok-eq0-clause-whole g c =
     let short : length c.pieces.bytes.items ≤ longest_file =
-      omega (arith, c.pieces-test.true, c.len.ensures, c.pieces.bytes.ok) in
+    omega (arith, c.pieces-test.true, c.len.ensures, c.pieces.bytes.ok) in
     let room : 0 < length c.read.new.into =
-      omega (arith, c.read.auto.into, c.deref_mut.ensures.len, c.pieces.invariant.room) in
+    omega (arith, c.read.auto.into, c.deref_mut.ensures.len, c.pieces.invariant.room) in
     let taken = rw c.in-Ok-eq0.field-0-test at c.in-Ok-eq0.ensures.taken.0 in
     let end = c.in-Ok-eq0.ensures.taken.1 c.in-Ok-eq0.field-0-test room in
     (short, ReadSoFar-end _ _ _ _ _ c.pieces.invariant.so_far taken end)
