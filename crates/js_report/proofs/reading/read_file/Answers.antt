@@ -1,4 +1,4 @@
-use Rattle.std.proofs.Common.{◌≡◌, ◌<◌, ◌≤◌, ◌++◌, arith, length, take, ap, vec_len, ◌∙◌}
+use Rattle.std.proofs.Common.{◌≡◌, ◌<◌, ◌≤◌, ◌++◌, arith, length, take, refl, vec_len, ◌∙◌}
 use Rattle.js_report.proofs.SoFar.{ReadSoFar-begun, ReadSoFar-more, ReadSoFar-end, ReadSoFar-too_long}
 use Rattle.js_report.proofs.SoFar.{take-front}
 use Rattle.js_report.specs.WholeFile.{longest_file}
@@ -17,11 +17,12 @@ pieces-preserved g c =
     let filled : length c.read.new.into ≡ vec_len c.pieces.buffer =
     c.read.auto.into ∙ c.deref_mut.ensures.len in
     let buffer : c.deref.result.now ≡ c.read.new.into =
-      rw c.deref.ensures.value (take-front c.read.new.into _ _ filled) in
-    let grown = c.in_ok-extend_from_slice-in-Ok-read.ensures.items
-    ∙ ap (λ l. c.pieces.bytes.items ++ take c.in-Ok-read.count l) buffer in
+    rw c.deref.ensures.value (take-front c.read.new.into _ _ filled) in
+    let piece = take c.in-Ok-read.count c.read.new.into in
+    let grown : c.extend_from_slice.new.self.items ≡ c.pieces.bytes.items ++ piece =
+    rw (c.in_ok-extend_from_slice-in-Ok-read.ensures.items, buffer) refl in
     record {
-      so_far = ReadSoFar-more _ _ _ (take c.in-Ok-read.count c.read.new.into) _ _ _
+      so_far = ReadSoFar-more _ _ _ piece _ _ _
           grown c.pieces.invariant.so_far c.in-Ok-read.ensures.taken.0;
       told = c.in-Ok-read.ensures.told ∙ c.pieces.invariant.told;
       counted = c.in-Ok-read.ensures.counted ∙ c.pieces.invariant.counted;
