@@ -3,8 +3,7 @@
 use crate::{FileFault, LONGEST_FILE, read_file, write_report};
 use js_doc::{Memory, Str};
 use js_outside::{
-    CallList, CutShelf, CutSink, Failed, FailingShelf, FailingSink, FileMap, MemoryShelf,
-    Shelf,
+    CallList, CutShelf, CutSink, Failed, FailingShelf, FailingSink, FileMap, MemoryShelf, Shelf,
 };
 use std::alloc::{AllocError, Global};
 use std::process::Abort;
