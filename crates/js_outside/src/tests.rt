@@ -8,15 +8,16 @@ use js_doc::{Memory, Str};
 use std::alloc::{AllocError, Global};
 use std::process::Abort;
 
-/// The files `a` and `b`.
+fn add(alloc: Global, files: &mut FileMap, name: &str, bytes: &[u8]) -> Result<(), Memory> {
+    files.insert(Str::from_text(alloc, name)?, Vec::from_slice(alloc, bytes)?)
+}
+
+/// The files `a` and `b`, of which the second is set twice.
 fn two_files(alloc: Global) -> Result<FileMap, Memory> {
     let mut files = FileMap::new(alloc);
-    files.insert(Str::from_text(alloc, "b")?, Vec::from_slice(alloc, b"old")?)?;
-    files.insert(
-        Str::from_text(alloc, "a")?,
-        Vec::from_slice(alloc, b"abcde")?,
-    )?;
-    files.insert(Str::from_text(alloc, "b")?, Vec::from_slice(alloc, b"xy")?)?;
+    add(alloc, &mut files, "b", b"old")?;
+    add(alloc, &mut files, "a", b"abcde")?;
+    add(alloc, &mut files, "b", b"xy")?;
     Ok(files)
 }
 
@@ -71,19 +72,27 @@ fn expect_writes<K: Sink>(rt: &impl Abort, sink: &mut K, wanted: [Result<usize, 
 }
 
 #[test]
-fn sinks_take_what_fits(rt: HostRuntime) -> Result<(), Memory> {
-    let alloc = rt.alloc();
-    let mut whole = MemorySink::new(alloc, 4)?;
-    expect_writes(&rt, &mut whole, [Ok(2), Err(Failed), Ok(1)]);
-    assert_eq!(rt; whole.written(), b"abf".as_slice());
+fn a_sink_takes_the_pieces_that_fit(rt: HostRuntime) -> Result<(), Memory> {
+    let mut sink = MemorySink::new(rt.alloc(), 4)?;
+    expect_writes(&rt, &mut sink, [Ok(2), Err(Failed), Ok(1)]);
+    assert_eq!(rt; sink.written(), b"abf".as_slice());
+    Ok(())
+}
 
-    let mut cut = CutSink::new(alloc, 4, 1)?;
-    expect_writes(&rt, &mut cut, [Ok(1), Ok(1), Ok(1)]);
-    assert_eq!(rt; cut.written(), b"acf".as_slice());
+#[test]
+fn a_cut_sink_takes_a_byte_of_each_piece(rt: HostRuntime) -> Result<(), Memory> {
+    let mut sink = CutSink::new(rt.alloc(), 4, 1)?;
+    expect_writes(&rt, &mut sink, [Ok(1), Ok(1), Ok(1)]);
+    assert_eq!(rt; sink.written(), b"acf".as_slice());
+    Ok(())
+}
 
-    let mut failing = FailingSink::new(alloc, 9, calls(alloc, &[0])?)?;
-    expect_writes(&rt, &mut failing, [Err(Failed), Ok(3), Ok(1)]);
-    assert_eq!(rt; failing.written(), b"cdef".as_slice());
+#[test]
+fn a_listed_write_takes_nothing(rt: HostRuntime) -> Result<(), Memory> {
+    let fail = calls(rt.alloc(), &[0])?;
+    let mut sink = FailingSink::new(rt.alloc(), 9, fail)?;
+    expect_writes(&rt, &mut sink, [Err(Failed), Ok(3), Ok(1)]);
+    assert_eq!(rt; sink.written(), b"cdef".as_slice());
     Ok(())
 }
 

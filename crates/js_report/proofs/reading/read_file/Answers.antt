@@ -1,4 +1,4 @@
-use Rattle.std.proofs.Common.{◌≡◌, ◌<◌, ◌≤◌, ◌++◌, arith, length, take, ap, vec_len, ◌∙◌}
+use Rattle.std.proofs.Common.{◌≡◌, ◌<◌, ◌≤◌, ◌++◌, arith, length, take, refl, vec_len, ◌∙◌}
 use Rattle.js_report.proofs.SoFar.{ReadSoFar-begun, ReadSoFar-more, ReadSoFar-end, ReadSoFar-too_long}
 use Rattle.js_report.proofs.SoFar.{take-front}
 use Rattle.js_report.specs.WholeFile.{longest_file}
@@ -15,12 +15,14 @@ pieces-init g c = record {
 pub pieces-preserved : goal.pieces-preserved
 pieces-preserved g c =
     let filled : length c.read.new.into ≡ vec_len c.pieces.buffer =
-      c.read.auto.into ∙ c.deref_mut.ensures.len in
-    let buffer = c.deref.ensures.value ∙ take-front c.read.new.into _ _ filled in
-    let grown = c.in_ok-extend_from_slice-in-Ok-read.ensures.items
-    ∙ ap (λ l. c.pieces.bytes.items ++ take c.in-Ok-read.count l) buffer in
+    c.read.auto.into ∙ c.deref_mut.ensures.len in
+    let buffer : c.deref.result.now ≡ c.read.new.into =
+    rw c.deref.ensures.value (take-front c.read.new.into _ _ filled) in
+    let piece = take c.in-Ok-read.count c.read.new.into in
+    let grown : c.extend_from_slice.new.self.items ≡ c.pieces.bytes.items ++ piece =
+    rw (c.in_ok-extend_from_slice-in-Ok-read.ensures.items, buffer) refl in
     record {
-      so_far = ReadSoFar-more _ _ _ (take c.in-Ok-read.count c.read.new.into) _ _ _
+      so_far = ReadSoFar-more _ _ _ piece _ _ _
           grown c.pieces.invariant.so_far c.in-Ok-read.ensures.taken.0;
       told = c.in-Ok-read.ensures.told ∙ c.pieces.invariant.told;
       counted = c.in-Ok-read.ensures.counted ∙ c.pieces.invariant.counted;
@@ -30,9 +32,9 @@ pieces-preserved g c =
 pub returns-in-Ok-eq0-clause-whole : goal.returns-in-Ok-eq0-clause-whole
 returns-in-Ok-eq0-clause-whole g c =
     let short : length c.pieces.bytes.items ≤ longest_file =
-      omega (arith, c.pieces-test.true, c.len.ensures, c.pieces.bytes.ok) in
+    omega (arith, c.pieces-test.true, c.len.ensures, c.pieces.bytes.ok) in
     let room : 0 < length c.read.new.into =
-      omega (arith, c.read.auto.into, c.deref_mut.ensures.len, c.pieces.invariant.room) in
+    omega (arith, c.read.auto.into, c.deref_mut.ensures.len, c.pieces.invariant.room) in
     let taken = rw c.in-Ok-eq0.field-0-test at c.in-Ok-eq0.ensures.taken.0 in
     let end = c.in-Ok-eq0.ensures.taken.1 c.in-Ok-eq0.field-0-test room in
     (short, ReadSoFar-end _ _ _ _ _ c.pieces.invariant.so_far taken end)

@@ -7,11 +7,11 @@ pub pieces-preserved : goal.pieces-preserved
 pieces-preserved g c =
     let report = c.args.report.now in
     let rest : length (drop c.pieces.done report) ≡ length report - c.pieces.done =
-      length-drop c.pieces.done report in
+    length-drop c.pieces.done report in
     let left = length report - c.pieces.done in
     let piece = take_all left (drop c.pieces.done report) (omega (arith, rest)) in
     let within : c.in_ok-count.count ≤ length (take left (drop c.pieces.done report)) =
-      c.in_ok-count.ensures.within in
+    c.in_ok-count.ensures.within in
     record {
       within = omega (arith, rw piece at within, rest, c.pieces-test.true);
       written = Appends-more _ _ _ report _ c.pieces.done c.in_ok-count.count
