@@ -1,0 +1,2 @@
+//! Which schemas are of the forms that are read so far, and their core tables.
+#![tactic(auto)]
