@@ -1,1 +1,4 @@
+pub mod PlacesLaws
+pub mod TableLaws
+pub mod Meaning
 mod Examples
