@@ -1,4 +1,5 @@
 pub mod PlacesLaws
 pub mod TableLaws
 pub mod Meaning
+pub mod Ranks
 mod Examples

@@ -31,6 +31,10 @@ pub length-entry_positions : (f : ℕ) (xs : List Entry) → length (entry_posit
 length-entry_positions f [] = refl
 length-entry_positions f (x ∷ xs) = ap suc (length-entry_positions (f + length (nodes_of x)) xs)
 
+pub length-entries_from : (e : ℕ) (ss : List Json) → length (entries_from e ss) ≡ length ss
+length-entries_from e [] = refl
+length-entries_from e (s ∷ ss) = ap suc (length-entries_from (suc e) ss)
+
 has-within : (A B : List Position) (xs : List Entry) (T : List Position) (e f : ℕ)
     → T ≡ A ++ (entry_positions f xs ++ (B ++ flat_map nodes_of xs)) → e ≡ length A → f ≡ length A + length xs + length B
     → HasEach T e xs
