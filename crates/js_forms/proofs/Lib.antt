@@ -2,4 +2,7 @@ pub mod PlacesLaws
 pub mod TableLaws
 pub mod Meaning
 pub mod Ranks
+pub mod WordsLemmas
+pub mod Views
+pub mod KeywordsLemmas
 mod Examples

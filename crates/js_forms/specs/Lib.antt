@@ -2,3 +2,5 @@
 pub mod Keywords
 pub mod Places
 pub mod Table
+-- Used inside: words of the program's text.
+pub mod Words
