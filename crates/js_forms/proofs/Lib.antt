@@ -5,4 +5,7 @@ pub mod Ranks
 pub mod WordsLemmas
 pub mod Views
 pub mod KeywordsLemmas
+pub mod WalkLaws
+pub mod Reading
+pub mod Sizes
 mod Examples

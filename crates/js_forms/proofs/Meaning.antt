@@ -97,10 +97,10 @@ module _ (T : List Position) (ok : IsTable T) (J : Document) where
     object-agrees : (ms : Members) → ((s : Json) (e : ℕ) → count s < count (object ms) → HasEach T e (entries_from e (schemas s)) → holds T e J ≡ met s)
         → (e : ℕ) → HasEach T e (entries_from e (inner ms))
         → every asked (keyword_nodes e ms) ≡
-          (where_there (lookup (codes "type") ms) (type_names (kind_of J))
-          && where_there (lookup (codes "allOf") ms) (λ v. every met (listed v))
-          && where_there (lookup (codes "anyOf") ms) (λ v. some met (listed v))
-          && where_there (lookup (codes "not") ms) (λ v. not (met v)))
+        (where_there (lookup (codes "type") ms) (type_names (kind_of J))
+        && where_there (lookup (codes "allOf") ms) (λ v. every met (listed v))
+        && where_there (lookup (codes "anyOf") ms) (λ v. some met (listed v))
+        && where_there (lookup (codes "not") ms) (λ v. not (met v)))
     object-agrees ms each e h =
         let all = lookup (codes "allOf") ms in
         let any = lookup (codes "anyOf") ms in
@@ -114,14 +114,15 @@ module _ (T : List Position) (ok : IsTable T) (J : Document) where
         (all-agree e all (list-agree (count (object ms)) each (values all) e (values-count ms (codes "allOf")) a.0))
         (any-agree e2 any (list-agree (count (object ms)) each (values any) e2 (values-count ms (codes "anyOf")) b.0))
         (not-agree e3 none (list-agree (count (object ms)) each (whole none) e3 (whole-count ms (codes "not")) b.1)) where
-      regrouped : (a b c d : Bool) → (a && (b && (c && d))) ≡ (a && b && c && d)
-      regrouped true true c d = refl
-      regrouped true false c d = refl
-      regrouped false b c d = refl
-      four : (a b c d : List Position) {w x y z : Bool} → every asked a ≡ w → every asked b ≡ x → every asked c ≡ y → every asked d ≡ z
-          → every asked (a ++ (b ++ (c ++ d))) ≡ (w && x && y && z)
-      four a b c d {w} {x} {y} {z} i j k l =
-          rw (every-append asked a (b ++ (c ++ d)), every-append asked b (c ++ d), every-append asked c d, i, j, k, l) (regrouped w x y z)
+          regrouped : (a b c d : Bool) → (a && (b && (c && d))) ≡ (a && b && c && d)
+          regrouped true true c d = refl
+          regrouped true false c d = refl
+          regrouped false b c d = refl
+
+          four : (a b c d : List Position) {w x y z : Bool} → every asked a ≡ w → every asked b ≡ x → every asked c ≡ y → every asked d ≡ z
+              → every asked (a ++ (b ++ (c ++ d))) ≡ (w && x && y && z)
+          four a b c d {w} {x} {y} {z} i j k l =
+              rw (every-append asked a (b ++ (c ++ d)), every-append asked b (c ++ d), every-append asked c d, i, j, k, l) (regrouped w x y z)
 
 -- an entry holds of the documents that meet its schema, with as many steps in place as the schema has values or more
 module _ (T : List Position) (ok : IsTable T) (J : Document) (root : Json) (steps : ℕ) (below : Json → Document → Bool) where
@@ -145,11 +146,11 @@ module _ (T : List Position) (ok : IsTable T) (J : Document) (root : Json) (step
       let g : HasEach T e (entries_from e (object ms ∷ inner ms)) = subst P (schemas-object ms) h in
       holds-keywords T ok J e (keyword_nodes (suc e) ms) g.0
       ∙ object-agrees T ok J (λ s. met_here (V.asks root) steps below n s J) ms
-        (λ s e' k g'. agree n s e' (omega (arith, k, l)) g') (suc e) g.1
+      (λ s e' k g'. agree n s e' (omega (arith, k, l)) g') (suc e) g.1
 
 -- a schema's table means what the schema means
 pub valid-holds : (R : Json) (J : Document) → IsTable (table_of R) → valid R J ≡ holds (table_of R) 0 J
 unfolding valid is_met
 valid-holds R J ok =
     sym (agree (table_of R) ok J R (suc (count R)) (met_below (V.asks R) (suc (count R)) (depth J)) (suc (count R)) R 0 (omega arith)
-      (has-laid_out (entries_from 0 (schemas R))))
+    (has-laid_out (entries_from 0 (schemas R))))

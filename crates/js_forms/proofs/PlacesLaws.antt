@@ -73,7 +73,7 @@ sub_schemas-count (array ds) = tt
 sub_schemas-count (object ms) =
     let P : List (List ℕ) × Json → Type 0 = λ c. count c.1 < suc (members_count ms) in
     let below : (name : List ℕ) (v : Json) → lookup name ms ≡ Some v → count v < suc (members_count ms) =
-      λ name v e. omega (arith, lookup-count name ms v e) in
+    λ name v e. omega (arith, lookup-count name ms v e) in
     all-append P _ _ (under_list-count _ _ _ (below (codes "allOf")))
     (all-append P _ _ (under_list-count _ _ _ (below (codes "anyOf"))) (under_value-count _ _ _ (below (codes "not"))))
 
@@ -107,8 +107,8 @@ within-same zero m p s a b = absurd (omega (arith, count-positive s, a))
 within-same (suc n) zero p s a b = absurd (omega (arith, count-positive s, b))
 within-same (suc n) (suc m) p s a b =
     ap (λ l. (p, s) ∷ l) (flat_map-same _ _ (sub_schemas s)
-      (all-weaker _ _ (sub_schemas s) (λ c l. within-same n m (p ++ c.0) c.1 (omega (arith, a, l)) (omega (arith, b, l)))
-        (sub_schemas-count s)))
+    (all-weaker _ _ (sub_schemas s) (λ c l. within-same n m (p ++ c.0) c.1 (omega (arith, a, l)) (omega (arith, b, l)))
+    (sub_schemas-count s)))
 
 pub places_from-step : (p : List (List ℕ)) (s : Json)
     → places_from p s ≡ (p, s) ∷ flat_map (λ c. places_from (p ++ c.0) c.1) (sub_schemas s)
@@ -116,8 +116,8 @@ unfolding places_from
 places_from-step p s =
     within-same (count s) (suc (count s)) p s (omega arith) (omega arith)
     ∙ ap (λ l. (p, s) ∷ l) (flat_map-same _ _ (sub_schemas s)
-      (all-weaker _ _ (sub_schemas s) (λ c l. within-same (count s) (count c.1) (p ++ c.0) c.1 (omega (arith, l)) (omega arith))
-        (sub_schemas-count s)))
+    (all-weaker _ _ (sub_schemas s) (λ c l. within-same (count s) (count c.1) (p ++ c.0) c.1 (omega (arith, l)) (omega arith))
+    (sub_schemas-count s)))
 
 -- the schemas at the places, without their pointers
 
@@ -129,8 +129,8 @@ within-moved : (n : ℕ) (p q : List (List ℕ)) (s : Json) → map (λ c. c.1) 
 within-moved zero p q s = refl
 within-moved (suc n) p q s =
     ap (λ l. s ∷ l) (map-flat_map _ _ (sub_schemas s)
-      ∙ flat_map-same _ _ (sub_schemas s) (all-everywhere _ (sub_schemas s) (λ c. within-moved n (p ++ c.0) (q ++ c.0) c.1))
-      ∙ sym (map-flat_map _ _ (sub_schemas s)))
+    ∙ flat_map-same _ _ (sub_schemas s) (all-everywhere _ (sub_schemas s) (λ c. within-moved n (p ++ c.0) (q ++ c.0) c.1))
+    ∙ sym (map-flat_map _ _ (sub_schemas s)))
 
 pub schemas-moved : (p : List (List ℕ)) (s : Json) → map (λ c. c.1) (places_from p s) ≡ schemas s
 unfolding places_from
@@ -140,7 +140,7 @@ pub schemas-step : (s : Json) → schemas s ≡ s ∷ flat_map (λ c. schemas c.
 schemas-step s =
     ap (map (λ c. c.1)) (places_from-step [] s)
     ∙ ap (λ l. s ∷ l) (map-flat_map _ _ (sub_schemas s)
-      ∙ flat_map-same _ _ (sub_schemas s) (all-everywhere _ (sub_schemas s) (λ c. schemas-moved c.0 c.1)))
+    ∙ flat_map-same _ _ (sub_schemas s) (all-everywhere _ (sub_schemas s) (λ c. schemas-moved c.0 c.1)))
 
 numbered-schemas : (name : List ℕ) (i : ℕ) (ss : List Json) → flat_map (λ c. schemas c.1) (numbered name i ss) ≡ flat_map schemas ss
 numbered-schemas name i [] = refl
@@ -164,9 +164,9 @@ pub schemas-object : (ms : Members) → schemas (object ms) ≡ object ms ∷ in
 schemas-object ms =
     schemas-step (object ms)
     ∙ ap (λ l. object ms ∷ l) (flat_map-append _ (under_list (codes "allOf") (lookup (codes "allOf") ms)) _
-      ∙ ap (λ l. flat_map (λ c. schemas c.1) (under_list (codes "allOf") (lookup (codes "allOf") ms)) ++ l)
-        (flat_map-append _ (under_list (codes "anyOf") (lookup (codes "anyOf") ms)) _)
-      ∙ parts (under_list-schemas _ (lookup (codes "allOf") ms)) (under_list-schemas _ (lookup (codes "anyOf") ms))
-        (under_value-schemas _ (lookup (codes "not") ms))) where
-  parts : {a a' b b' c c' : List Json} → a ≡ a' → b ≡ b' → c ≡ c' → a ++ (b ++ c) ≡ a' ++ (b' ++ c')
-  parts x y z = rw (x, y, z) refl
+    ∙ ap (λ l. flat_map (λ c. schemas c.1) (under_list (codes "allOf") (lookup (codes "allOf") ms)) ++ l)
+    (flat_map-append _ (under_list (codes "anyOf") (lookup (codes "anyOf") ms)) _)
+    ∙ parts (under_list-schemas _ (lookup (codes "allOf") ms)) (under_list-schemas _ (lookup (codes "anyOf") ms))
+    (under_value-schemas _ (lookup (codes "not") ms))) where
+      parts : {a a' b b' c c' : List Json} → a ≡ a' → b ≡ b' → c ≡ c' → a ++ (b ++ c) ≡ a' ++ (b' ++ c')
+      parts x y z = rw (x, y, z) refl

@@ -56,21 +56,24 @@ keywords-later n e ms m =
     (all-append (Later n e) _ _ (alls (lookup (codes "allOf") ms) (omega (arith, a, b, m)))
     (all-append (Later n e) _ _ (anys (lookup (codes "anyOf") ms) e2 (omega (arith, l2)) (omega (arith, a, b, l2, m)))
     (nots (lookup (codes "not") ms) e3 (omega (arith, l2, l3)) (omega (arith, a, b, l2, l3, m))))) where
-  types : (o : Option Json) → AllByRecursion (Later n e) (types_node o)
-  types None = tt
-  types (Some v) = (tt, tt)
-  alls : (o : Option Json) → suc e + length (flat_map schemas (values o)) ≤ n → AllByRecursion (Later n e) (all_node (suc e) o)
-  alls None l = tt
-  alls (Some v) l = (numbers-later n e (suc e) (listed v) (omega arith) l, tt)
-  anys : (o : Option Json) (f : ℕ) → e < f → f + length (flat_map schemas (values o)) ≤ n → AllByRecursion (Later n e) (any_node f o)
-  anys None f k l = tt
-  anys (Some v) f k l = (numbers-later n e f (listed v) k l, tt)
-  nots : (o : Option Json) (f : ℕ) → e < f → f + length (flat_map schemas (whole o)) ≤ n → AllByRecursion (Later n e) (not_node f o)
-  nots None f k l = tt
-  nots (Some v) f k l =
-      let own = ap length (schemas-step v) in
-      let more = length-append (schemas v) [] in
-      (((k, omega (arith, l, own, more)), tt), tt)
+      types : (o : Option Json) → AllByRecursion (Later n e) (types_node o)
+      types None = tt
+      types (Some v) = (tt, tt)
+
+      alls : (o : Option Json) → suc e + length (flat_map schemas (values o)) ≤ n → AllByRecursion (Later n e) (all_node (suc e) o)
+      alls None l = tt
+      alls (Some v) l = (numbers-later n e (suc e) (listed v) (omega arith) l, tt)
+
+      anys : (o : Option Json) (f : ℕ) → e < f → f + length (flat_map schemas (values o)) ≤ n → AllByRecursion (Later n e) (any_node f o)
+      anys None f k l = tt
+      anys (Some v) f k l = (numbers-later n e f (listed v) k l, tt)
+
+      nots : (o : Option Json) (f : ℕ) → e < f → f + length (flat_map schemas (whole o)) ≤ n → AllByRecursion (Later n e) (not_node f o)
+      nots None f k l = tt
+      nots (Some v) f k l =
+          let own = ap length (schemas-step v) in
+          let more = length-append (schemas v) [] in
+          (((k, omega (arith, l, own, more)), tt), tt)
 
 -- schemas one after another, whose own places do so
 lists-later : (n k : ℕ) → ((s : Json) (e : ℕ) → count s < k → e + length (schemas s) ≤ n → NamesLater n e (entries_from e (schemas s)))
@@ -97,7 +100,7 @@ schema-later n (suc k) (object ms) e c l =
     let any = values (lookup (codes "anyOf") ms) in
     let none = whole (lookup (codes "not") ms) in
     let each : (s : Json) (e : ℕ) → count s < count (object ms) → e + length (schemas s) ≤ n → NamesLater n e (entries_from e (schemas s)) =
-      λ s e c' l'. schema-later n k s e (omega (arith, c, c')) l' in
+    λ s e c' l'. schema-later n k s e (omega (arith, c, c')) l' in
     let m = count (object ms) in
     let e2 = after (suc e) all in
     let e3 = after e2 any in
@@ -106,11 +109,11 @@ schema-later n (suc k) (object ms) e c l =
     let a = length-append (flat_map schemas all) (flat_map schemas any ++ flat_map schemas none) in
     let b = length-append (flat_map schemas any) (flat_map schemas none) in
     let inside : NamesLater n (suc e) (entries_from (suc e) (inner ms)) =
-      later-append n (suc e) e2 (flat_map schemas all) _ l2
-      (lists-later n m each all (suc e) (values-count ms (codes "allOf")) (omega (arith, l, own, a, b)))
-      (later-append n e2 e3 (flat_map schemas any) _ l3
-        (lists-later n m each any e2 (values-count ms (codes "anyOf")) (omega (arith, l, own, a, b, l2)))
-        (lists-later n m each none e3 (whole-count ms (codes "not")) (omega (arith, l, own, a, b, l2, l3)))) in
+    later-append n (suc e) e2 (flat_map schemas all) _ l2
+    (lists-later n m each all (suc e) (values-count ms (codes "allOf")) (omega (arith, l, own, a, b)))
+    (later-append n e2 e3 (flat_map schemas any) _ l3
+    (lists-later n m each any e2 (values-count ms (codes "anyOf")) (omega (arith, l, own, a, b, l2)))
+    (lists-later n m each none e3 (whole-count ms (codes "not")) (omega (arith, l, own, a, b, l2, l3)))) in
     let P : List Json → Type 0 = λ l. NamesLater n e (entries_from e l) in
     subst P (sym (schemas-object ms)) (keywords-later n e ms (omega (arith, l, own)), inside)
 schema-later n (suc k) s e c l = alone-later n e s refl refl
@@ -151,10 +154,10 @@ level : (A : List ℕ) (ps : List Position) (r : ℕ) (B R : List ℕ) (f : ℕ)
     → AllByRecursion (λ q. (q < f + length ps) × (get_or R q 0 ≡ r)) (count_up f (length ps))
 level A [] r B R f e l = tt
 level A (P ∷ ps) r B R f e l = (
-    (omega arith, stands A r (map (λ p. r) ps ++ B) R f e l),
-    all-weaker _ _ (count_up (suc f) (length ps)) (λ q h. (omega (arith, h.0), h.1))
+  (omega arith, stands A r (map (λ p. r) ps ++ B) R f e l),
+  all-weaker _ _ (count_up (suc f) (length ps)) (λ q h. (omega (arith, h.0), h.1))
       (level (A ++ r ∷ []) ps r B R (suc f) (pushed A r _ R e) (pushed-length A r f l)),
-  )
+)
 
 level-good : (l : ℕ) (A : List ℕ) (ps : List Position) (r : ℕ) (B R : List ℕ) (f : ℕ) → R ≡ A ++ (map (λ p. r) ps ++ B) → f ≡ length A
     → AllByRecursion (λ P. AllByRecursion (λ q. (q < l) × (get_or R q 0 < r)) (in_place P)) ps → Good l R f ps
@@ -173,8 +176,13 @@ pub length-node_ranks : (xs : List Entry) → length (node_ranks xs) ≡ length 
 length-node_ranks [] = refl
 length-node_ranks (x ∷ xs) =
     let own = length-map (nodes_of x) (λ p. 2 * suc (length xs)) in
-    omega (arith, length-node_ranks xs, own, length-append (map (λ p. 2 * suc (length xs)) (nodes_of x)) (node_ranks xs),
-      length-append (nodes_of x) (flat_map nodes_of xs))
+    omega (
+      arith,
+      length-node_ranks xs,
+      own,
+      length-append (map (λ p. 2 * suc (length xs)) (nodes_of x)) (node_ranks xs),
+      length-append (nodes_of x) (flat_map nodes_of xs),
+    )
 
 -- the entries: each names its own positions, whose rank is one less
 entries-good : (l : ℕ) (A B : List ℕ) (xs : List Entry) (R : List ℕ) (e f : ℕ)
@@ -187,23 +195,23 @@ entries-good l A B (x ∷ xs) R e f r k m b =
     let E = entry_ranks xs in
     let own = stands A (suc c) (E ++ (B ++ (N ++ node_ranks xs))) R e r k in
     let nodes : R ≡ (A ++ suc c ∷ (E ++ B)) ++ (N ++ node_ranks xs) =
-      r ∙ sym (append_assoc A (suc c ∷ (E ++ B)) (N ++ node_ranks xs) ∙ ap (λ l. A ++ suc c ∷ l) (append_assoc E B (N ++ node_ranks xs))) in
+    r ∙ sym (append_assoc A (suc c ∷ (E ++ B)) (N ++ node_ranks xs) ∙ ap (λ l. A ++ suc c ∷ l) (append_assoc E B (N ++ node_ranks xs))) in
     let later : R ≡ (A ++ suc c ∷ []) ++ (E ++ ((B ++ N) ++ node_ranks xs)) =
-      r ∙ sym (append_assoc A (suc c ∷ []) (E ++ ((B ++ N) ++ node_ranks xs)) ∙ ap (λ l. A ++ suc c ∷ (E ++ l)) (append_assoc B N (node_ranks xs))) in
+    r ∙ sym (append_assoc A (suc c ∷ []) (E ++ ((B ++ N) ++ node_ranks xs)) ∙ ap (λ l. A ++ suc c ∷ (E ++ l)) (append_assoc B N (node_ranks xs))) in
     let before : f ≡ length (A ++ suc c ∷ (E ++ B)) =
-      omega (arith, m, length-append A (suc c ∷ (E ++ B)), length-append E B, length-entry_ranks xs) in
+    omega (arith, m, length-append A (suc c ∷ (E ++ B)), length-append E B, length-entry_ranks xs) in
     let more = length-append (nodes_of x) (flat_map nodes_of xs) in
     let same = length-map (nodes_of x) (λ p. c) in (
       named x (all-weaker _ _ (count_up f (length (nodes_of x))) (λ q h. (omega (arith, h.0, b, more), omega (arith, h.1, own)))
-        (level _ (nodes_of x) c (node_ranks xs) R f nodes before)),
+          (level _ (nodes_of x) c (node_ranks xs) R f nodes before)),
       entries-good l (A ++ suc c ∷ []) (B ++ N) xs R (suc e) (f + length (nodes_of x)) later (pushed-length A (suc c) e k)
-        (omega (arith, m, same, length-append A (suc c ∷ []), length-append B N)) (omega (arith, b, more)),
+          (omega (arith, m, same, length-append A (suc c ∷ []), length-append B N)) (omega (arith, b, more)),
     ) where
-  named : (x : Entry) → AllByRecursion (λ q. (q < l) × (get_or R q 0 < get_or R e 0)) (count_up f (length (nodes_of x)))
-      → AllByRecursion (λ q. (q < l) × (get_or R q 0 < get_or R e 0)) (in_place (entry_position f x))
-  named (Constant true) h = tt
-  named (Constant false) h = tt
-  named (Keywords ps) h = h
+      named : (x : Entry) → AllByRecursion (λ q. (q < l) × (get_or R q 0 < get_or R e 0)) (count_up f (length (nodes_of x)))
+          → AllByRecursion (λ q. (q < l) × (get_or R q 0 < get_or R e 0)) (in_place (entry_position f x))
+      named (Constant true) h = tt
+      named (Constant false) h = tt
+      named (Keywords ps) h = h
 
 entry-rank : (xs : List Entry) (B : List ℕ) (q : ℕ) → q < length xs → get_or (entry_ranks xs ++ B) q 0 ≡ suc (2 * (length xs - q))
 entry-rank [] B q l = absurd (omega (arith, l))
@@ -221,10 +229,10 @@ nodes-good l n R b entry A (x ∷ xs) e f r k m h =
     let same = length-map (nodes_of x) (λ p. c) in
     good-append l R f (f + length (nodes_of x)) (nodes_of x) (flat_map nodes_of xs) refl
     (level-good l A (nodes_of x) c (node_ranks xs) R f r k
-      (all-weaker _ _ (nodes_of x) (λ P g. all-weaker _ _ (in_place P)
-        (λ q i. (omega (arith, i.1, b), omega (arith, i.0, i.1, entry q i.1, m))) g) h.0))
+    (all-weaker _ _ (nodes_of x) (λ P g. all-weaker _ _ (in_place P)
+    (λ q i. (omega (arith, i.1, b), omega (arith, i.0, i.1, entry q i.1, m))) g) h.0))
     (nodes-good l n R b entry (A ++ N) xs (suc e) (f + length (nodes_of x)) (r ∙ sym (append_assoc A N (node_ranks xs)))
-      (omega (arith, k, same, length-append A N)) (omega (arith, m)) h.1)
+    (omega (arith, k, same, length-append A N)) (omega (arith, m)) h.1)
 
 good-below : (l : ℕ) (R : List ℕ) (p : ℕ) (Ps : List Position) → Good l R p Ps → every (names_below l) Ps ≡ true
 good-below l R p [] h = refl
@@ -247,10 +255,10 @@ laid_out-table xs h =
     let R = entry_ranks xs ++ node_ranks xs in
     let many = length-laid_out xs in
     let good : Good l R 0 (laid_out xs) =
-      good-append l R 0 (length xs) (entry_positions (length xs) xs) (flat_map nodes_of xs) (omega (arith, length-entry_positions (length xs) xs))
-      (entries-good l [] [] xs R 0 (length xs) refl refl (omega arith) (omega (arith, many)))
-      (nodes-good l (length xs) R (omega (arith, many)) (entry-rank xs (node_ranks xs)) (entry_ranks xs) xs 0 (length xs) refl
-        (sym (length-entry_ranks xs)) (omega arith) h) in
+    good-append l R 0 (length xs) (entry_positions (length xs) xs) (flat_map nodes_of xs) (omega (arith, length-entry_positions (length xs) xs))
+    (entries-good l [] [] xs R 0 (length xs) refl refl (omega arith) (omega (arith, many)))
+    (nodes-good l (length xs) R (omega (arith, many)) (entry-rank xs (node_ranks xs)) (entry_ranks xs) xs 0 (length xs) refl
+    (sym (length-entry_ranks xs)) (omega arith) h) in
     let same : l ≡ length R = omega (arith, many, length-append (entry_ranks xs) (node_ranks xs), length-entry_ranks xs, length-node_ranks xs) in
     and_from _ _ (and_from _ _ (eq-eqb _ _ same) (good-below l R 0 (laid_out xs) good)) (good-falls l R 0 (laid_out xs) good)
 

@@ -45,14 +45,14 @@ has-within A B (x ∷ xs) T e f t l m =
     let Ps = entry_positions (f + length N) xs in
     let rest = flat_map nodes_of xs in
     let before : f ≡ length (A ++ P ∷ (Ps ++ B)) =
-      omega (arith, m, length-append A (P ∷ (Ps ++ B)), length-append Ps B, length-entry_positions (f + length N) xs) in
+    omega (arith, m, length-append A (P ∷ (Ps ++ B)), length-append Ps B, length-entry_positions (f + length N) xs) in
     let nodes : T ≡ (A ++ P ∷ (Ps ++ B)) ++ (N ++ rest) =
-      t ∙ sym (append_assoc A (P ∷ (Ps ++ B)) (N ++ rest) ∙ ap (λ l. A ++ P ∷ l) (append_assoc Ps B (N ++ rest))) in
+    t ∙ sym (append_assoc A (P ∷ (Ps ++ B)) (N ++ rest) ∙ ap (λ l. A ++ P ∷ l) (append_assoc Ps B (N ++ rest))) in
     let later : T ≡ (A ++ P ∷ []) ++ (Ps ++ ((B ++ N) ++ rest)) =
-      t ∙ sym (append_assoc A (P ∷ []) (Ps ++ ((B ++ N) ++ rest)) ∙ ap (λ l. A ++ P ∷ (Ps ++ l)) (append_assoc B N rest)) in (
+    t ∙ sym (append_assoc A (P ∷ []) (Ps ++ ((B ++ N) ++ rest)) ∙ ap (λ l. A ++ P ∷ (Ps ++ l)) (append_assoc B N rest)) in (
       record { first = f; entry = stands A P _ T e t l; nodes = stand _ N rest T f nodes before },
       has-within (A ++ P ∷ []) (B ++ N) xs T (suc e) (f + length N) later (omega (arith, l, length-append A (P ∷ [])))
-        (omega (arith, m, length-append A (P ∷ []), length-append B N)),
+          (omega (arith, m, length-append A (P ∷ []), length-append B N)),
     )
 
 pub has-laid_out : (xs : List Entry) → HasEach (laid_out xs) 0 xs

@@ -2,5 +2,6 @@
 pub mod Keywords
 pub mod Places
 pub mod Table
--- Used inside: words of the program's text.
+-- Used inside: what the walk does, and words of the program.
+pub mod Walk
 pub mod Words

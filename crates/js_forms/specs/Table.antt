@@ -51,7 +51,7 @@ keyword_nodes e ms =
     ++ (all_node e (lookup (codes "allOf") ms)
     ++ (any_node (after e (values (lookup (codes "allOf") ms))) (lookup (codes "anyOf") ms)
     ++ not_node (after (after e (values (lookup (codes "allOf") ms))) (values (lookup (codes "anyOf") ms)))
-        (lookup (codes "not") ms)))
+    (lookup (codes "not") ms)))
 
 -- a place in the table: one that accepts everything or nothing, or one that asks for all of its keywords' positions
 pub data Entry : Type 0 where

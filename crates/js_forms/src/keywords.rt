@@ -16,10 +16,33 @@ use crate::words::{is_one_of, is_word, keyword};
 use js_doc::{Json, JsonList, JsonMap, Str};
 
 const UNREAD: [&str; 27] = [
-    "$ref", "$id", "enum", "const", "multipleOf", "minimum", "maximum", "exclusiveMinimum",
-    "exclusiveMaximum", "minLength", "maxLength", "pattern", "items", "additionalItems", "contains",
-    "minItems", "maxItems", "uniqueItems", "required", "properties", "patternProperties",
-    "additionalProperties", "propertyNames", "dependencies", "minProperties", "maxProperties", "oneOf",
+    "$ref",
+    "$id",
+    "enum",
+    "const",
+    "multipleOf",
+    "minimum",
+    "maximum",
+    "exclusiveMinimum",
+    "exclusiveMaximum",
+    "minLength",
+    "maxLength",
+    "pattern",
+    "items",
+    "additionalItems",
+    "contains",
+    "minItems",
+    "maxItems",
+    "uniqueItems",
+    "required",
+    "properties",
+    "patternProperties",
+    "additionalProperties",
+    "propertyNames",
+    "dependencies",
+    "minProperties",
+    "maxProperties",
+    "oneOf",
 ];
 
 fn is_unread_word(name: &str) -> bool

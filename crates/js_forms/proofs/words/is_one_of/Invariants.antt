@@ -7,4 +7,4 @@ abbrev pub invariant-loop-word : goal.invariant-loop-word
 invariant-loop-word l =
     (every (λ w. is_ascii w.now) (drop l.word-index l.words) ≡ true)
     × (some (same_word (chars l.text)) (map (λ w. w.now) (drop l.word-index l.words))
-      ≡ some (same_word (chars l.fn.text)) (map (λ w. w.now) l.fn.words))
+    ≡ some (same_word (chars l.fn.text)) (map (λ w. w.now) l.fn.words))
