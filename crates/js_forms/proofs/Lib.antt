@@ -8,4 +8,6 @@ pub mod KeywordsLemmas
 pub mod WalkLaws
 pub mod Reading
 pub mod Sizes
+pub mod Small
+pub mod LayoutLemmas
 mod Examples

@@ -7,9 +7,9 @@ use Rattle.std.proofs.lemmas.Grind.{flat_map-append}
 use Rattle.documents.specs.Json.{Json, null, boolean, number, not_whole, string, array, object, Members, lookup}
 use Rattle.validity.specs.Validity.{listed}
 use Rattle.js_forms.specs.Keywords.{is_object_or_boolean}
-use Rattle.js_forms.specs.Places.{places_from, sub_schemas, numbered, under_list, under_value, weight, most_weight, first_unread, told_at, fault_at, fault_after}
+use Rattle.js_forms.specs.Places.{places_from, sub_schemas, numbered, under_list, under_value, weight, most_weight, first_unread, told_at, fault_at, fault_after, first_fault}
 use Rattle.js_forms.specs.Table.{Entry, Constant, Keywords, entry_of, entries_from, schemas, numbers, after, values, types_node, all_node, any_node, not_node, keyword_nodes}
-use Rattle.js_forms.specs.Walk.{State, at_pointer, weights, Reads, TellsFault, ReadsOrTells, EntersOrTells, Tells, lower}
+use Rattle.js_forms.specs.Walk.{State, start, at_pointer, weights, Reads, TellsFault, ReadsOrTells, EntersOrTells, Tells, lower}
 use Rattle.js_forms.specs.declared.fault.FormsFault.{FormsFault}
 use Rattle.js_forms.specs.declared.fault.FormsFault.TheVariants.{NotYet, Memory}
 use Rattle.positions.specs.Position.{Position}
@@ -38,13 +38,13 @@ told-out a d (Err f) e cs i h = let F : FormsFault → Type 0 = λ f. TellsFault
 pub reads-entered : (a d : State) (r : Result (Unit {0}) FormsFault) (s : Json) (x : Entry) → fault_at a.pointer s ≡ None
     → entry_of (length a.entries) s ≡ x → EntersOrTells a d r (weight s) x → ReadsOrTells a d r ((a.pointer, s) ∷ [])
 reads-entered a d (Ok u) s x f e (l, p, w, es) = (
-    record {
-      faultless = goes-on a.weight a.pointer s [] f l;
-      weight = w ∙ omega arith;
-      entries = es ∙ ap (λ y. a.entries ++ y ∷ []) (sym e);
-    },
-    p,
-  )
+  record {
+    faultless = goes-on a.weight a.pointer s [] f l;
+    weight = w ∙ omega arith;
+    entries = es ∙ ap (λ y. a.entries ++ y ∷ []) (sym e);
+  },
+  p,
+)
 reads-entered a d (Err (NotYet q)) s x f e (l, p) = tells-large a.weight a.pointer s [] f l ∙ ap Some (sym p)
 reads-entered a d (Err Memory) s x f e h = tt
 
@@ -72,7 +72,7 @@ pub tells-place : (a : State) (e : FormsFault) (s : Json) → false ≡ is_objec
 tells-place a e s n is =
     let F : FormsFault → Type 0 = λ e. TellsFault a e (places_from a.pointer s) in
     subst F (sym is) (ap (fault_after a.weight) (places_from-step a.pointer s)
-      ∙ tells-here a.weight a.pointer s (lower a.pointer (sub_schemas s)) a.pointer (neither a.pointer s n))
+    ∙ tells-here a.weight a.pointer s (lower a.pointer (sub_schemas s)) a.pointer (neither a.pointer s n))
 
 -- the values at the places under a pointer
 values_of-lower : (p : List (List ℕ)) (cs : List (List (List ℕ) × Json)) → values_of (lower p cs) ≡ flat_map schemas (values_of cs)
@@ -90,8 +90,14 @@ pub next-after : (a b : State) (p : List (List ℕ)) (cs : List (List (List ℕ)
     → Reads a b (lower p cs) → length b.entries ≡ after (length a.entries) ss
 next-after a b p cs ss e r =
     let n = length a.entries in
-    omega (arith, ap length r.entries, length-append a.entries (entries_from n (values_of (lower p cs))),
-      length-entries_from n (values_of (lower p cs)), ap length (values_of-lower p cs ∙ ap (flat_map schemas) e), after-length n ss)
+    omega (
+      arith,
+      ap length r.entries,
+      length-append a.entries (entries_from n (values_of (lower p cs))),
+      length-entries_from n (values_of (lower p cs)),
+      ap length (values_of-lower p cs ∙ ap (flat_map schemas) e),
+      after-length n ss,
+    )
 
 -- a list of schemas, one after another
 
@@ -126,7 +132,7 @@ lower-more p name ss s =
     let at : ℕ → List (List ℕ) = λ n. p ++ (name ∷ decimal n ∷ []) in
     ap (lower p) (numbered-more name 0 ss s) ∙ lower-append p (numbered name 0 ss) _
     ∙ ap (λ l. lower p (numbered name 0 ss) ++ l) (append-nil (places_from (p ++ (name ∷ decimal (0 + length ss) ∷ [])) s)
-      ∙ ap (λ q. places_from q s) (ap at k ∙ sym (append_assoc p (name ∷ []) (decimal (length ss) ∷ []))))
+    ∙ ap (λ q. places_from q s) (ap at k ∙ sym (append_assoc p (name ∷ []) (decimal (length ss) ∷ []))))
 
 -- the walk is below the name of a list, whose schemas so far are read, with their entries
 pub record ReadsList (a b : State) (name : List ℕ) (made : List ℕ) (ss : List Json) : Type 0 where
@@ -157,15 +163,15 @@ module _ (a b c : State) (name : List ℕ) (made : List ℕ) (ss : List Json) (s
   list-more d f (g, same) up all e =
       let F : List (List (List ℕ) × Json) → Type 0 = λ cs. Reads a d cs in
       let h : Reads a d (lower a.pointer (numbered name 0 (ss ++ s ∷ []))) =
-        subst F (ap (λ p. lower a.pointer (numbered name 0 ss) ++ places_from p s) at_place ∙ sym (lower-more a.pointer name ss s))
-          (reads-more _ _ so_far g) in
+      subst F (ap (λ p. lower a.pointer (numbered name 0 ss) ++ places_from p s) at_place ∙ sym (lower-more a.pointer name ss s))
+      (reads-more _ _ so_far g) in
       let lifted = up (a.pointer ++ name ∷ []) (decimal (length ss)) (same ∙ at_place) in
       let G : State → Type 0 = λ f. ReadsList a f name all (ss ++ s ∷ []) in
       subst G (sym lifted) (record {
         reads = record { faultless = h.faultless; weight = h.weight; entries = h.entries };
         below = refl;
         numbered = e ∙ ap₂ (λ l n. l ++ n ∷ []) r.numbered (ap (λ s. length s.entries) down ∙ next-after a b a.pointer (numbered name 0 ss) ss (values_of-numbered name 0 ss) r.reads)
-          ∙ sym (numbers-more (length a.entries) ss s);
+            ∙ sym (numbers-more (length a.entries) ss s);
       })
 
   pub list-tells : (e : FormsFault) (ts : List Json) → TellsFault c e (places_from c.pointer s)
@@ -173,10 +179,10 @@ module _ (a b c : State) (name : List ℕ) (made : List ℕ) (ss : List Json) (s
   list-tells e ts t =
       let F : List (List (List ℕ) × Json) → Type 0 = λ cs. TellsFault a e cs in
       let h : TellsFault a e (lower a.pointer (numbered name 0 (ss ++ s ∷ []))) =
-        subst F (ap (λ p. lower a.pointer (numbered name 0 ss) ++ places_from p s) at_place ∙ sym (lower-more a.pointer name ss s))
-          (told-later a c e _ _ so_far t) in
+      subst F (ap (λ p. lower a.pointer (numbered name 0 ss) ++ places_from p s) at_place ∙ sym (lower-more a.pointer name ss s))
+      (told-later a c e _ _ so_far t) in
       subst F (sym (ap (lower a.pointer) (numbered-append name 0 (ss ++ s ∷ []) ts) ∙ lower-append a.pointer (numbered name 0 (ss ++ s ∷ [])) _))
-        (told-first a e _ _ h)
+      (told-first a e _ _ h)
 
 -- the walk comes up from the list
 pub list-all : (a b c : State) (name : List ℕ) (made : List ℕ) (ss : List Json) → ReadsList a b name made ss
@@ -211,39 +217,39 @@ module _ (a : State) (ms : Members) where
 
   module _ (b : State) (w : ℕ) (x : Entry) (u : first_unread ms ≡ None) (k : w ≡ weight (object ms))
       (h : (a.weight + w ≤ most_weight) × (b.pointer ≡ a.pointer) × (b.weight ≡ a.weight + w) × (b.entries ≡ a.entries ++ x ∷ []))
-      where
-    entered : fault_after a.weight (places_from a.pointer (object ms)) ≡ fault_after b.weight (lower b.pointer (sub_schemas (object ms)))
-    entered =
-        ap (fault_after a.weight) step ∙ goes-on a.weight a.pointer (object ms) inside (ap (told_at a.pointer) u) (omega (arith, h.0, k))
-        ∙ ap₂ (λ w p. fault_after w (lower p (sub_schemas (object ms)))) (sym (h.2 ∙ ap (λ w. a.weight + w) k)) (sym h.1)
+    where
+      entered : fault_after a.weight (places_from a.pointer (object ms)) ≡ fault_after b.weight (lower b.pointer (sub_schemas (object ms)))
+      entered =
+          ap (fault_after a.weight) step ∙ goes-on a.weight a.pointer (object ms) inside (ap (told_at a.pointer) u) (omega (arith, h.0, k))
+          ∙ ap₂ (λ w p. fault_after w (lower p (sub_schemas (object ms)))) (sym (h.2 ∙ ap (λ w. a.weight + w) k)) (sym h.1)
 
-    pub tells-inside : (e : FormsFault) → TellsFault b e (lower b.pointer (sub_schemas (object ms))) → TellsFault a e (places_from a.pointer (object ms))
-    tells-inside (NotYet q) t = entered ∙ t
-    tells-inside Memory t = tt
+      pub tells-inside : (e : FormsFault) → TellsFault b e (lower b.pointer (sub_schemas (object ms))) → TellsFault a e (places_from a.pointer (object ms))
+      tells-inside (NotYet q) t = entered ∙ t
+      tells-inside Memory t = tt
 
-    -- the entry is completed when the schemas in it are read
-    pub reads-object : (c d : State) (e : ℕ) (nodes : List Position) → e ≡ length a.entries
-        → Reads b c (lower b.pointer (sub_schemas (object ms))) × (c.pointer ≡ b.pointer) → nodes ≡ keyword_nodes (length b.entries) ms
-        → d ≡ (let s : State = record c { entries = slice_set c.entries e (Keywords nodes) } in s)
-        → Reads a d (places_from a.pointer (object ms)) × (d.pointer ≡ a.pointer)
-    reads-object c d e nodes l (r, p) is done =
-        let later = values_of (lower b.pointer (sub_schemas (object ms))) in
-        let all : values_of (places_from a.pointer (object ms)) ≡ object ms ∷ later =
+      -- the entry is completed when the schemas in it are read
+      pub reads-object : (c d : State) (e : ℕ) (nodes : List Position) → e ≡ length a.entries
+          → Reads b c (lower b.pointer (sub_schemas (object ms))) × (c.pointer ≡ b.pointer) → nodes ≡ keyword_nodes (length b.entries) ms
+          → d ≡ (let s : State = record c { entries = slice_set c.entries e (Keywords nodes) } in s)
+          → Reads a d (places_from a.pointer (object ms)) × (d.pointer ≡ a.pointer)
+      reads-object c d e nodes l (r, p) is done =
+          let later = values_of (lower b.pointer (sub_schemas (object ms))) in
+          let all : values_of (places_from a.pointer (object ms)) ≡ object ms ∷ later =
           ap values_of step ∙ ap (λ p. object ms ∷ values_of (lower p (sub_schemas (object ms)))) (sym h.1) in
-        let next : length b.entries ≡ suc (length a.entries) = omega (arith, ap length h.3, length-append a.entries (x ∷ [])) in (
-          record {
-            faultless = entered ∙ r.faultless;
-            weight = ap (λ s. s.weight) done ∙ r.weight ∙ omega (arith, h.2, k, ap weights all);
-            entries =
-              ap (λ s. s.entries) done
-              ∙ ap₂ (λ es i. slice_set es i (Keywords nodes)) (r.entries ∙ ap (λ es. es ++ entries_from (length b.entries) later) h.3
-                ∙ append_assoc a.entries (x ∷ []) (entries_from (length b.entries) later)) l
-              ∙ set-append_seam a.entries x (entries_from (length b.entries) later) (Keywords nodes)
-              ∙ ap₂ (λ k ns. a.entries ++ Keywords ns ∷ entries_from k later) next (is ∙ ap (λ k. keyword_nodes k ms) next)
-              ∙ ap (λ ss. a.entries ++ entries_from (length a.entries) ss) (sym all);
-          },
-          ap (λ s. s.pointer) done ∙ p ∙ h.1,
-        )
+          let next : length b.entries ≡ suc (length a.entries) = omega (arith, ap length h.3, length-append a.entries (x ∷ [])) in (
+            record {
+              faultless = entered ∙ r.faultless;
+              weight = ap (λ s. s.weight) done ∙ r.weight ∙ omega (arith, h.2, k, ap weights all);
+              entries =
+                  ap (λ s. s.entries) done
+                  ∙ ap₂ (λ es i. slice_set es i (Keywords nodes)) (r.entries ∙ ap (λ es. es ++ entries_from (length b.entries) later) h.3
+                  ∙ append_assoc a.entries (x ∷ []) (entries_from (length b.entries) later)) l
+                  ∙ set-append_seam a.entries x (entries_from (length b.entries) later) (Keywords nodes)
+                  ∙ ap₂ (λ k ns. a.entries ++ Keywords ns ∷ entries_from k later) next (is ∙ ap (λ k. keyword_nodes k ms) next)
+                  ∙ ap (λ ss. a.entries ++ entries_from (length a.entries) ss) (sym all);
+            },
+            ap (λ s. s.pointer) done ∙ p ∙ h.1,
+          )
 
 -- an object's keywords, one after another
 
@@ -303,3 +309,11 @@ nodes-all ms a b c l m n o p r s none types alls anys nots =
     let e2 = next-after a b a.pointer (under_list (codes "allOf") all) (values all) (values_of-under_list _ all) r.0 in
     let e3 = next-after b c b.pointer (under_list (codes "anyOf") any) (values any) (values_of-under_list _ any) s.0 in
     rw (nots, anys, alls, types, none, append_assoc, append_assoc, e3, e2) refl
+
+-- the whole schema
+
+pub read-whole : (a b : State) (s : Json) → a ≡ start → Reads a b (places_from a.pointer s)
+    → (first_fault s ≡ None) × (b.entries ≡ entries_from 0 (schemas s))
+read-whole a b s e r =
+    let F : State → Type 0 = λ a. Reads a b (places_from a.pointer s) in
+    let g : Reads start b (places_from [] s) = subst F e r in (g.faultless, g.entries)

@@ -102,5 +102,8 @@ abbrev pub node_ranks : List Entry → List ℕ
 node_ranks [] = []
 node_ranks (x ∷ xs) = map (λ p. 2 * suc (length xs)) (nodes_of x) ++ node_ranks xs
 
+abbrev pub ranks : List Entry → List ℕ
+ranks xs = entry_ranks xs ++ node_ranks xs
+
 abbrev pub ranks_of : Json → List ℕ
-ranks_of s = entry_ranks (entries_from 0 (schemas s)) ++ node_ranks (entries_from 0 (schemas s))
+ranks_of s = ranks (entries_from 0 (schemas s))

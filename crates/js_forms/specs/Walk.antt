@@ -21,6 +21,10 @@ pub record State : Type 0 where
   pub weight : ℕ
   pub entries : List T.Entry
 
+-- the walk before the first place
+abbrev pub start : State
+start = record { pointer = []; weight = 0; entries = [] }
+
 -- the walk at another place
 abbrev pub at_pointer : State → List (List ℕ) → State
 at_pointer s p = record s { pointer = p }

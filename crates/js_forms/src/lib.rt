@@ -3,9 +3,12 @@
 
 mod entry;
 mod fault;
+mod forms;
 mod keywords;
 mod kinds;
+mod layout;
 mod walk;
 mod words;
 
 pub use fault::FormsFault;
+pub use forms::read_forms;

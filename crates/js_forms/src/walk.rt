@@ -10,7 +10,7 @@ ghost use Rattle.js_algebra.specs.View.{node_view, places};
 ghost use Rattle.js_forms.specs.Words.{is_ascii};
 ghost use Rattle.js_forms.specs.Places.{places_from, sub_schemas, numbered, under_list, under_value};
 ghost use Rattle.js_forms.specs.Table as T;
-ghost use Rattle.js_forms.specs.Walk.{at_pointer, entry_view, EntersOrTells, ReadsOrTells, Tells, lower};
+ghost use Rattle.js_forms.specs.Walk.{start, at_pointer, entry_view, EntersOrTells, ReadsOrTells, Tells, lower};
 ghost use Rattle.js_forms.specs.declared.fault.FormsFault.TheVariants as F;
 
 use crate::entry::Entry;
@@ -38,7 +38,7 @@ pub(crate) struct Walk {
 
 impl Model for Walk {
     ghost use Rattle.std.specs.Prelude.{◌≤◌, map, length};
-    ghost use Rattle.js_forms.specs.Walk.{at_pointer, State, entry_view};
+    ghost use Rattle.js_forms.specs.Walk.{State, entry_view};
 
     ghost Value = { State };
 
@@ -50,7 +50,7 @@ impl Model for Walk {
 
 impl Walk {
     pub(crate) fn new(alloc: Global) -> Walk
-        ensures { result ≡ record { pointer = []; weight = 0; entries = [] } }
+        ensures { result ≡ start }
     {
         Walk {
             alloc,

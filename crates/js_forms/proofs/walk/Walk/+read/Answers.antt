@@ -12,17 +12,25 @@ use Rattle.js_forms.proofs.walk.Walk.+read.Goals as goal
 
 pub read_all-read_list-requires : goal.read_all-read_list-requires
 read_all-read_list-requires t c = (
-    omega (arith, c.decreases, list-count (codes "allOf") (map_view c.args.members.now) (view c.in-Some.value.now) (map view c.listed.result.now)
-      c.in-Some.ensures c.listed.ensures),
-    refl,
-  )
+  omega (
+    arith,
+    c.decreases,
+    list-count (codes "allOf") (map_view c.args.members.now) (view c.in-Some.value.now) (map view c.listed.result.now)
+        c.in-Some.ensures c.listed.ensures,
+  ),
+  refl,
+)
 
 pub read_any-read_list-requires : goal.read_any-read_list-requires
 read_any-read_list-requires t c = (
-    omega (arith, c.decreases, list-count (codes "anyOf") (map_view c.args.members.now) (view c.in-Some.value.now) (map view c.listed.result.now)
-      c.in-Some.ensures c.listed.ensures),
-    refl,
-  )
+  omega (
+    arith,
+    c.decreases,
+    list-count (codes "anyOf") (map_view c.args.members.now) (view c.in-Some.value.now) (map view c.listed.result.now)
+        c.in-Some.ensures c.listed.ensures,
+  ),
+  refl,
+)
 
 pub read_keywords-returns-in_err-read_all-clause-walk :
     goal.read_keywords-returns-in_err-read_all-clause-walk
@@ -58,9 +66,9 @@ read_keywords-returns-clause-nodes t c =
 
 pub read_list-read_schema-requires : goal.read_list-read_schema-requires
 read_list-read_schema-requires t c = (
-    omega (arith, element-count c.args.schemas.now c.loop-i.i c.index-schemas-i.result c.loop-i-test.true c.index-schemas-i.is),
-    tt,
-  )
+  omega (arith, element-count c.args.schemas.now c.loop-i.i c.index-schemas-i.result c.loop-i-test.true c.index-schemas-i.is),
+  tt,
+)
 
 pub read_list-returns-in_err-read_schema-clause-walk :
     goal.read_list-returns-in_err-read_schema-clause-walk
@@ -69,21 +77,21 @@ read_list-returns-in_err-read_schema-clause-walk t c =
     let F : List D.Json → Type 0 = λ ss. TellsFault c.args.self.now c.in_err-read_schema.field-0.0 (lower c.args.self.now.pointer (numbered c.args.word.now 0 ss)) in
     R.told-out _ _ _ _ _ c.from_residual-in_err-read_schema.ensures.1
     (subst F (sym all) (R.list-tells _ _ _ _ _ _ (view c.index-schemas-i.result) c.loop-i.i c.loop-i.invariant
-      (taken-length c.args.schemas.now c.loop-i.i c.loop-i-test.true) c.in_ok-descend_to.ensures _ _ c.in_err-read_schema.ensures))
+    (taken-length c.args.schemas.now c.loop-i.i c.loop-i-test.true) c.in_ok-descend_to.ensures _ _ c.in_err-read_schema.ensures))
 
 pub read_list-loop-i-preserved : goal.read_list-loop-i-preserved
 read_list-loop-i-preserved t c =
     let more = taken c.args.schemas.now c.loop-i.i c.index-schemas-i.result c.loop-i-test.true c.index-schemas-i.is in
     let F : List D.Json → Type 0 = R.ReadsList c.args.self.now c.ascend.new.self c.args.word.now (places c.push.new.self.items) in
     subst F (sym more) (R.list-more _ _ _ _ _ _ (view c.index-schemas-i.result) c.loop-i.i c.loop-i.invariant
-      (taken-length c.args.schemas.now c.loop-i.i c.loop-i-test.true) c.in_ok-descend_to.ensures _ _ c.in_ok-read_schema.ensures c.ascend.ensures _
-      (ap places c.in_ok-push.ensures.items ∙ map_push _ _ _ ∙ ap (λ n. places c.loop-i.entries.items ++ n ∷ []) c.next_entry.ensures))
+    (taken-length c.args.schemas.now c.loop-i.i c.loop-i-test.true) c.in_ok-descend_to.ensures _ _ c.in_ok-read_schema.ensures c.ascend.ensures _
+    (ap places c.in_ok-push.ensures.items ∙ map_push _ _ _ ∙ ap (λ n. places c.loop-i.entries.items ++ n ∷ []) c.next_entry.ensures))
 
 pub read_not-read_schema-requires : goal.read_not-read_schema-requires
 read_not-read_schema-requires t c = (
-    omega (arith, c.decreases, value-count (codes "not") (map_view c.args.members.now) (view c.in-Some.schema.now) c.in-Some.ensures),
-    tt,
-  )
+  omega (arith, c.decreases, value-count (codes "not") (map_view c.args.members.now) (view c.in-Some.schema.now) c.in-Some.ensures),
+  tt,
+)
 
 pub read_object-returns-in-Some : goal.read_object-returns-in-Some
 read_object-returns-in-Some t c =
@@ -91,12 +99,12 @@ read_object-returns-in-Some t c =
 
 pub read_object-returns-in_err-enter : goal.read_object-returns-in_err-enter
 read_object-returns-in_err-enter t c =
-    R.told-out _ _ _ _ _ c.from_residual.ensures.1 
+    R.told-out _ _ _ _ _ c.from_residual.ensures.1
     (R.tells-entered c.args.self.now (map_view c.args.members.now) c.enter.new.self _ _ _ (sym c.in_default.ensures) c.object_weight.ensures.value c.in_err-enter.ensures)
 
 pub read_object-returns-in_err-nodes : goal.read_object-returns-in_err-nodes
 read_object-returns-in_err-nodes t c =
-    R.told-out _ _ _ _ _ c.from_residual-in_err-nodes.ensures.1 
+    R.told-out _ _ _ _ _ c.from_residual-in_err-nodes.ensures.1
     (R.tells-inside c.args.self.now (map_view c.args.members.now) c.enter.new.self _ _ (sym c.in_default.ensures) c.object_weight.ensures.value c.in_ok-enter.ensures _ c.in_err-nodes.ensures.walk)
 
 pub read_object-returns : goal.read_object-returns

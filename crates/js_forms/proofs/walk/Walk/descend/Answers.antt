@@ -6,4 +6,4 @@ use Rattle.js_forms.proofs.walk.Walk.descend.Goals as goal
 pub returns : goal.returns
 returns c =
     rw (← c.self.view_is) (pointer-same _ _ (c.in_ok-push_name.ensures.ok
-      ∙ ap (λ w. c.self.inside.pointer ++ w ∷ []) (chars-is_ascii _ c.requires)))
+    ∙ ap (λ w. c.self.inside.pointer ++ w ∷ []) (chars-is_ascii _ c.requires)))
