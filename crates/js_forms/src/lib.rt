@@ -12,3 +12,6 @@ mod words;
 
 pub use fault::FormsFault;
 pub use forms::read_forms;
+
+#[cfg(test)]
+mod tests;
