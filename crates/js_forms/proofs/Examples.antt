@@ -22,7 +22,8 @@ unfolding places_from
 table_type = refl
 
 -- kinds come in their own order
-table_types : table_of (one (codes "type") (list (word (codes "string") ∷ word (codes "null") ∷ word (codes "string") ∷ [])))
+table_types : table_of (one (codes "type")
+    (list (word (codes "string") ∷ word (codes "null") ∷ word (codes "string") ∷ [])))
     ≡ All (1 ∷ []) ∷ Types (Null ∷ Text ∷ []) ∷ []
 unfolding places_from
 table_types = refl
@@ -82,7 +83,8 @@ fault_no_list : first_fault (one (codes "allOf") (number (pos 5))) ≡ Some (cod
 unfolding places_from
 fault_no_list = refl
 
-fault_element : first_fault (one (codes "allOf") (list (number (pos 5) ∷ []))) ≡ Some (codes "allOf" ∷ decimal 0 ∷ [])
+fault_element : first_fault (one (codes "allOf") (list (number (pos 5) ∷ [])))
+    ≡ Some (codes "allOf" ∷ decimal 0 ∷ [])
 unfolding places_from
 fault_element = refl
 
@@ -91,14 +93,16 @@ unfolding places_from
 fault_not = refl
 
 -- the first of two members
-fault_reference : first_fault (object (members_of ((codes "$ref", word (codes "#")) ∷ (codes "type", word (codes "null")) ∷ [])))
+fault_reference : first_fault
+    (object (members_of ((codes "$ref", word (codes "#")) ∷ (codes "type", word (codes "null")) ∷ [])))
     ≡ Some (codes "$ref" ∷ [])
 unfolding places_from
 fault_reference = refl
 
 -- a member of a schema before the members of the schemas in it
 fault_order : first_fault (object (members_of (
-    (codes "allOf", list (one (codes "minimum") (number (pos 1)) ∷ [])) ∷ (codes "minimum", number (pos 2)) ∷ [])))
+    (codes "allOf", list (one (codes "minimum") (number (pos 1)) ∷ [])) ∷
+    (codes "minimum", number (pos 2)) ∷ [])))
     ≡ Some (codes "minimum" ∷ [])
 unfolding places_from
 fault_order = refl

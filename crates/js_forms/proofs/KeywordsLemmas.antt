@@ -10,5 +10,6 @@ made : (vs : List Json) → not (length vs == 0) ≡ is_filled (items_of (map vi
 made [] = refl
 made (v ∷ vs) = search rules
 
-pub is_filled-of : (vs : List Json) (l : Items) → items_of (map view vs) ≡ l → not (length vs == 0) ≡ is_filled l
+pub is_filled-of : (vs : List Json) (l : Items) → items_of (map view vs) ≡ l
+    → not (length vs == 0) ≡ is_filled l
 is_filled-of vs l e = made vs ∙ ap is_filled e

@@ -22,24 +22,31 @@ within (D.array ds) = let same = ap items_count (items_of-elements ds) in omega 
 within (D.object ms) = omega arith
 
 -- the value of a keyword, and the list in it
-pub value-count : (name : List ℕ) (ms : Members) (v : D.Json) → Some v ≡ lookup name ms → count v ≤ members_count ms
+pub value-count : (name : List ℕ) (ms : Members) (v : D.Json) → Some v ≡ lookup name ms
+    → count v ≤ members_count ms
 value-count name ms v e = lookup-count name ms v (sym e)
 
-pub list-count : (name : List ℕ) (ms : Members) (v : D.Json) (ss : List D.Json) → Some v ≡ lookup name ms → ss ≡ listed v
+pub list-count : (name : List ℕ) (ms : Members) (v : D.Json) (ss : List D.Json) → Some v ≡ lookup name ms
+    → ss ≡ listed v
     → items_count (items_of ss) < members_count ms
 list-count name ms v ss e l =
-    let same = ap (λ ss. items_count (items_of ss)) l in omega (arith, within v, value-count name ms v e, same)
+    let same = ap (λ ss. items_count (items_of ss)) l in
+    omega (arith, within v, value-count name ms v e, same)
 
 -- an element of a list
-pub element-count : (xs : List Json) (i : ℕ) (x : Json) → i < length xs → x ≡ get_or xs i x → count (view x) ≤ items_count (items_of (map view xs))
+pub element-count : (xs : List Json) (i : ℕ) (x : Json) → i < length xs → x ≡ get_or xs i x
+    → count (view x) ≤ items_count (items_of (map view xs))
 element-count [] i x l e = absurd (omega (arith, l))
-element-count (y ∷ xs) zero x l e = let same : count (view x) ≡ count (view y) = ap (λ x. count (view x)) e in omega (arith, same)
+element-count (y ∷ xs) zero x l e = let same : count (view x) ≡ count (view y) = ap (λ x. count (view x)) e in
+    omega (arith, same)
 element-count (y ∷ xs) (suc i) x l e = omega (arith, element-count xs i x (omega (arith, l)) e)
 
 -- the elements up to one of them, and those after it
-pub taken : (xs : List Json) (i : ℕ) (x : Json) → i < length xs → x ≡ get_or xs i x → map view (take (i + 1) xs) ≡ map view (take i xs) ++ view x ∷ []
+pub taken : (xs : List Json) (i : ℕ) (x : Json) → i < length xs → x ≡ get_or xs i x
+    → map view (take (i + 1) xs) ≡ map view (take i xs) ++ view x ∷ []
 taken xs i x l e =
-    ap (map view) (take_more xs i x l ∙ ap (λ y. take i xs ++ y ∷ []) (sym e)) ∙ map-append view (take i xs) (x ∷ [])
+    ap (map view) (take_more xs i x l ∙ ap (λ y. take i xs ++ y ∷ []) (sym e))
+    ∙ map-append view (take i xs) (x ∷ [])
 
 pub taken-length : (xs : List Json) (i : ℕ) → i < length xs → length (map view (take i xs)) ≡ i
 taken-length xs i l = length-map (take i xs) view ∙ length-take-le i xs (omega (arith, l))

@@ -3,7 +3,7 @@ use Rattle.std.proofs.Common.{◌≡◌, ℕ, suc, ◌+◌, ◌*◌, ◌≤◌, 
 use Rattle.std.proofs.lemmas.Bool.{ltb-false}
 use Rattle.documents.specs.Json.{Json, null, boolean, number, not_whole, string, array, object, Members, lookup}
 use Rattle.validity.specs.Validity.{listed}
-use Rattle.js_forms.specs.Places.{places_from, keyword_weight, weight, most_weight, fault_at, or_else, fault_after, first_fault}
+use Rattle.js_forms.specs.Places.{Pointer, Place, places_from, keyword_weight, weight, most_weight, fault_at, or_else, fault_after, first_fault}
 use Rattle.js_forms.specs.Table.{Entry, schemas, values, after, types_node, all_node, any_node, not_node, entry_of, entries_from, nodes_of, laid_out, table_of}
 use Rattle.js_forms.specs.Walk.{weights}
 use Rattle.js_forms.proofs.TableLaws.{length-entries_from}
@@ -54,7 +54,8 @@ entry-light e (object ms) =
       not-light e3 none,
     )
 
-entries-light : (e : ℕ) (ss : List Json) → length ss + length (flat_map nodes_of (entries_from e ss)) ≤ weights ss
+entries-light : (e : ℕ) (ss : List Json)
+    → length ss + length (flat_map nodes_of (entries_from e ss)) ≤ weights ss
 entries-light e [] = omega arith
 entries-light e (s ∷ ss) =
     omega (
@@ -64,14 +65,17 @@ entries-light e (s ∷ ss) =
       length-append (nodes_of (entry_of e s)) (flat_map nodes_of (entries_from (suc e) ss)),
     )
 
-faultless-light : (w : ℕ) (cs : List (List (List ℕ) × Json)) → w ≤ most_weight → fault_after w cs ≡ None
+faultless-light : (w : ℕ) (cs : List Place) → w ≤ most_weight → fault_after w cs ≡ None
     → w + weights (values_of cs) ≤ most_weight
 faultless-light w [] l e = omega (arith, l)
 faultless-light w (c ∷ cs) l e =
-    go (faultless-light (w + weight c.1) cs) (fault_at c.0 c.1) (nat_lt most_weight (w + weight c.1)) (ltb-false most_weight (w + weight c.1)) e where
-      go : (w + weight c.1 ≤ most_weight → fault_after (w + weight c.1) cs ≡ None → (w + weight c.1) + weights (values_of cs) ≤ most_weight)
-          → (f : Option (List (List ℕ))) (b : Bool) → (b ≡ false → w + weight c.1 ≤ most_weight)
-          → or_else f (cond b (Some c.0) (fault_after (w + weight c.1) cs)) ≡ None → w + (weight c.1 + weights (values_of cs)) ≤ most_weight
+    go (faultless-light (w + weight c.1) cs) (fault_at c.0 c.1) (nat_lt most_weight (w + weight c.1))
+    (ltb-false most_weight (w + weight c.1)) e where
+      go : (w + weight c.1 ≤ most_weight → fault_after (w + weight c.1) cs ≡ None
+          → (w + weight c.1) + weights (values_of cs) ≤ most_weight)
+          → (f : Option Pointer) (b : Bool) → (b ≡ false → w + weight c.1 ≤ most_weight)
+          → or_else f (cond b (Some c.0) (fault_after (w + weight c.1) cs)) ≡ None
+          → w + (weight c.1 + weights (values_of cs)) ≤ most_weight
       go more None false small e = omega (arith, more (small refl) e)
       go more None true small e = cc
       go more (Some p) b small e = cc

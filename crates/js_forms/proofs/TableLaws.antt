@@ -18,14 +18,17 @@ seam : (A : List Position) (P : Position) (B : List Position) → position_at (A
 seam [] P B = refl
 seam (Q ∷ A) P B = seam A P B
 
-stands : (A : List Position) (P : Position) (B T : List Position) (e : ℕ) → T ≡ A ++ P ∷ B → e ≡ length A → position_at T e ≡ P
+stands : (A : List Position) (P : Position) (B T : List Position) (e : ℕ) → T ≡ A ++ P ∷ B → e ≡ length A
+    → position_at T e ≡ P
 stands A P B T e t l = ap₂ position_at t l ∙ seam A P B
 
-stand : (A N B T : List Position) (f : ℕ) → T ≡ A ++ (N ++ B) → f ≡ length A → map (position_at T) (count_up f (length N)) ≡ N
+stand : (A N B T : List Position) (f : ℕ) → T ≡ A ++ (N ++ B) → f ≡ length A
+    → map (position_at T) (count_up f (length N)) ≡ N
 stand A [] B T f t l = refl
 stand A (P ∷ N) B T f t l =
     ap₂ (λ x xs. x ∷ xs) (stands A P (N ++ B) T f t l)
-    (stand (A ++ P ∷ []) N B T (suc f) (t ∙ sym (append_assoc A (P ∷ []) (N ++ B))) (ap suc l ∙ sym (length-append A (P ∷ []) ∙ omega arith)))
+    (stand (A ++ P ∷ []) N B T (suc f) (t ∙ sym (append_assoc A (P ∷ []) (N ++ B)))
+    (ap suc l ∙ sym (length-append A (P ∷ []) ∙ omega arith)))
 
 pub length-entry_positions : (f : ℕ) (xs : List Entry) → length (entry_positions f xs) ≡ length xs
 length-entry_positions f [] = refl
@@ -36,7 +39,8 @@ length-entries_from e [] = refl
 length-entries_from e (s ∷ ss) = ap suc (length-entries_from (suc e) ss)
 
 has-within : (A B : List Position) (xs : List Entry) (T : List Position) (e f : ℕ)
-    → T ≡ A ++ (entry_positions f xs ++ (B ++ flat_map nodes_of xs)) → e ≡ length A → f ≡ length A + length xs + length B
+    → T ≡ A ++ (entry_positions f xs ++ (B ++ flat_map nodes_of xs)) → e ≡ length A
+    → f ≡ length A + length xs + length B
     → HasEach T e xs
 has-within A B [] T e f t l m = tt
 has-within A B (x ∷ xs) T e f t l m =
@@ -45,13 +49,22 @@ has-within A B (x ∷ xs) T e f t l m =
     let Ps = entry_positions (f + length N) xs in
     let rest = flat_map nodes_of xs in
     let before : f ≡ length (A ++ P ∷ (Ps ++ B)) =
-    omega (arith, m, length-append A (P ∷ (Ps ++ B)), length-append Ps B, length-entry_positions (f + length N) xs) in
+    omega (
+      arith,
+      m,
+      length-append A (P ∷ (Ps ++ B)),
+      length-append Ps B,
+      length-entry_positions (f + length N) xs,
+    ) in
     let nodes : T ≡ (A ++ P ∷ (Ps ++ B)) ++ (N ++ rest) =
-    t ∙ sym (append_assoc A (P ∷ (Ps ++ B)) (N ++ rest) ∙ ap (λ l. A ++ P ∷ l) (append_assoc Ps B (N ++ rest))) in
+    t ∙ sym (append_assoc A (P ∷ (Ps ++ B)) (N ++ rest)
+    ∙ ap (λ l. A ++ P ∷ l) (append_assoc Ps B (N ++ rest))) in
     let later : T ≡ (A ++ P ∷ []) ++ (Ps ++ ((B ++ N) ++ rest)) =
-    t ∙ sym (append_assoc A (P ∷ []) (Ps ++ ((B ++ N) ++ rest)) ∙ ap (λ l. A ++ P ∷ (Ps ++ l)) (append_assoc B N rest)) in (
+    t ∙ sym (append_assoc A (P ∷ []) (Ps ++ ((B ++ N) ++ rest))
+    ∙ ap (λ l. A ++ P ∷ (Ps ++ l)) (append_assoc B N rest)) in (
       record { first = f; entry = stands A P _ T e t l; nodes = stand _ N rest T f nodes before },
-      has-within (A ++ P ∷ []) (B ++ N) xs T (suc e) (f + length N) later (omega (arith, l, length-append A (P ∷ [])))
+      has-within (A ++ P ∷ []) (B ++ N) xs T (suc e)
+          (f + length N) later (omega (arith, l, length-append A (P ∷ [])))
           (omega (arith, m, length-append A (P ∷ []), length-append B N)),
     )
 
@@ -60,9 +73,14 @@ has-laid_out xs = has-within [] [] xs (laid_out xs) 0 (length xs) refl refl (ome
 
 -- the entries of schemas that stand one after another
 
-pub has-split : (T : List Position) (xs ys : List Json) (e k : ℕ) → k ≡ e + length xs → HasEach T e (entries_from e (xs ++ ys))
+pub has-split : (T : List Position) (xs ys : List Json) (e k : ℕ) → k ≡ e + length xs
+    → HasEach T e (entries_from e (xs ++ ys))
     → HasEach T e (entries_from e xs) × HasEach T k (entries_from k ys)
-has-split T [] ys e k l h = (tt, (let same : e ≡ k = omega (arith, l) in let P : ℕ → Type 0 = λ k. HasEach T k (entries_from k ys) in subst P same h))
+has-split T [] ys e k l h = (
+  tt,
+  (let same : e ≡ k = omega (arith, l) in let P : ℕ → Type 0 = λ k. HasEach T k (entries_from k ys) in
+      subst P same h),
+)
 has-split T (x ∷ xs) ys e k l h =
     let (a, b) = has-split T xs ys (suc e) k (omega (arith, l)) h.1 in ((h.0, a), b)
 

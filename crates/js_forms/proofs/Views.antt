@@ -18,5 +18,6 @@ pub view-Bool : (b : Bool) → view (C.Bool b) ≡ boolean b
 view-Bool b = search (rules, the_lemmas)
 
 -- what is neither a boolean nor an object
-pub view-other : (j : Json) → ((b : Bool) → j ≡ C.Bool b → ⊥) → ((m : JsonMap) → j ≡ C.Members m → ⊥) → false ≡ is_object_or_boolean (view j)
+pub view-other : (j : Json) → ((b : Bool) → j ≡ C.Bool b → ⊥) → ((m : JsonMap) → j ≡ C.Members m → ⊥)
+    → false ≡ is_object_or_boolean (view j)
 view-other j f g = search (rules, the_lemmas, f, g)

@@ -1,4 +1,5 @@
--- What a reader must believe: which schemas are of the forms that are read so far, and the core table of such a schema.
+-- What a reader must believe: which schemas are of the forms that are read so far, and the core table of such
+-- a schema.
 pub mod Keywords
 pub mod Places
 pub mod Table

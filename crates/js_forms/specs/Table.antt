@@ -53,7 +53,8 @@ keyword_nodes e ms =
     ++ not_node (after (after e (values (lookup (codes "allOf") ms))) (values (lookup (codes "anyOf") ms)))
     (lookup (codes "not") ms)))
 
--- a place in the table: one that accepts everything or nothing, or one that asks for all of its keywords' positions
+-- a place in the table: one that accepts everything or nothing, or one that asks for all of its keywords'
+-- positions
 pub data Entry : Type 0 where
   Constant : Bool → Entry
   Keywords : List Position → Entry
@@ -92,7 +93,8 @@ laid_out xs = entry_positions (length xs) xs ++ flat_map nodes_of xs
 abbrev pub table_of : Json → List Position
 table_of s = laid_out (entries_from 0 (schemas s))
 
--- ranks that fall from each entry to its keywords' positions, and from these to later entries: for the last entry 3,
+-- ranks that fall from each entry to its keywords' positions, and from these to later entries: for the last
+-- entry 3,
 -- for its positions 2, and 2 more for each entry before
 abbrev pub entry_ranks : List Entry → List ℕ
 entry_ranks [] = []

@@ -122,7 +122,7 @@ impl Walk {
         Ok(())
     }
 
-    /// The number of the next entry.
+    /// The number of the next entry. Reading the weight shows the check that the number fits.
     fn next_entry(&self) -> u32
         ensures { result ≡ length self.now.entries }
     {

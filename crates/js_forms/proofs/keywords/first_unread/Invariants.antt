@@ -6,4 +6,5 @@ use Rattle.js_forms.proofs.keywords.first_unread.Given as goal
 
 abbrev pub invariant-loop-member : goal.invariant-loop-member
 invariant-loop-member l =
-    first_unread (members_of (map member_view (drop l.member-index l.member-items))) ≡ first_unread (map_view l.fn.members)
+    first_unread (members_of (map member_view (drop l.member-index l.member-items)))
+    ≡ first_unread (map_view l.fn.members)

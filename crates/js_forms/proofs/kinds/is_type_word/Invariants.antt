@@ -8,4 +8,5 @@ use Rattle.js_forms.proofs.kinds.is_type_word.Given as goal
 
 abbrev pub invariant-loop-kind : goal.invariant-loop-kind
 invariant-loop-kind l =
-    some (λ t. word_names t (view l.value)) (map kind_view (drop l.kind-index l.kind-items)) ≡ is_type_word (view l.fn.value)
+    some (λ t. word_names t (view l.value)) (map kind_view (drop l.kind-index l.kind-items))
+    ≡ is_type_word (view l.fn.value)

@@ -7,5 +7,6 @@ use Rattle.js_forms.proofs.kinds.kinds_of.Given as goal
 
 abbrev pub invariant-loop-kind : goal.invariant-loop-kind
 invariant-loop-kind l =
-    map kind_view l.named.items ++ filter (λ t. type_names t (view l.value)) (map kind_view (drop l.kind-index l.kind-items))
+    map kind_view l.named.items ++ filter (λ t. type_names t (view l.value))
+    (map kind_view (drop l.kind-index l.kind-items))
     ≡ kinds_of (view l.fn.value)

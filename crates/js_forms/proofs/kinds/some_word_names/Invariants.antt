@@ -7,4 +7,5 @@ use Rattle.js_forms.proofs.kinds.some_word_names.Given as goal
 
 abbrev pub invariant-loop-word : goal.invariant-loop-word
 invariant-loop-word l =
-    some (word_names (kind_view l.kind)) (map view (drop l.word-index l.words)) ≡ some (word_names (kind_view l.fn.kind)) (map view l.fn.words)
+    some (word_names (kind_view l.kind)) (map view (drop l.word-index l.words))
+    ≡ some (word_names (kind_view l.fn.kind)) (map view l.fn.words)

@@ -6,5 +6,6 @@ use Rattle.js_forms.proofs.layout.count_up.Goals as goal
 
 pub loop-k-preserved : goal.loop-k-preserved
 loop-k-preserved c =
-    ap places c.in_ok-push.ensures.items ∙ map_push _ _ _ ∙ ap (λ ns. ns ++ (c.args.first + c.loop-k.k) ∷ []) c.loop-k.invariant
+    ap places c.in_ok-push.ensures.items ∙ map_push _ _ _
+    ∙ ap (λ ns. ns ++ (c.args.first + c.loop-k.k) ∷ []) c.loop-k.invariant
     ∙ sym (count_up-more c.args.first c.loop-k.k)

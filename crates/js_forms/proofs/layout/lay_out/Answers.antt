@@ -8,12 +8,24 @@ use Rattle.js_forms.proofs.layout.lay_out.Goals as goal
 pub push_entry_ranks-requires : goal.push_entry_ranks-requires
 push_entry_ranks-requires c =
     let es = c.args.entries.items in
-    omega (arith, ap length c.as_slice.ensures.value, length-laid_out (map entry_view es), length-map es entry_view, c.requires.small)
+    omega (
+      arith,
+      ap length c.as_slice.ensures.value,
+      length-laid_out (map entry_view es),
+      length-map es entry_view,
+      c.requires.small,
+    )
 
 pub push_node_ranks-requires : goal.push_node_ranks-requires
 push_node_ranks-requires c =
     let es = c.args.entries.items in
-    omega (arith, ap length c.as_slice-2.ensures.value, length-laid_out (map entry_view es), length-map es entry_view, c.requires.small)
+    omega (
+      arith,
+      ap length c.as_slice-2.ensures.value,
+      length-laid_out (map entry_view es),
+      length-map es entry_view,
+      c.requires.small,
+    )
 
 pub entry_nodes-requires : goal.entry_nodes-requires
 entry_nodes-requires c =

@@ -10,4 +10,5 @@ loop-i-preserved c =
     let i = c.loop-i.i in
     let ranks = c.loop-i.ranks.items in
     ap (λ rs. rs ++ entry_ranks (map entry_view (drop (i + 1) es))) c.in_ok-push.ensures.items
-    ∙ append_assoc ranks _ _ ∙ ap (λ rs. ranks ++ rs) (sym (entry_ranks-left es i c.loop-i-test.true)) ∙ c.loop-i.invariant
+    ∙ append_assoc ranks _ _ ∙ ap (λ rs. ranks ++ rs) (sym (entry_ranks-left es i c.loop-i-test.true))
+    ∙ c.loop-i.invariant

@@ -5,4 +5,5 @@ use Rattle.js_forms.proofs.layout.push_entry_ranks.Given as goal
 
 abbrev pub invariant-loop-i : goal.invariant-loop-i
 invariant-loop-i l =
-    l.ranks.items ++ entry_ranks (map entry_view (drop l.i l.entries)) ≡ l.fn.ranks.items ++ entry_ranks (map entry_view l.fn.entries)
+    l.ranks.items ++ entry_ranks (map entry_view (drop l.i l.entries))
+    ≡ l.fn.ranks.items ++ entry_ranks (map entry_view l.fn.entries)

@@ -13,4 +13,6 @@ loop-i-preserved c =
     let rank = 2 * (length es - i) in
     ap (λ rs. rs ++ rest) c.in_ok-push_level.ensures ∙ append_assoc ranks _ rest
     ∙ ap (λ ns. ranks ++ (map (λ p. rank) ns ++ rest)) c.nodes.ensures
-    ∙ ap (λ rs. ranks ++ rs) (sym (node_ranks-left es i c.index-entries-i.result c.loop-i-test.true c.index-entries-i.is)) ∙ c.loop-i.invariant
+    ∙ ap (λ rs. ranks ++ rs) (sym
+    (node_ranks-left es i c.index-entries-i.result c.loop-i-test.true c.index-entries-i.is))
+    ∙ c.loop-i.invariant

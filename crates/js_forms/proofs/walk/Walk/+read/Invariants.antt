@@ -27,4 +27,5 @@ abbrev pub decreases-read_list : goal.decreases-read_list
 decreases-read_list l = 6 * items_count (items_of (map view l.schemas.now)) + 1
 
 abbrev pub invariant-read_list-loop-i : goal.invariant-read_list-loop-i
-invariant-read_list-loop-i l = ReadsList l.fn.self l.self l.word (places l.entries.items) (map view (take l.i l.schemas))
+invariant-read_list-loop-i l =
+    ReadsList l.fn.self l.self l.word (places l.entries.items) (map view (take l.i l.schemas))

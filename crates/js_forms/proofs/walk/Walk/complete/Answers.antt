@@ -6,4 +6,5 @@ use Rattle.js_forms.proofs.WalkLaws.{state-same}
 use Rattle.js_forms.proofs.walk.Walk.complete.Goals as goal
 
 pub returns : goal.returns
-returns c = rw (← c.self.view_is) (state-same _ _ (map-set entry_view c.self.inside.entries.items c.args.entry (Keywords c.args.nodes)))
+returns c = rw (← c.self.view_is)
+    (state-same _ _ (map-set entry_view c.self.inside.entries.items c.args.entry (Keywords c.args.nodes)))
