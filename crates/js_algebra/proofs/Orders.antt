@@ -1,7 +1,7 @@
 -- Signed positions are ordered as their numbers are.
-use Rattle.std.proofs.Common.{◌≡◌, ℕ, ◌+◌, ◌*◌, ◌<◌, ◌≤◌, ◌⊎◌, inl, inr, Bool, true, false, refl, arith, ap, sym, ◌∙◌, nat_eq, nat_lt, nat_le}
-use Rattle.std.proofs.lemmas.Bool.{ltb-true, ltb-false, leb-true, leb-false, eqb-true, eqb-false, lt-ltb, le-ltb, le-leb, lt-leb, eq-eqb, ne_eqb, cases_order, false_from_ne_true}
-use Rattle.goals.specs.Signed.{Signed, Plus, Minus, same_signed, comes_before, opposite}
+use Rattle.std.proofs.Common.{◌≡◌, ◌+◌, ◌*◌, ◌<◌, ◌≤◌, Bool, true, false, refl, arith, ap, sym, ◌∙◌, nat_eq, nat_lt}
+use Rattle.std.proofs.lemmas.Bool.{ltb-true, ltb-false, leb-true, eqb-true, eqb-false, lt-ltb, le-leb, eq-eqb, ne_eqb}
+use Rattle.goals.specs.Signed.{Signed, Plus, Minus, same_signed, comes_before}
 use Rattle.js_algebra.specs.Order.{order_of}
 
 -- tests with one meaning are one

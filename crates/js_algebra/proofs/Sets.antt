@@ -1,10 +1,10 @@
 -- Rising lists as sets: a list with the same signed positions that rises is the same list.
-use Rattle.std.proofs.Common.{◌≡◌, ℕ, ◌<◌, ◌≤◌, ◌⊎◌, inl, inr, ⊎_elim, Bool, true, false, ◌&&◌, ◌||◌, cond, List, [], ◌∷◌, refl, arith, ap, sym, ◌∙◌, subst}
-use Rattle.std.proofs.lemmas.Bool.{and_parts, and_from, or_cases, or_left, or_right, false_from_ne_true, true≢false}
+use Rattle.std.proofs.Common.{◌≡◌, ◌<◌, ◌≤◌, ⊎_elim, Bool, true, false, ◌&&◌, ◌||◌, cond, List, [], ◌∷◌, refl, arith, ap, sym, ◌∙◌, subst}
+use Rattle.std.proofs.lemmas.Bool.{and_parts, and_from, or_cases, or_left, true≢false}
 use Rattle.documents.specs.Tests.{every, some}
 use Rattle.goals.specs.Signed.{Signed, same_signed, comes_before, has, add, add_all, is_rising}
 use Rattle.js_algebra.specs.Order.{order_of}
-use Rattle.js_algebra.proofs.Orders.{before_lt, lt_before, not_before_le, same_eq, eq_same, ne_same, same_ne, order-same, same-true, same-itself}
+use Rattle.js_algebra.proofs.Orders.{before_lt, lt_before, not_before_le, same_eq, ne_same, same_ne, same-true, same-itself}
 
 or_twice : (a b : Bool) → (a || b) ≡ (a || (a || b))
 or_twice true b = refl

@@ -1,9 +1,9 @@
 -- What a table's nodes stand for, place by place.
-use Rattle.std.proofs.Common.{◌≡◌, ℕ, zero, suc, ◌<◌, List, [], ◌∷◌, map, get_or, length, true, Bool, ◌&&◌, nat_eq, refl, arith, ap, sym, ◌∙◌}
+use Rattle.std.proofs.Common.{◌≡◌, ℕ, zero, suc, ◌<◌, List, [], ◌∷◌, map, get_or, length, true, Bool, ◌&&◌, nat_eq, arith, ap, sym}
 use Rattle.std.proofs.lemmas.Bool.{and_parts}
 use Rattle.documents.specs.Tests.{every}
 use Rattle.positions.specs.Position.{Position, position_at, names_below, is_table, ranks_fall}
-use Rattle.js_algebra.specs.View.{node_view, IsCore}
+use Rattle.js_algebra.specs.View.{node_view}
 use Rattle.js_algebra.specs.declared.node.Node.{Node}
 
 -- the position at a place is that of the node there

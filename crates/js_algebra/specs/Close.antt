@@ -1,5 +1,5 @@
 -- A clash of a rising list, found at neighbours.
-use Rattle.std.specs.Prelude.{List, [], ◌∷◌, Bool, true, false, ◌||◌}
+use Rattle.std.specs.Prelude.{List, [], ◌∷◌, Bool, false, ◌||◌}
 use Rattle.positions.specs.Position.{Position}
 use Rattle.goals.specs.Signed.{Signed, opposite, same_signed}
 use Rattle.goals.specs.Goal.{is_never}

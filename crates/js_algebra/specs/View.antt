@@ -1,5 +1,5 @@
 -- The kinds, positions and signed positions that the program's values stand for.
-use Rattle.std.specs.Prelude.{◌≡◌, ℕ, ◌<◌, ◌^◌, List, [], ◌∷◌, map, length, Bool, true, false, Option, Some, None, nat_lt}
+use Rattle.std.specs.Prelude.{◌≡◌, ℕ, ◌<◌, ◌^◌, List, map, length, Bool, true, false, nat_lt}
 use Rattle.documents.specs.Tests.{every}
 use Rattle.documents.specs.Kind as K
 use Rattle.positions.specs.Position as P

@@ -1,7 +1,5 @@
-use Rattle.std.proofs.Common.{rules, ◌≡◌, ◌+◌, map, length, true, List, [], ℕ, ◌<◌, ◌≤◌, Bool, false, ◌∷◌, ◌++◌, drop, get_or, arith, subst, sym, ◌∙◌, length-drop, Bor}
-use Rattle.goals.specs.Signed.{is_rising, add_all}
+use Rattle.std.proofs.Common.{◌+◌, length, List, ℕ, ◌<◌, ◌≤◌, Bool, false, ◌∷◌, drop, get_or, arith, subst, sym, ◌∙◌, length-drop, Bor}
 use Rattle.goals.specs.Goal as G
-use Rattle.js_algebra.specs.View.{signed_view}
 use Rattle.js_algebra.specs.declared.signed.Signed.{Signed}
 use Rattle.js_algebra.proofs.Sorting.{same_fields}
 use Rattle.js_algebra.proofs.Contained.{Keeps, keeps_same, keeps_later, keeps_not, keeps_end, drop-at, from_first, after_first}

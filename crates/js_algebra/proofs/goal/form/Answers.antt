@@ -1,5 +1,5 @@
 -- The sorted list is the set of what was followed, and its neighbours tell whether it clashes.
-use Rattle.std.proofs.Common.{◌≡◌, map, true, false, List, [], ◌∷◌, Bool, cond, Some, None, refl, ap, sym, ◌∙◌, subst}
+use Rattle.std.proofs.Common.{◌≡◌, map, true, false, List, [], Bool, cond, Some, None, refl, ap, sym, ◌∙◌, subst}
 use Rattle.std.proofs.lemmas.Bool.{and_from}
 use Rattle.positions.specs.Position.{Position}
 use Rattle.goals.specs.Signed as S

@@ -1,5 +1,5 @@
 -- The sort keeps the elements, and `dedup` one of each.
-use Rattle.std.proofs.Common.{◌≡◌, refl, sym, rules}
+use Rattle.std.proofs.Common.{rules}
 use Rattle.std.proofs.lemmas.List.Sorted.{IsNonDecreasingBy-from_sort_by_key}
 use Rattle.std.proofs.lemmas.List.Filters.{dedup_is}
 use Rattle.js_algebra.specs.View.{signed_view}

@@ -1,5 +1,5 @@
 -- One step along a reference uses one of the steps that are left.
-use Rattle.std.proofs.Common.{◌≡◌, ℕ, suc, ◌+◌, ◌-◌, ◌<◌, List, Option, Some, arith, ap, sym, ◌∙◌, subst, refl}
+use Rattle.std.proofs.Common.{◌≡◌, ℕ, suc, ◌-◌, List, Some, arith, ap, sym, ◌∙◌}
 use Rattle.positions.specs.Position.{Position}
 use Rattle.goals.specs.Signed.{Signed}
 use Rattle.goals.specs.Goal.{follow, follow_within, follow_on, reference}

@@ -1,7 +1,6 @@
 -- The node at a place stands for the position there, and the table's test covers it.
-use Rattle.std.proofs.Common.{◌≡◌, ◌<◌, length, get_or, map, sym, ap, ◌∙◌, arith}
+use Rattle.std.proofs.Common.{◌≡◌, ◌<◌, length, get_or, map, sym, ap, arith}
 use Rattle.std.proofs.Math.ListN.{length-map}
-use Rattle.positions.specs.Position.{names_below, position_at}
 use Rattle.js_algebra.specs.View.{node_view}
 use Rattle.js_algebra.proofs.Tables.{position_at-map, names_below-position_at}
 use Rattle.js_algebra.proofs.table.Core.node.Goals as goal
