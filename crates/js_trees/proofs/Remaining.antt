@@ -1,24 +1,24 @@
 -- The sets that are still to be visited, as choices of rules share the members of the walk.
-use Rattle.std.proofs.Common.{◌≡◌, ℕ, zero, suc, ◌+◌, ◌*◌, ◌<◌, ◌≤◌, ◌⊎◌, inl, inr, ⊎_elim, Bool, true, false, ◌||◌, ◌&&◌, nat_lt, List, [], ◌∷◌, ◌++◌, map, flat_map, take, drop, length, get_or, reverse, Option, Some, None, refl, arith, ap, ap₂, sym, ◌∙◌, subst, drop-cons}
-use Rattle.std.proofs.lemmas.Bool.{true≢false, and_parts, and_from, or_left, or_right, or_cases, ltb-true}
+use Rattle.std.proofs.Common.{◌≡◌, ℕ, zero, suc, ◌+◌, ◌<◌, ◌≤◌, ⊎_elim, true, false, ◌||◌, nat_lt, List, [], ◌∷◌, ◌++◌, map, flat_map, take, drop, length, get_or, reverse, Option, Some, None, refl, arith, ap, ap₂, sym, ◌∙◌, subst, drop-cons}
+use Rattle.std.proofs.lemmas.Bool.{and_parts, and_from, or_left, or_right, or_cases, ltb-true, lt-ltb, cond-true}
 use Rattle.std.proofs.lemmas.List.{reverse-append, length-reverse}
 use Rattle.std.proofs.lemmas.List.Concat.{flat_map-append}
 use Rattle.documents.specs.Tests.{every, some}
 use Rattle.documents.specs.Kind.{Kind}
 use Rattle.positions.specs.Position.{Position, is_table}
-use Rattle.goal_laws.proofs.Signs.{has-every, every-has}
+use Rattle.goal_laws.proofs.Signs.{has-every, every-has, add_all-itself}
 use Rattle.goals.specs.Signed as G
-use Rattle.goals.specs.Signed.{add_all, has, same_signed, position_of}
+use Rattle.goals.specs.Signed.{add_all, has, same_signed, position_of, is_rising}
 use Rattle.goals.specs.Choices.{choices}
 use Rattle.goals.specs.Tree as T
 use Rattle.goals.specs.Tree.{steps, ends, next, choice_list, has_choice}
 use Rattle.js_algebra.specs.View.{signed_view, is_in_table, are_in_table}
 use Rattle.js_algebra.specs.declared.signed.Signed.{Signed}
-use Rattle.js_algebra.proofs.Orders.{same-true, same-itself}
+use Rattle.js_algebra.proofs.Orders.{same-true}
 use Rattle.js_cert.specs.View.{line_view}
 use Rattle.js_trees.specs.Trails.{set_of, with_members}
 use Rattle.js_trees.specs.Walks.{is_clean, are_settled, are_settled_but, step_view, Follows, Extends}
-use Rattle.js_trees.specs.Outcomes.{Outcome, most_ends}
+use Rattle.js_trees.specs.Outcomes.{Outcome, Over, most_ends, tree_of}
 use Rattle.js_trees.specs.Progress.{choice_of, sets, steps_left, IsFine, AreFine, entries, found_then, so_far, Matches, Visits, is_end, step_line, with_line, is_none, one_more, choice_count}
 use Rattle.js_trees.specs.declared.visits.Pending.{Pending}
 use Rattle.js_trees.specs.declared.told.Found.{Found}
@@ -26,7 +26,7 @@ use Rattle.js_trees.specs.declared.walk.Step.{Step}
 use Rattle.js_trees.specs.declared.walk.Step.TheVariants as V
 use Rattle.js_trees.proofs.Covering.{take-all, take-with_members, length-with_members, set-with_members, has-with_members, has-take}
 use Rattle.js_trees.proofs.Unfolded.{ends-append, next_sets, steps-set, sets-ends, next-ends}
-use Rattle.js_trees.proofs.Telling.{tells, counts, leaves}
+use Rattle.js_trees.proofs.Telling.{tells, counts, leaves, judged-so_far}
 
 take-take : {A : Type 0} (k : ℕ) (xs : List A) → take k (take k xs) ≡ take k xs
 take-take zero xs = refl
@@ -53,17 +53,19 @@ module _ (P : List Position) (t : Kind) where
   fine-same [] xs zs ys us f l same m more = tt
   fine-same (e ∷ es) xs zs ys us f l same m more =
       let a = same e.members f.0.members_in in
-      let b = more e.settled f.0.settled_in in
-      (record {
-        members_in = omega (arith, f.0.members_in, l);
-        settled_in = omega (arith, f.0.settled_in, m);
-        rule_in_table = f.0.rule_in_table;
-        index_in = f.0.index_in;
-        clean = subst (λ ws. is_clean P t ws ≡ true) (sym a) f.0.clean;
-        settles =
-          (let P1 : List G.Signed → List Signed → Type 0 = λ ws vs. are_settled P t (with_members (choice_of P t e) ws) (map signed_view vs) ≡ true in
-          subst (λ ws. P1 ws (take e.settled us)) (sym a) (subst (λ vs. P1 (take e.members xs) vs) (sym b) f.0.settles));
-      }, subst (λ ws. AreFine P t ws (take e.settled us) es) (sym a) (subst (λ vs. AreFine P t (take e.members xs) vs es) (sym b) f.1))
+      let b = more e.settled f.0.settled_in in (
+        record {
+          members_in = omega (arith, f.0.members_in, l);
+          settled_in = omega (arith, f.0.settled_in, m);
+          rule_in_table = f.0.rule_in_table;
+          index_in = f.0.index_in;
+          clean = subst (λ ws. is_clean P t ws ≡ true) (sym a) f.0.clean;
+          settles =
+              (let P1 : List G.Signed → List Signed → Type 0 = λ ws vs. are_settled P t (with_members (choice_of P t e) ws) (map signed_view vs) ≡ true in
+              subst (λ ws. P1 ws (take e.settled us)) (sym a) (subst (λ vs. P1 (take e.members xs) vs) (sym b) f.0.settles));
+        },
+        subst (λ ws. AreFine P t ws (take e.settled us) es) (sym a) (subst (λ vs. AreFine P t (take e.members xs) vs es) (sym b) f.1),
+      )
 
   -- the sets of the choices of a rule from one on
   pub sets-entries : (xs : List G.Signed) (s : ℕ) (x : Signed) (es : List Pending) (i n : ℕ) → i + n ≡ length (choices_of x)
@@ -86,6 +88,7 @@ module _ (P : List Position) (t : Kind) where
     all : (C : List G.Signed) → every (λ x. has x S) C ≡ true → every (λ x. has x R) C ≡ true
     all [] e = refl
     all (x ∷ C) e = let (a, b) = and_parts (has x S) (every (λ y. has y S) C) e in and_from _ _ (more x a) (all C b)
+
     each : (cs : List (List G.Signed)) → some (λ C. every (λ x. has x S) C) cs ≡ true → some (λ C. every (λ x. has x R) C) cs ≡ true
     each [] e = e
     each (C ∷ cs) e = ⊎_elim (λ a. or_left _ (some (λ D. every (λ x. has x R) D) cs) (all C a)) (λ b. or_right (every (λ x. has x R) C) _ (each cs b)) (or_cases _ _ e)
@@ -96,6 +99,7 @@ module _ (P : List Position) (t : Kind) where
   chosen xs (Some cs) i l = at cs i l where
     self : (C : List G.Signed) → every (λ x. has x (with_members C xs)) C ≡ true
     self C = has-every _ C (λ x h. has-with_members x C xs ∙ or_left (has x C) (has x xs) h)
+
     at : (cs : List (List G.Signed)) (i : ℕ) → i < length cs → some (λ C. every (λ x. has x (with_members (get_or cs i []) xs)) C) cs ≡ true
     at [] i l = absurd (omega (arith, l))
     at (C ∷ cs) zero l = or_left _ (some (λ D. every (λ x. has x (with_members C xs)) D) cs) (self C)
@@ -107,11 +111,11 @@ module _ (P : List Position) (t : Kind) where
   settles_choice xs x i (y ∷ ys) l e =
       let (a, b) = and_parts (has_choice xs (choices P t y) || same_signed y (signed_view x)) (are_settled_but P t xs (signed_view x) ys) e in
       and_from _ _
-        (⊎_elim
-          (λ h. has_choice-more xs (with_members (get_or (choices_of x) i []) xs) (λ z m. has-with_members z (get_or (choices_of x) i []) xs ∙ or_right (has z (get_or (choices_of x) i [])) (has z xs) m) (choices P t y) h)
-          (λ s. subst (λ z. has_choice (with_members (get_or (choices_of x) i []) xs) (choices P t z) ≡ true) (sym (same-true y (signed_view x) s)) (chosen xs (choices P t (signed_view x)) i l))
-          (or_cases (has_choice xs (choices P t y)) (same_signed y (signed_view x)) a))
-        (settles_choice xs x i ys l b)
+      (⊎_elim
+      (λ h. has_choice-more xs (with_members (get_or (choices_of x) i []) xs) (λ z m. has-with_members z (get_or (choices_of x) i []) xs ∙ or_right (has z (get_or (choices_of x) i [])) (has z xs) m) (choices P t y) h)
+      (λ s. subst (λ z. has_choice (with_members (get_or (choices_of x) i []) xs) (choices P t z) ≡ true) (sym (same-true y (signed_view x) s)) (chosen xs (choices P t (signed_view x)) i l))
+      (or_cases (has_choice xs (choices P t y)) (same_signed y (signed_view x)) a))
+      (settles_choice xs x i ys l b)
 
   pub fine-entries : (xs : List G.Signed) (ys : List Signed) (x : Signed) (es : List Pending) (i n : ℕ) → i + n ≡ length (choices_of x)
       → is_in_table P (signed_view x) ≡ true → is_clean P t xs ≡ true → are_settled_but P t xs (signed_view x) (map signed_view ys) ≡ true → AreFine P t xs ys es
@@ -119,18 +123,20 @@ module _ (P : List Position) (t : Kind) where
   fine-entries xs ys x es i zero e r c s f = f
   fine-entries xs ys x es i (suc n) e r c s f =
       let a = take-all (length xs) xs (omega arith) in
-      let b = take-all (length ys) ys (omega arith) in
-      (record {
-        members_in = omega arith;
-        settled_in = omega arith;
-        rule_in_table = r;
-        index_in = omega (arith, e);
-        clean = subst (λ ws. is_clean P t ws ≡ true) (sym a) c;
-        settles =
-          (let Q : List G.Signed → List Signed → Type 0 = λ ws vs. are_settled P t (with_members (get_or (choices_of x) i []) ws) (map signed_view vs) ≡ true in
-          subst (λ ws. Q ws (take (length ys) ys)) (sym a) (subst (λ vs. Q xs vs) (sym b) (settles_choice xs x i (map signed_view ys) (omega (arith, e)) s)));
-      }, subst (λ ws. AreFine P t ws (take (length ys) ys) (entries (length xs) (length ys) x (suc i) n ++ es)) (sym a)
-          (subst (λ vs. AreFine P t xs vs (entries (length xs) (length ys) x (suc i) n ++ es)) (sym b) (fine-entries xs ys x es (suc i) n (omega (arith, e)) r c s f)))
+      let b = take-all (length ys) ys (omega arith) in (
+        record {
+          members_in = omega arith;
+          settled_in = omega arith;
+          rule_in_table = r;
+          index_in = omega (arith, e);
+          clean = subst (λ ws. is_clean P t ws ≡ true) (sym a) c;
+          settles =
+              (let Q : List G.Signed → List Signed → Type 0 = λ ws vs. are_settled P t (with_members (get_or (choices_of x) i []) ws) (map signed_view vs) ≡ true in
+              subst (λ ws. Q ws (take (length ys) ys)) (sym a) (subst (λ vs. Q xs vs) (sym b) (settles_choice xs x i (map signed_view ys) (omega (arith, e)) s)));
+        },
+        subst (λ ws. AreFine P t ws (take (length ys) ys) (entries (length xs) (length ys) x (suc i) n ++ es)) (sym a)
+            (subst (λ vs. AreFine P t xs vs (entries (length xs) (length ys) x (suc i) n ++ es)) (sym b) (fine-entries xs ys x es (suc i) n (omega (arith, e)) r c s f)),
+      )
 
   length-sets : (xs : List G.Signed) (es : List Pending) → length (sets P t xs es) ≡ length es
   length-sets xs [] = refl
@@ -201,7 +207,7 @@ module _ (P : List Position) (t : Kind) where
         let nx = next P t (set_of xs) in
         let r = rest xs (reverse es) in
         let all : n + ends (steps P t (set_of xs) ++ steps_left P t xs es) ≡ n' + ends r =
-            ap (λ ss. n + ends ss) (all_left xs (reverse es) e) ∙ sym (counts s nx n r m) ∙ ap (λ j. j + ends r) (sym a) in
+        ap (λ ss. n + ends ss) (all_left xs (reverse es) e) ∙ sym (counts s nx n r m) ∙ ap (λ j. j + ends r) (sym a) in
         let l1 = ends-append (flat_map (steps P t) (next_sets (set_of xs) nx)) (flat_map (steps P t) (sets P t xs (reverse es))) in
         let l2 = next-ends P t ranks table xs e in
         let l3 = left_ends xs ys (reverse es) f in
@@ -228,17 +234,17 @@ module _ (P : List Position) (t : Kind) where
     pub next_fine : AreFine P t now (take e.settled ys) (reverse es)
     next_fine =
         fine-same (reverse es) (take e.members xs) now (take e.settled ys) (take e.settled ys) both_fine.1 (length-with_members (choice_of P t e) (take e.members xs))
-          (λ k l. take-with_members k (choice_of P t e) (take e.members xs) l) (omega arith) (λ k l. refl)
+        (λ k l. take-with_members k (choice_of P t e) (take e.members xs) l) (omega arith) (λ k l. refl)
 
     pub next_clean : is_clean P t (take e.members now) ≡ true
     next_clean =
         subst (λ zs. is_clean P t zs ≡ true)
-          (sym (take-with_members e.members (choice_of P t e) (take e.members xs) (omega (arith, length-first)) ∙ take-take e.members xs)) both_fine.0.clean
+        (sym (take-with_members e.members (choice_of P t e) (take e.members xs) (omega (arith, length-first)) ∙ take-take e.members xs)) both_fine.0.clean
 
     pub resumed : steps P t (set_of now) ++ steps_left P t now es ≡ steps_left P t xs old
     resumed =
         ap₂ (λ S Ss. steps P t S ++ flat_map (steps P t) Ss) (set-with_members (choice_of P t e) (take e.members xs))
-          (sets-same (reverse es) (take e.members xs) now (take e.settled ys) both_fine.1 (λ k l. take-with_members k (choice_of P t e) (take e.members xs) l))
+        (sets-same (reverse es) (take e.members xs) now (take e.settled ys) both_fine.1 (λ k l. take-with_members k (choice_of P t e) (take e.members xs) l))
         ∙ ap (λ fs. flat_map (steps P t) (sets P t xs fs)) (sym turned)
 
     pub fewer_sets : length old ≡ suc (length es)
@@ -263,5 +269,26 @@ extends-take xs ys e k l = sym (take-within k (length xs) ys l) ∙ ap (take k) 
 pub members_in_table : (P : List Position) (C xs : List G.Signed) (k : ℕ) → are_in_table P C ≡ true → are_in_table P xs ≡ true → are_in_table P (with_members C (take k xs)) ≡ true
 members_in_table P C xs k a b =
     has-every (is_in_table P) (with_members C (take k xs)) (λ z h.
-      ⊎_elim (λ i. every-has (is_in_table P) C z a i) (λ i. every-has (is_in_table P) xs z b (has-take k xs z i))
-        (or_cases (has z C) (has z (take k xs)) (sym (has-with_members z C (take k xs)) ∙ h)))
+    ⊎_elim (λ i. every-has (is_in_table P) C z a i) (λ i. every-has (is_in_table P) xs z b (has-take k xs z i))
+    (or_cases (has z C) (has z (take k xs)) (sym (has-with_members z C (take k xs)) ∙ h)))
+
+-- the set that a walk begins with is the goal
+pub first_set : (g ms : List G.Signed) → is_rising g ≡ true → ms ≡ with_members g [] → set_of ms ≡ g
+first_set g ms r e = ap set_of e ∙ set-with_members g [] ∙ add_all-itself g r
+
+no_more : {A : Type 0} (xs : List A) → xs ++ [] ≡ xs
+no_more [] = refl
+no_more (x ∷ xs) = ap (λ ys. x ∷ ys) (no_more xs)
+
+pub first_told : (P : List Position) (t : Kind) (g ms : List G.Signed) (es : List Pending) (f : Found) → is_rising g ≡ true → ms ≡ with_members g [] → es ≡ []
+    → f.ends ≡ 0 → f.has_open ≡ false → f.lines.items ≡ []
+    → found_then f (steps P t (set_of ms) ++ steps_left P t ms es) ≡ tree_of P t g
+first_told P t g ms es f r e none a b c =
+    ap (λ n. so_far n f.has_open (map line_view f.lines.items) (steps P t (set_of ms) ++ steps_left P t ms es)) a
+    ∙ ap₂ (λ o ls. so_far 0 o (map line_view ls) (steps P t (set_of ms) ++ steps_left P t ms es)) b c
+    ∙ ap (λ fs. so_far 0 false [] (steps P t (set_of ms) ++ steps_left P t ms fs)) none
+    ∙ ap (so_far 0 false []) (no_more (steps P t (set_of ms)))
+    ∙ judged-so_far (steps P t (set_of ms)) ∙ ap (tree_of P t) (first_set g ms r e)
+
+pub told_over : (f : Found) (ss : List T.Step) (o : Outcome) → most_ends < f.ends + ends ss → found_then f ss ≡ o → Over ≡ o
+told_over f ss o l e = sym (cond-true (nat_lt most_ends (f.ends + ends ss)) Over _ (lt-ltb most_ends (f.ends + ends ss) l)) ∙ e

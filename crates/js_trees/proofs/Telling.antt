@@ -1,5 +1,5 @@
 -- What was told stays what is told in the end.
-use Rattle.std.proofs.Common.{◌≡◌, ℕ, zero, suc, ◌+◌, ◌<◌, ◌≤◌, Bool, true, false, ◌||◌, cond, nat_lt, List, [], ◌∷◌, ◌++◌, map, length, Option, Some, None, refl, arith, ap, sym, ◌∙◌, subst, append_assoc}
+use Rattle.std.proofs.Common.{◌≡◌, ℕ, zero, suc, ◌+◌, ◌≤◌, Bool, true, false, ◌||◌, cond, nat_lt, List, [], ◌∷◌, ◌++◌, map, length, refl, arith, ap, sym, ◌∙◌, subst}
 use Rattle.std.proofs.lemmas.Bool.{le-ltb, cond-false}
 use Rattle.std.proofs.Math.ListN.{length-map}
 use Rattle.goals.specs.Signed as G
@@ -36,9 +36,9 @@ with_end a b true h l ls rs e = ap (λ n. cond (nat_lt most_ends n) Over Open) e
 with_end a b false h l ls rs e =
     ap (λ n. finish n false h ((ls ++ l ∷ []) ++ rs)) e ∙ ap (finish b false h) (split ls)
   where
-  split : (ks : List Line) → (ks ++ l ∷ []) ++ rs ≡ ks ++ l ∷ rs
-  split [] = refl
-  split (k ∷ ks) = ap (λ js. k ∷ js) (split ks)
+    split : (ks : List Line) → (ks ++ l ∷ []) ++ rs ≡ ks ++ l ∷ rs
+    split [] = refl
+    split (k ∷ ks) = ap (λ js. k ∷ js) (split ks)
 
 open_end : (a b : ℕ) (o h : Bool) (ls rs ks : List Line) → a ≡ b → finish a (o || true) h (ls ++ rs) ≡ finish b o true ks
 open_end a b true h ls rs ks e = ap (λ n. cond (nat_lt most_ends n) Over Open) e
@@ -53,15 +53,15 @@ tells (V.Wrong x) st n o ls ss m =
 tells (V.Rule x zero) st n o ls ss (cs, e, l) =
     ended cs l ∙ ap (λ z. so_far n o ls (z ∷ ss)) (sym e)
   where
-  ended : (cs : List (List G.Signed)) → zero ≡ length cs → so_far (n + 1) (o || false) (with_line o (step_line (V.Rule x zero)) ls) ss ≡ so_far n o ls (T.Rule (signed_view x) cs ∷ ss)
-  ended [] q = with_end _ _ o (has_branch ss) _ ls (map line_of ss) (omega arith)
-  ended (C ∷ cs) q = absurd (omega (arith, q))
+    ended : (cs : List (List G.Signed)) → zero ≡ length cs → so_far (n + 1) (o || false) (with_line o (step_line (V.Rule x zero)) ls) ss ≡ so_far n o ls (T.Rule (signed_view x) cs ∷ ss)
+    ended [] q = with_end _ _ o (has_branch ss) _ ls (map line_of ss) (omega arith)
+    ended (C ∷ cs) q = absurd (omega (arith, q))
 tells (V.Rule x (suc k)) st n o ls ss (cs, e, l) =
     going cs l ∙ ap (λ z. so_far n o ls (z ∷ ss)) (sym e)
   where
-  going : (cs : List (List G.Signed)) → suc k ≡ length cs → so_far n (o || false) (with_line o (step_line (V.Rule x (suc k))) ls) ss ≡ so_far n o ls (T.Rule (signed_view x) cs ∷ ss)
-  going [] q = absurd (omega (arith, q))
-  going (C ∷ cs) q = with_end _ _ o (has_branch ss) _ ls (map line_of ss) refl
+    going : (cs : List (List G.Signed)) → suc k ≡ length cs → so_far n (o || false) (with_line o (step_line (V.Rule x (suc k))) ls) ss ≡ so_far n o ls (T.Rule (signed_view x) cs ∷ ss)
+    going [] q = absurd (omega (arith, q))
+    going (C ∷ cs) q = with_end _ _ o (has_branch ss) _ ls (map line_of ss) refl
 tells V.Saturated st n o ls ss (S, e) =
     open_end _ _ o (has_branch ss) ls (map line_of ss) _ (omega arith) ∙ ap (λ z. so_far n o ls (z ∷ ss)) (sym e)
 

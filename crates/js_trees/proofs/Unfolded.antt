@@ -1,10 +1,7 @@
 -- The steps of a set: its step, and the steps of the sets of its choices. Each tree has an end.
-use Rattle.std.proofs.Common.{◌≡◌, ℕ, zero, suc, ◌+◌, ◌<◌, ◌≤◌, ◌⊎◌, inl, inr, ⊎_elim, Bool, true, false, nat_lt, List, [], ◌∷◌, ◌++◌, map, flat_map, length, refl, arith, ap, sym, ◌∙◌, subst, append_assoc}
-use Rattle.std.proofs.lemmas.Bool.{true≢false, and_parts, ltb-true}
+use Rattle.std.proofs.Common.{◌≡◌, ℕ, ◌+◌, ◌<◌, ◌≤◌, ◌⊎◌, inl, inr, ⊎_elim, true, List, [], ◌∷◌, ◌++◌, map, flat_map, length, refl, arith, ap, sym, ◌∙◌, subst}
+use Rattle.std.proofs.lemmas.Bool.{and_parts, ltb-true}
 use Rattle.std.proofs.lemmas.List.Folds.{flat_map-map}
-use Rattle.std.proofs.lemmas.List.Concat.{flat_map-append}
-use Rattle.std.specs.List.{AllByRecursion}
-use Rattle.documents.specs.Tests.{every}
 use Rattle.documents.specs.Kind.{Kind}
 use Rattle.positions.specs.Position.{Position, is_table}
 use Rattle.positions.specs.Holds.{IsTable}
@@ -53,9 +50,9 @@ module _ (P : List Position) (t : Kind) (ranks : List ℕ) (table : is_table P r
   pub steps-set : (xs : List Signed) → are_in_table P xs ≡ true → steps P t (set_of xs) ≡ next P t (set_of xs) ∷ flat_map (steps P t) (next_sets (set_of xs) (next P t (set_of xs)))
   steps-set xs e =
       ⊎_elim
-        (λ l. steps-next P (is_table-IsTable P ranks table l) t (set_of xs))
-        (λ n. subst (λ ys. steps P t (set_of ys) ≡ steps_from (steps P t) (set_of ys) (next P t (set_of ys))) (sym n.1) (empty_steps n.0))
-        (some_or_none P xs e)
+      (λ l. steps-next P (is_table-IsTable P ranks table l) t (set_of xs))
+      (λ n. subst (λ ys. steps P t (set_of ys) ≡ steps_from (steps P t) (set_of ys) (next P t (set_of ys))) (sym n.1) (empty_steps n.0))
+      (some_or_none P xs e)
       ∙ steps_from-sets (steps P t) (set_of xs) (next P t (set_of xs))
 
   has_end : (ok : IsTable P) (S : List Signed) (s : Step) → Told P t S s → EachChoice P ok t (λ S'. 0 < ends (steps P t S')) S s → 0 < ends (steps_from (steps P t) S s)
@@ -77,6 +74,6 @@ module _ (P : List Position) (t : Kind) (ranks : List ℕ) (table : is_table P r
       → length (next_sets (set_of xs) (next P t (set_of xs))) ≤ ends (flat_map (steps P t) (next_sets (set_of xs) (next P t (set_of xs))))
   next-ends xs e =
       ⊎_elim (λ l. sets-ends l (next_sets (set_of xs) (next P t (set_of xs))))
-        (λ n. let R : List Position → List Signed → Type 0 = λ Q ys. length (next_sets (set_of ys) (next Q t (set_of ys))) ≤ ends (flat_map (steps Q t) (next_sets (set_of ys) (next Q t (set_of ys)))) in
-          subst (λ Q. R Q xs) (sym n.0) (subst (λ ys. R [] ys) (sym n.1) (omega arith)))
-        (some_or_none P xs e)
+      (λ n. let R : List Position → List Signed → Type 0 = λ Q ys. length (next_sets (set_of ys) (next Q t (set_of ys))) ≤ ends (flat_map (steps Q t) (next_sets (set_of ys) (next Q t (set_of ys)))) in
+      subst (λ Q. R Q xs) (sym n.0) (subst (λ ys. R [] ys) (sym n.1) (omega arith)))
+      (some_or_none P xs e)

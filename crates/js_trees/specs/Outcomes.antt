@@ -1,9 +1,9 @@
 -- What the program tells of a tree.
-use Rattle.std.specs.Prelude.{◌≡◌, ℕ, zero, suc, ◌+◌, ◌<◌, ◌≤◌, List, [], ◌∷◌, ◌++◌, map, length, Bool, true, false, ◌||◌, cond, nat_lt, Option, Some, None}
+use Rattle.std.specs.Prelude.{ℕ, List, [], ◌∷◌, map, cond, nat_lt}
 use Rattle.documents.specs.Kind.{Kind}
 use Rattle.positions.specs.Position.{Position}
 use Rattle.goals.specs.Signed.{Signed}
-use Rattle.goals.specs.Tree.{Step, Clash, Wrong, Rule, Saturated, steps, ends, branches}
+use Rattle.goals.specs.Tree.{Step, steps, ends, branches}
 use Rattle.certificates.specs.Line.{Line}
 use Rattle.certificates.specs.TreeLines.{line_of}
 use Rattle.js_trees.specs.declared.told.Tree.{Tree}

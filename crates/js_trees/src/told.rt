@@ -86,7 +86,11 @@ impl Found {
     pub fn into_tree(self) -> Tree
         ensures { tree_view result ≡ by_found self.has_open (map line_view self.lines.items) }
     {
-        let Found { has_open, lines, .. } = self;
+        let Found {
+            has_open,
+            lines,
+            ..
+        } = self;
         if has_open {
             Tree::Open
         } else {

@@ -50,7 +50,14 @@ pub fn tree(alloc: Global, core: &Core, goal: &Goal, kind: JsonKind) -> Result<T
     while let Some(next) = pending.pop() {
         walk.go_back(next.members, next.settled)?;
         walk.add_choice(core, kind, next.rule, next.index)?;
-        if visit(&mut walk, core, kind, next.members, &mut pending, &mut found)? {
+        if visit(
+            &mut walk,
+            core,
+            kind,
+            next.members,
+            &mut pending,
+            &mut found,
+        )? {
             return Ok(Tree::Over);
         }
     }
@@ -90,7 +97,13 @@ fn visit(
 }
 
 /// Adds the sets of the choices of a rule, the first one next.
-fn add_choices(pending: &mut Vec<Pending>, members: usize, settled: usize, rule: Signed, count: usize) -> Result<(), Memory>
+fn add_choices(
+    pending: &mut Vec<Pending>,
+    members: usize,
+    settled: usize,
+    rule: Signed,
+    count: usize,
+) -> Result<(), Memory>
     ensures { OnOk result (reverse pending.new.items ≡ entries members settled rule 0 count ++ reverse pending.old.items) }
 {
     let mut index = count;

@@ -89,7 +89,13 @@ impl Walk {
     }
 
     /// Adds the choice of that number of the rule of `x`.
-    pub fn add_choice(&mut self, core: &Core, kind: JsonKind, x: Signed, index: usize) -> Result<(), Memory>
+    pub fn add_choice(
+        &mut self,
+        core: &Core,
+        kind: JsonKind,
+        x: Signed,
+        index: usize,
+    ) -> Result<(), Memory>
         requires in_table { is_in_table core.now.positions (signed_view x) ≡ true }
         requires room { self.old.trail.room ≡ 2 * length core.now.positions }
         requires index { index < length (choice_list (choices core.now.positions (kind_view kind) (signed_view x))) }

@@ -1,5 +1,5 @@
 -- The next entry goes before those that were added.
-use Rattle.std.proofs.Common.{◌≡◌, ℕ, suc, ◌+◌, ◌-◌, ◌≤◌, ◌++◌, ◌∷◌, List, reverse, arith, ap, sym, ◌∙◌, subst, refl}
+use Rattle.std.proofs.Common.{◌≡◌, ℕ, suc, ◌-◌, ◌++◌, ◌∷◌, List, reverse, arith, ap, sym, ◌∙◌}
 use Rattle.js_algebra.specs.declared.signed.Signed.{Signed}
 use Rattle.js_trees.specs.declared.visits.Pending.{Pending}
 use Rattle.js_trees.specs.Progress.{entries}
@@ -15,7 +15,7 @@ pub loop-index-preserved : goal.loop-index-preserved
 loop-index-preserved c = (
   omega (arith, c.loop-index.invariant.0),
   ap reverse c.in_ok-push.ensures.items ∙ reverse-push c.loop-index.pending.items _
-  ∙ ap (λ es. (let e : Pending = record { members = c.args.members; settled = c.args.settled; rule = c.args.rule; index = c.loop-index.index - 1 } in e) ∷ es) c.loop-index.invariant.1
-  ∙ one_before c.args.members c.args.settled c.args.rule (c.loop-index.index - 1) c.loop-index.index (c.args.count - (c.loop-index.index - 1)) (c.args.count - c.loop-index.index) _
+      ∙ ap (λ es. (let e : Pending = record { members = c.args.members; settled = c.args.settled; rule = c.args.rule; index = c.loop-index.index - 1 } in e) ∷ es) c.loop-index.invariant.1
+      ∙ one_before c.args.members c.args.settled c.args.rule (c.loop-index.index - 1) c.loop-index.index (c.args.count - (c.loop-index.index - 1)) (c.args.count - c.loop-index.index) _
       (omega arith) (omega (arith, c.loop-index.invariant.0)),
 )
