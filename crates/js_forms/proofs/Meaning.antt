@@ -1,20 +1,20 @@
 -- The key lemma: each entry of the table holds of the documents that are valid for its schema.
 use Rattle.std.proofs.Common.{◌≡◌, ℕ, zero, suc, ◌+◌, ◌<◌, ◌≤◌, List, [], ◌∷◌, ◌++◌, map, flat_map, filter, length, Bool, true, false, not, ◌&&◌, ◌||◌, cond, Option, Some, None, refl, sym, ap, ap₂, subst, ◌∙◌, arith, codes}
 use Rattle.std.specs.List.{AllByRecursion}
-use Rattle.std.proofs.Math.Bool.{and_assoc, and-true, and-false, or-false}
+use Rattle.std.proofs.Math.Bool.{and-true, and-false, or-false}
 use Rattle.documents.specs.Tests.{every, some}
 use Rattle.documents.specs.Kind.{Kind, Null, Boolean, Number, Text, Array, Object, same_kind, all_kinds}
 use Rattle.documents.specs.Document.{Document, kind_of, depth}
-use Rattle.documents.specs.Json.{Json, null, boolean, number, not_whole, string, array, object, Members, lookup, count, members_count}
+use Rattle.documents.specs.Json.{Json, null, boolean, number, not_whole, string, array, object, Members, lookup, count}
 use Rattle.levels.specs.Levels.{met_here, met_below, is_met}
 use Rattle.validity.specs.Validity as V
 use Rattle.validity.specs.Validity.{valid, listed, type_names, where_there}
-use Rattle.positions.specs.Position.{Position, True, False, Not, All, Any, Types, position_at}
+use Rattle.positions.specs.Position.{Position, position_at}
 use Rattle.positions.specs.Holds.{asks, holds, IsTable}
-use Rattle.position_laws.proofs.Lists.{all-weaker, all-everywhere, every-same, every-map, some-map, every-append}
+use Rattle.position_laws.proofs.Lists.{all-everywhere, every-same, every-map, some-map, every-append}
 use Rattle.position_laws.proofs.Asks.{holds-asks}
 use Rattle.js_forms.specs.Places.{sub_schemas}
-use Rattle.js_forms.specs.Table.{Entry, Constant, Keywords, schemas, values, kinds_of, numbers, after, types_node, all_node, any_node, not_node, keyword_nodes, entry_of, entries_from, count_up, table_of}
+use Rattle.js_forms.specs.Table.{Constant, Keywords, schemas, values, kinds_of, numbers, after, types_node, all_node, any_node, not_node, keyword_nodes, entry_of, entries_from, count_up, table_of}
 use Rattle.js_forms.proofs.PlacesLaws.{count-positive, values-count, whole-count, schemas-step, schemas-object, inner, whole}
 use Rattle.js_forms.proofs.TableLaws.{HasEntry, HasEach, has-split, has-laid_out, after-length}
 

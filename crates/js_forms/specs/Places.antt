@@ -1,5 +1,5 @@
 -- The places of a schema at which schemas stand, and the first of them that can't be read.
-use Rattle.std.specs.Prelude.{ℕ, zero, suc, ◌+◌, ◌*◌, List, [], ◌∷◌, ◌++◌, map, flat_map, length, Bool, Option, Some, None, cond, nat_lt, codes, decimal}
+use Rattle.std.specs.Prelude.{ℕ, zero, suc, ◌+◌, ◌*◌, List, [], ◌∷◌, ◌++◌, flat_map, length, Option, Some, None, cond, nat_lt, codes, decimal}
 use Rattle.documents.specs.Json.{Json, boolean, object, Members, no_members, member, lookup, count}
 use Rattle.validity.specs.Validity.{listed}
 use Rattle.js_forms.specs.Keywords.{is_unread}

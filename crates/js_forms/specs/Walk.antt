@@ -1,5 +1,5 @@
 -- What the walk of a schema does to its state.
-use Rattle.std.specs.Prelude.{◌≡◌, ℕ, ◌+◌, ◌<◌, ◌≤◌, List, [], ◌∷◌, ◌++◌, map, flat_map, length, Option, Some, None, Result, Ok, Err}
+use Rattle.std.specs.Prelude.{◌≡◌, ℕ, ◌+◌, ◌<◌, ◌≤◌, List, [], ◌∷◌, ◌++◌, map, flat_map, length, Some, None, Result, Ok, Err}
 use Rattle.documents.specs.Json.{Json}
 use Rattle.js_algebra.specs.View.{node_view}
 use Rattle.js_forms.specs.Places.{Pointer, Place, places_from, weight, most_weight, fault_after}
