@@ -64,8 +64,7 @@ module _ (T : List Position) (ok : IsTable T) (J : Document) where
   holds-constant e true h = holds-asks T ok e J ∙ ap asked h.entry
   holds-constant e false h = holds-asks T ok e J ∙ ap asked h.entry
 
-  -- the positions of a keyword ask what the keyword asks, where the schemas in it have the entries that they
-  -- name
+  -- the positions of a keyword ask what the keyword asks, where the schemas in it have their entries
   module _ (met : Json → Bool) where
     abbrev Agree : ℕ → List Json → Type 0
     Agree e ss = map (λ q. holds T q J) (numbers e ss) ≡ map met ss
@@ -148,8 +147,7 @@ module _ (T : List Position) (ok : IsTable T) (J : Document) where
                 l,
               ) (regrouped w x y z)
 
--- an entry holds of the documents that meet its schema, with as many steps in place as the schema has values
--- or more
+-- an entry holds of the documents that meet its schema, if there are as many steps in place as values
 module _ (T : List Position) (ok : IsTable T) (J : Document) (root : Json) (steps : ℕ)
     (below : Json → Document → Bool) where
   abbrev first-entry : (s : Json) (e : ℕ) → HasEach T e (entries_from e (schemas s))

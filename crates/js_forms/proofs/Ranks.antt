@@ -1,5 +1,4 @@
--- The key law: the table of a schema is a table, with ranks that fall from entries to their positions and
--- from these to
+-- The key law: the table of a schema is a table: ranks fall from entries to their positions, and from these to
 -- later entries.
 use Rattle.std.proofs.Common.{◌≡◌, ℕ, zero, suc, ◌+◌, ◌*◌, ◌-◌, ◌<◌, ◌≤◌, List, [], ◌∷◌, ◌++◌, map, flat_map, length, get_or, true, false, Option, Some, None, refl, sym, ap, ap₂, subst, ◌∙◌, append_assoc, length-append, arith, codes}
 use Rattle.std.specs.List.{AllByRecursion}
