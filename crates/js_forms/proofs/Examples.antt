@@ -2,7 +2,7 @@
 use Rattle.std.specs.Prelude.{◌≡◌, ℕ, List, [], ◌∷◌, true, false, Some, None, codes, pos, decimal, refl}
 use Rattle.documents.specs.Kind.{Null, Number, Text}
 use Rattle.documents.specs.Json.{Json, boolean, number, string, array, object, items_of, members_of}
-use Rattle.positions.specs.Position.{Position, True, False, Not, All, Any, Types, is_table}
+use Rattle.positions.specs.Position.{True, False, Not, All, Any, Types}
 use Rattle.js_forms.specs.Places.{first_fault, places_from}
 use Rattle.js_forms.specs.Table.{table_of, ranks_of}
 

@@ -1,20 +1,20 @@
 -- The key lemma: each entry of the table holds of the documents that are valid for its schema.
 use Rattle.std.proofs.Common.{◌≡◌, ℕ, zero, suc, ◌+◌, ◌<◌, ◌≤◌, List, [], ◌∷◌, ◌++◌, map, flat_map, filter, length, Bool, true, false, not, ◌&&◌, ◌||◌, cond, Option, Some, None, refl, sym, ap, ap₂, subst, ◌∙◌, arith, codes}
 use Rattle.std.specs.List.{AllByRecursion}
-use Rattle.std.proofs.Math.Bool.{and_assoc, and-true, and-false, or-false}
+use Rattle.std.proofs.Math.Bool.{and-true, and-false, or-false}
 use Rattle.documents.specs.Tests.{every, some}
 use Rattle.documents.specs.Kind.{Kind, Null, Boolean, Number, Text, Array, Object, same_kind, all_kinds}
 use Rattle.documents.specs.Document.{Document, kind_of, depth}
-use Rattle.documents.specs.Json.{Json, null, boolean, number, not_whole, string, array, object, Members, lookup, count, members_count}
+use Rattle.documents.specs.Json.{Json, null, boolean, number, not_whole, string, array, object, Members, lookup, count}
 use Rattle.levels.specs.Levels.{met_here, met_below, is_met}
 use Rattle.validity.specs.Validity as V
 use Rattle.validity.specs.Validity.{valid, listed, type_names, where_there}
-use Rattle.positions.specs.Position.{Position, True, False, Not, All, Any, Types, position_at}
+use Rattle.positions.specs.Position.{Position, position_at}
 use Rattle.positions.specs.Holds.{asks, holds, IsTable}
-use Rattle.position_laws.proofs.Lists.{all-weaker, all-everywhere, every-same, every-map, some-map, every-append}
+use Rattle.position_laws.proofs.Lists.{all-everywhere, every-same, every-map, some-map, every-append}
 use Rattle.position_laws.proofs.Asks.{holds-asks}
 use Rattle.js_forms.specs.Places.{sub_schemas}
-use Rattle.js_forms.specs.Table.{Entry, Constant, Keywords, schemas, values, kinds_of, numbers, after, types_node, all_node, any_node, not_node, keyword_nodes, entry_of, entries_from, count_up, table_of}
+use Rattle.js_forms.specs.Table.{Constant, Keywords, schemas, values, kinds_of, numbers, after, types_node, all_node, any_node, not_node, keyword_nodes, entry_of, entries_from, count_up, table_of}
 use Rattle.js_forms.proofs.PlacesLaws.{count-positive, values-count, whole-count, schemas-step, schemas-object, inner, whole}
 use Rattle.js_forms.proofs.TableLaws.{HasEntry, HasEach, has-split, has-laid_out, after-length}
 
@@ -64,8 +64,7 @@ module _ (T : List Position) (ok : IsTable T) (J : Document) where
   holds-constant e true h = holds-asks T ok e J ∙ ap asked h.entry
   holds-constant e false h = holds-asks T ok e J ∙ ap asked h.entry
 
-  -- the positions of a keyword ask what the keyword asks, where the schemas in it have the entries that they
-  -- name
+  -- the positions of a keyword ask what the keyword asks, where the schemas in it have their entries
   module _ (met : Json → Bool) where
     abbrev Agree : ℕ → List Json → Type 0
     Agree e ss = map (λ q. holds T q J) (numbers e ss) ≡ map met ss
@@ -148,8 +147,7 @@ module _ (T : List Position) (ok : IsTable T) (J : Document) where
                 l,
               ) (regrouped w x y z)
 
--- an entry holds of the documents that meet its schema, with as many steps in place as the schema has values
--- or more
+-- an entry holds of the documents that meet its schema, if there are as many steps in place as values
 module _ (T : List Position) (ok : IsTable T) (J : Document) (root : Json) (steps : ℕ)
     (below : Json → Document → Bool) where
   abbrev first-entry : (s : Json) (e : ℕ) → HasEach T e (entries_from e (schemas s))

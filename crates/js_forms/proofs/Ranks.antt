@@ -1,14 +1,13 @@
--- The key law: the table of a schema is a table, with ranks that fall from entries to their positions and
--- from these to
+-- The key law: the table of a schema is a table: ranks fall from entries to their positions, and from these to
 -- later entries.
-use Rattle.std.proofs.Common.{◌≡◌, ℕ, zero, suc, ◌+◌, ◌*◌, ◌-◌, ◌<◌, ◌≤◌, List, [], ◌∷◌, ◌++◌, map, flat_map, length, get_or, Bool, true, false, nat_lt, nat_eq, Option, Some, None, refl, sym, ap, ap₂, subst, ◌∙◌, append_assoc, length-append, arith, codes}
+use Rattle.std.proofs.Common.{◌≡◌, ℕ, zero, suc, ◌+◌, ◌*◌, ◌-◌, ◌<◌, ◌≤◌, List, [], ◌∷◌, ◌++◌, map, flat_map, length, get_or, true, false, Option, Some, None, refl, sym, ap, ap₂, subst, ◌∙◌, append_assoc, length-append, arith, codes}
 use Rattle.std.specs.List.{AllByRecursion}
 use Rattle.std.proofs.lemmas.Bool.{and_from, lt-ltb, eq-eqb}
 use Rattle.std.proofs.lemmas.List.{length-map}
 use Rattle.documents.specs.Tests.{every}
-use Rattle.documents.specs.Json.{Json, null, boolean, number, not_whole, string, array, object, Members, lookup, count}
+use Rattle.documents.specs.Json.{Json, object, Members, lookup, count}
 use Rattle.validity.specs.Validity.{listed}
-use Rattle.positions.specs.Position.{Position, True, False, Not, All, Any, Types, in_place, names_below, ranks_fall, is_table}
+use Rattle.positions.specs.Position.{Position, in_place, names_below, ranks_fall, is_table}
 use Rattle.positions.specs.Holds.{IsTable}
 use Rattle.position_laws.proofs.Lists.{all-weaker, all-append, all-every}
 use Rattle.position_laws.proofs.Tables.{is_table-IsTable}

@@ -1,5 +1,5 @@
 -- What the walk reads or tells at a place, in a list, and in an object.
-use Rattle.std.proofs.Common.{◌≡◌, ℕ, zero, suc, ◌+◌, ◌<◌, ◌≤◌, List, [], ◌∷◌, ◌++◌, map, flat_map, length, take, get_or, Bool, true, false, Option, Some, None, option_map, Result, Ok, Err, refl, sym, ap, ap₂, subst, ◌∙◌, append_assoc, length-append, arith, codes, decimal, slice_set}
+use Rattle.std.proofs.Common.{◌≡◌, ℕ, suc, ◌+◌, ◌≤◌, List, [], ◌∷◌, ◌++◌, flat_map, length, Bool, false, Option, Some, None, Result, Ok, Err, refl, sym, ap, ap₂, subst, ◌∙◌, append_assoc, length-append, arith, codes, decimal, slice_set}
 use Rattle.std.specs.Result.{IsErrAnd}
 use Rattle.std.proofs.lemmas.List.{map-append, append-nil}
 use Rattle.std.proofs.Math.Seq.{set-append_seam}
@@ -7,13 +7,13 @@ use Rattle.std.proofs.lemmas.Grind.{flat_map-append}
 use Rattle.documents.specs.Json.{Json, null, boolean, number, not_whole, string, array, object, Members, lookup}
 use Rattle.validity.specs.Validity.{listed}
 use Rattle.js_forms.specs.Keywords.{is_object_or_boolean}
-use Rattle.js_forms.specs.Places.{Pointer, Place, places_from, sub_schemas, numbered, under_list, under_value, weight, most_weight, first_unread, told_at, fault_at, fault_after, first_fault}
+use Rattle.js_forms.specs.Places.{Pointer, Place, places_from, sub_schemas, numbered, under_list, weight, most_weight, first_unread, told_at, fault_at, fault_after, first_fault}
 use Rattle.js_forms.specs.Table.{Entry, Constant, Keywords, entry_of, entries_from, schemas, numbers, after, values, types_node, all_node, any_node, not_node, keyword_nodes}
 use Rattle.js_forms.specs.Walk.{State, start, at_pointer, weights, Reads, TellsFault, ReadsOrTells, EntersOrTells, Tells, lower}
 use Rattle.js_forms.specs.declared.fault.FormsFault.{FormsFault}
 use Rattle.js_forms.specs.declared.fault.FormsFault.TheVariants.{NotYet, Memory}
 use Rattle.positions.specs.Position.{Position}
-use Rattle.js_forms.proofs.PlacesLaws.{places_from-step, schemas-moved, map-flat_map, flat_map-same}
+use Rattle.js_forms.proofs.PlacesLaws.{places_from-step, schemas-moved}
 use Rattle.js_forms.proofs.TableLaws.{length-entries_from, after-length}
 use Rattle.js_forms.proofs.WalkLaws.{values_of, reads-nothing, reads-more, fault-then, fault-later, tells-here, tells-large, goes-on}
 

@@ -1,5 +1,5 @@
 -- The schemas that the walk goes down to have fewer values, and a list is read element by element.
-use Rattle.std.proofs.Common.{◌≡◌, ℕ, zero, suc, ◌+◌, ◌<◌, ◌≤◌, List, [], ◌∷◌, ◌++◌, map, length, take, drop, get_or, Option, Some, refl, sym, ap, ◌∙◌, arith, take-append-drop}
+use Rattle.std.proofs.Common.{◌≡◌, ℕ, zero, suc, ◌+◌, ◌<◌, ◌≤◌, List, [], ◌∷◌, ◌++◌, map, length, take, drop, get_or, Some, refl, sym, ap, ◌∙◌, arith, take-append-drop}
 use Rattle.std.proofs.lemmas.List.{map-append, take_more, length-take-le, length-map}
 use Rattle.documents.specs.Json as D
 use Rattle.documents.specs.Json.{Items, no_items, item, Members, items_of, elements, lookup, count, items_count, members_count}

@@ -1,10 +1,9 @@
 -- The key law: a table has no more positions than the weight of the schema's places.
-use Rattle.std.proofs.Common.{◌≡◌, ℕ, suc, ◌+◌, ◌*◌, ◌≤◌, List, [], ◌∷◌, ◌++◌, map, flat_map, length, Bool, true, false, cond, nat_lt, Option, Some, None, refl, ap, arith, length-append, codes}
+use Rattle.std.proofs.Common.{◌≡◌, ℕ, suc, ◌+◌, ◌≤◌, List, [], ◌∷◌, ◌++◌, flat_map, length, Bool, true, false, cond, nat_lt, Option, Some, None, refl, arith, length-append, codes}
 use Rattle.std.proofs.lemmas.Bool.{ltb-false}
-use Rattle.documents.specs.Json.{Json, null, boolean, number, not_whole, string, array, object, Members, lookup}
-use Rattle.validity.specs.Validity.{listed}
+use Rattle.documents.specs.Json.{Json, null, boolean, number, not_whole, string, array, object, lookup}
 use Rattle.js_forms.specs.Places.{Pointer, Place, places_from, keyword_weight, weight, most_weight, fault_at, or_else, fault_after, first_fault}
-use Rattle.js_forms.specs.Table.{Entry, schemas, values, after, types_node, all_node, any_node, not_node, entry_of, entries_from, nodes_of, laid_out, table_of}
+use Rattle.js_forms.specs.Table.{schemas, values, after, types_node, all_node, any_node, not_node, entry_of, entries_from, nodes_of, table_of}
 use Rattle.js_forms.specs.Walk.{weights}
 use Rattle.js_forms.proofs.TableLaws.{length-entries_from}
 use Rattle.js_forms.proofs.Ranks.{length-laid_out}

@@ -1,8 +1,8 @@
 -- Where the entries and their positions stand in a table that is laid out.
-use Rattle.std.proofs.Common.{◌≡◌, ℕ, zero, suc, ◌+◌, List, [], ◌∷◌, ◌++◌, map, flat_map, length, refl, sym, ap, ap₂, subst, ◌∙◌, append_assoc, length-append, arith}
+use Rattle.std.proofs.Common.{◌≡◌, ℕ, suc, ◌+◌, List, [], ◌∷◌, ◌++◌, map, flat_map, length, refl, sym, ap, ap₂, subst, ◌∙◌, append_assoc, length-append, arith}
 use Rattle.documents.specs.Json.{Json}
 use Rattle.positions.specs.Position.{Position, position_at}
-use Rattle.js_forms.specs.Table.{Entry, nodes_of, count_up, entry_position, entry_positions, laid_out, entries_from, entry_of, schemas, after}
+use Rattle.js_forms.specs.Table.{Entry, nodes_of, count_up, entry_position, entry_positions, laid_out, entries_from, schemas, after}
 
 -- the entry stands at place e of the table, and its positions stand from some place on
 pub record HasEntry (T : List Position) (e : ℕ) (x : Entry) : Type 0 where

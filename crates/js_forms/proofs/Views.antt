@@ -1,6 +1,6 @@
 -- What the program's containers of JSON values stand for.
-use Rattle.std.proofs.Common.{◌≡◌, List, map, Bool, false, rules}
-use Rattle.documents.specs.Json.{boolean, array, object, elements, entries}
+use Rattle.std.proofs.Common.{◌≡◌, Bool, false, rules}
+use Rattle.documents.specs.Json.{boolean, array, object}
 use Rattle.js_doc.specs.declared.json.Json.{Json, the_lemmas}
 use Rattle.js_doc.specs.declared.json.Json.TheVariants as C
 use Rattle.js_doc.specs.declared.json.JsonList.{JsonList}

@@ -1,13 +1,11 @@
 -- The key law: reading some places and then others is reading all of them.
-use Rattle.std.proofs.Common.{◌≡◌, ℕ, zero, suc, ◌+◌, ◌<◌, ◌≤◌, List, [], ◌∷◌, ◌++◌, map, flat_map, length, Bool, true, false, cond, nat_lt, Option, Some, None, refl, sym, ap, ap₂, subst, ◌∙◌, append_assoc, length-append, arith, codes, decimal}
+use Rattle.std.proofs.Common.{◌≡◌, ℕ, suc, ◌+◌, ◌<◌, ◌≤◌, List, [], ◌∷◌, ◌++◌, map, length, Bool, true, false, cond, nat_lt, Option, Some, None, refl, sym, ap, ◌∙◌, append_assoc, length-append, arith}
 use Rattle.std.proofs.lemmas.List.{map-append, append-nil}
 use Rattle.std.proofs.lemmas.Bool.{lt-ltb, le-ltb}
-use Rattle.std.proofs.lemmas.Grind.{flat_map-append}
-use Rattle.documents.specs.Json.{Json, boolean, object, Members, lookup}
-use Rattle.js_forms.specs.Places.{Pointer, Place, places_from, sub_schemas, numbered, weight, most_weight, first_unread, told_at, fault_at, or_else, fault_after}
-use Rattle.js_forms.specs.Table.{Entry, Constant, Keywords, entry_of, entries_from, schemas, numbers, after, keyword_nodes}
-use Rattle.js_forms.specs.Walk.{State, weights, Reads, lower}
-use Rattle.js_forms.proofs.PlacesLaws.{places_from-step, schemas-moved, map-flat_map}
+use Rattle.documents.specs.Json.{Json}
+use Rattle.js_forms.specs.Places.{Pointer, Place, weight, most_weight, fault_at, or_else, fault_after}
+use Rattle.js_forms.specs.Table.{Entry, entry_of, entries_from}
+use Rattle.js_forms.specs.Walk.{State, weights, Reads}
 use Rattle.js_forms.proofs.TableLaws.{length-entries_from}
 
 pub state-same : (p : Pointer) (w : ℕ) {es fs : List Entry} → es ≡ fs

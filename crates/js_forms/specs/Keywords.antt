@@ -16,15 +16,18 @@ unread_words =
     ∷ codes "additionalProperties" ∷ codes "propertyNames" ∷ codes "dependencies"
     ∷ codes "minProperties" ∷ codes "maxProperties" ∷ codes "oneOf" ∷ []
 
+-- a value that can be a schema
 abbrev pub is_object_or_boolean : Json → Bool
 is_object_or_boolean (boolean b) = true
 is_object_or_boolean (object ms) = true
 is_object_or_boolean _ = false
 
+-- a list that is not empty
 abbrev pub is_filled : Items → Bool
 is_filled no_items = false
 is_filled (item v vs) = true
 
+-- a value that is such a list
 abbrev pub is_filled_list : Json → Bool
 is_filled_list (array vs) = is_filled vs
 is_filled_list _ = false

@@ -1,5 +1,4 @@
--- What a reader must believe: which schemas are of the forms that are read so far, and the core table of such
--- a schema.
+-- What a reader must believe: which schemas are of the forms that are read so far, and their core tables.
 pub mod Keywords
 pub mod Places
 pub mod Table

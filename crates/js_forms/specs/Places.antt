@@ -1,5 +1,5 @@
 -- The places of a schema at which schemas stand, and the first of them that can't be read.
-use Rattle.std.specs.Prelude.{ℕ, zero, suc, ◌+◌, ◌*◌, List, [], ◌∷◌, ◌++◌, map, flat_map, length, Bool, Option, Some, None, cond, nat_lt, codes, decimal}
+use Rattle.std.specs.Prelude.{ℕ, zero, suc, ◌+◌, ◌*◌, List, [], ◌∷◌, ◌++◌, flat_map, length, Option, Some, None, cond, nat_lt, codes, decimal}
 use Rattle.documents.specs.Json.{Json, boolean, object, Members, no_members, member, lookup, count}
 use Rattle.validity.specs.Validity.{listed}
 use Rattle.js_forms.specs.Keywords.{is_unread}
@@ -12,12 +12,12 @@ Pointer = List (List ℕ)
 abbrev pub Place : Type 0
 Place = Pointer × Json
 
--- the schemas of a list, from element i on, each with the tokens that lead to it from the schema that has the
--- list
+-- the schemas of a list, from element i on, each with the tokens that lead to it
 abbrev pub numbered : List ℕ → ℕ → List Json → List Place
 numbered name i [] = []
 numbered name i (s ∷ ss) = (name ∷ decimal i ∷ [], s) ∷ numbered name (suc i) ss
 
+-- the schemas under a keyword that has a list of them, and under one that has a schema
 abbrev pub under_list : List ℕ → Option Json → List Place
 under_list name None = []
 under_list name (Some v) = numbered name 0 (listed v)
@@ -39,8 +39,7 @@ abbrev pub places_within : ℕ → Pointer → Json → List Place
 places_within zero p s = []
 places_within (suc n) p s = (p, s) ∷ flat_map (λ c. places_within n (p ++ c.0) c.1) (sub_schemas s)
 
--- the places of the schema at a pointer, in pre-order. A schema has at least as many values as levels of
--- schemas
+-- the places of the schema at a pointer, in pre-order: it has at least as many values as levels of schemas
 unfoldable pub places_from : Pointer → Json → List Place
 places_from p s = places_within (count s) p s
 
@@ -56,6 +55,7 @@ weight (object ms) =
     + keyword_weight (lookup (codes "anyOf") ms) + keyword_weight (lookup (codes "not") ms)
 weight _ = 1
 
+-- the greatest weight that the places of a schema may have together
 abbrev pub most_weight : ℕ
 most_weight = 2147483647
 
@@ -64,6 +64,7 @@ abbrev pub first_unread : Members → Option (List ℕ)
 first_unread no_members = None
 first_unread (member name v ms) = cond (is_unread name v) (Some name) (first_unread ms)
 
+-- the pointer of a member
 abbrev pub told_at : Pointer → Option (List ℕ) → Option Pointer
 told_at p None = None
 told_at p (Some name) = Some (p ++ name ∷ [])
@@ -74,12 +75,13 @@ fault_at p (boolean b) = None
 fault_at p (object ms) = told_at p (first_unread ms)
 fault_at p _ = Some p
 
+-- the first of two faults
 abbrev pub or_else : Option Pointer → Option Pointer → Option Pointer
 or_else None other = other
 or_else (Some p) other = Some p
 
--- the first fault of some places after others of that weight: a place too many is one with which the weight
--- passes the most
+-- the first fault of some places after others of that weight; a place is a fault too where the weight passes
+-- the most with it
 abbrev pub fault_after : ℕ → List Place → Option Pointer
 fault_after before [] = None
 fault_after before (c ∷ cs) =

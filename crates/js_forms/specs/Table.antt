@@ -14,6 +14,7 @@ schemas s = map (λ p. p.1) (places_from [] s)
 abbrev pub kinds_of : Json → List Kind
 kinds_of v = filter (λ t. type_names t v) all_kinds
 
+-- the schemas of a keyword that has a list of them
 abbrev pub values : Option Json → List Json
 values None = []
 values (Some v) = listed v
@@ -28,6 +29,7 @@ abbrev pub after : ℕ → List Json → ℕ
 after e [] = e
 after e (s ∷ ss) = after (e + length (schemas s)) ss
 
+-- the position of each keyword, where it is there; the schemas of a list have their entries from e on
 abbrev pub types_node : Option Json → List Position
 types_node None = []
 types_node (Some v) = Types (kinds_of v) ∷ []
@@ -53,25 +55,28 @@ keyword_nodes e ms =
     ++ not_node (after (after e (values (lookup (codes "allOf") ms))) (values (lookup (codes "anyOf") ms)))
     (lookup (codes "not") ms)))
 
--- a place in the table: one that accepts everything or nothing, or one that asks for all of its keywords'
--- positions
+-- an entry: it accepts everything or nothing, or asks for all of its keywords' positions
 pub data Entry : Type 0 where
   Constant : Bool → Entry
   Keywords : List Position → Entry
 
+-- the entry of the schema at entry e; the schemas in it follow it
 abbrev pub entry_of : ℕ → Json → Entry
 entry_of e (boolean b) = Constant b
 entry_of e (object ms) = Keywords (keyword_nodes (suc e) ms)
 entry_of e _ = Constant false
 
+-- the entries of schemas that stand one after another
 abbrev pub entries_from : ℕ → List Json → List Entry
 entries_from e [] = []
 entries_from e (s ∷ ss) = entry_of e s ∷ entries_from (suc e) ss
 
+-- the positions of an entry's keywords
 abbrev pub nodes_of : Entry → List Position
 nodes_of (Constant b) = []
 nodes_of (Keywords ps) = ps
 
+-- k numbers from f on
 abbrev pub count_up : ℕ → ℕ → List ℕ
 count_up f zero = []
 count_up f (suc k) = f ∷ count_up (suc f) k
@@ -82,6 +87,7 @@ entry_position f (Constant true) = True
 entry_position f (Constant false) = False
 entry_position f (Keywords ps) = All (count_up f (length ps))
 
+-- the positions of entries, whose keywords' positions begin at f
 abbrev pub entry_positions : ℕ → List Entry → List Position
 entry_positions f [] = []
 entry_positions f (x ∷ xs) = entry_position f x ∷ entry_positions (f + length (nodes_of x)) xs
@@ -90,22 +96,25 @@ entry_positions f (x ∷ xs) = entry_position f x ∷ entry_positions (f + lengt
 abbrev pub laid_out : List Entry → List Position
 laid_out xs = entry_positions (length xs) xs ++ flat_map nodes_of xs
 
+-- the table of a schema: its root is position 0
 abbrev pub table_of : Json → List Position
 table_of s = laid_out (entries_from 0 (schemas s))
 
--- ranks that fall from each entry to its keywords' positions, and from these to later entries: for the last
--- entry 3,
--- for its positions 2, and 2 more for each entry before
+-- ranks that fall from each entry to its keywords' positions, and from these to later entries:
+-- 3 for the last entry, 2 for its positions, and 2 more for each entry before
 abbrev pub entry_ranks : List Entry → List ℕ
 entry_ranks [] = []
 entry_ranks (x ∷ xs) = suc (2 * suc (length xs)) ∷ entry_ranks xs
 
+-- the ranks of the positions of their keywords
 abbrev pub node_ranks : List Entry → List ℕ
 node_ranks [] = []
 node_ranks (x ∷ xs) = map (λ p. 2 * suc (length xs)) (nodes_of x) ++ node_ranks xs
 
+-- the ranks of the positions of entries that are laid out
 abbrev pub ranks : List Entry → List ℕ
 ranks xs = entry_ranks xs ++ node_ranks xs
 
+-- the ranks of a schema's table
 abbrev pub ranks_of : Json → List ℕ
 ranks_of s = ranks (entries_from 0 (schemas s))

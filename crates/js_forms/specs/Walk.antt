@@ -1,5 +1,5 @@
 -- What the walk of a schema does to its state.
-use Rattle.std.specs.Prelude.{◌≡◌, ℕ, ◌+◌, ◌<◌, ◌≤◌, List, [], ◌∷◌, ◌++◌, map, flat_map, length, Option, Some, None, Result, Ok, Err}
+use Rattle.std.specs.Prelude.{◌≡◌, ℕ, ◌+◌, ◌<◌, ◌≤◌, List, [], ◌∷◌, ◌++◌, map, flat_map, length, Some, None, Result, Ok, Err}
 use Rattle.documents.specs.Json.{Json}
 use Rattle.js_algebra.specs.View.{node_view}
 use Rattle.js_forms.specs.Places.{Pointer, Place, places_from, weight, most_weight, fault_after}
@@ -29,6 +29,7 @@ start = record { pointer = []; weight = 0; entries = [] }
 abbrev pub at_pointer : State → Pointer → State
 at_pointer s p = record s { pointer = p }
 
+-- what some schemas weigh together
 abbrev pub weights : List Json → ℕ
 weights [] = 0
 weights (s ∷ ss) = weight s + weights ss
@@ -53,8 +54,7 @@ ReadsOrTells old new (Err e) cs = TellsFault old e cs
 abbrev pub lower : Pointer → List Place → List Place
 lower p cs = flat_map (λ c. places_from (p ++ c.0) c.1) cs
 
--- a place of that weight is added, with its entry; the walk is told to be too large where the weight passes
--- the most
+-- a place of that weight is added, with its entry, or told where the weight passes the most with it
 abbrev pub EntersOrTells : State → State → Result (Unit {0}) FormsFault → ℕ → T.Entry → Type 0
 EntersOrTells old new (Ok made) w x =
     (old.weight + w ≤ most_weight) × (new.pointer ≡ old.pointer) × (new.weight ≡ old.weight + w)

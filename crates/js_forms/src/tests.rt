@@ -3,46 +3,50 @@
 use crate::{FormsFault, read_forms};
 use js_algebra::{Node, Pos};
 use js_json::read_json;
+use std::alloc::Global;
 use std::test::Fail;
 
 #[test]
 fn reads_six_forms_and_tells_the_rest(rt: HostRuntime) -> Result<(), Fail> {
     let alloc = rt.alloc();
     let cases = [
-        ("true", None),
-        ("{\"a\":5,\"title\":{\"minimum\":1}}", None),
-        ("{\"type\":[\"string\",\"null\",\"string\"]}", None),
+        ("true", "read"),
+        ("{\"a\":5,\"title\":{\"minimum\":1}}", "read"),
+        ("{\"type\":[\"string\",\"null\",\"string\"]}", "read"),
         (
             "{\"allOf\":[{\"anyOf\":[true,true]},false],\"not\":{\"type\":\"integer\"}}",
-            None,
+            "read",
         ),
-        ("5", Some("\"\"")),
-        ("{\"minimum\":1}", Some("\"/minimum\"")),
-        ("{\"type\":\"frob\"}", Some("\"/type\"")),
-        ("{\"type\":[]}", Some("\"/type\"")),
-        ("{\"type\":[\"null\",\"frob\"]}", Some("\"/type\"")),
-        ("{\"allOf\":[]}", Some("\"/allOf\"")),
-        ("{\"anyOf\":5}", Some("\"/anyOf\"")),
-        ("{\"allOf\":[true,5]}", Some("\"/allOf/1\"")),
-        ("{\"not\":5}", Some("\"/not\"")),
-        ("{\"type\":\"null\",\"$ref\":\"#\"}", Some("\"/$ref\"")),
-        ("{\"allOf\":[{\"minimum\":1}],\"not\":5}", Some("\"/not\"")),
+        ("5", "\"\""),
+        ("{\"minimum\":1}", "\"/minimum\""),
+        ("{\"type\":\"frob\"}", "\"/type\""),
+        ("{\"type\":[]}", "\"/type\""),
+        ("{\"type\":[\"null\",\"frob\"]}", "\"/type\""),
+        ("{\"allOf\":[]}", "\"/allOf\""),
+        ("{\"anyOf\":5}", "\"/anyOf\""),
+        ("{\"allOf\":[true,5]}", "\"/allOf/1\""),
+        ("{\"not\":5}", "\"/not\""),
+        ("{\"type\":\"null\",\"$ref\":\"#\"}", "\"/$ref\""),
+        ("{\"allOf\":[{\"minimum\":1}],\"not\":5}", "\"/not\""),
         (
             "{\"not\":{\"anyOf\":[{\"oneOf\":[]}]}}",
-            Some("\"/not/anyOf/0/oneOf\""),
+            "\"/not/anyOf/0/oneOf\"",
         ),
     ];
     for (text, expected) in cases {
-        let json = read_json(alloc, text.as_bytes())?;
-        match (read_forms(alloc, &json), expected) {
-            (Ok(_), None) => {}
-            (Err(FormsFault::NotYet(place)), Some(pointer)) => {
-                assert_eq!(rt; place.text(alloc)?.as_str(), pointer, "{text}");
-            }
-            _ => return Err("another answer".into()),
-        }
+        let answer = answer_to(alloc, text)?;
+        assert_eq!(rt; answer.as_str(), expected, "{text}");
     }
     Ok(())
+}
+
+fn answer_to(alloc: Global, text: &str) -> Result<String, Fail> {
+    let json = read_json(alloc, text.as_bytes())?;
+    match read_forms(alloc, &json) {
+        Ok(_core) => Ok(String::from_str(alloc, "read")?),
+        Err(FormsFault::NotYet(place)) => Ok(place.text(alloc)?),
+        Err(FormsFault::Memory) => Err("no memory".into()),
+    }
 }
 
 #[test]

@@ -1,10 +1,8 @@
-use Rattle.std.proofs.Common.{◌≡◌, ◌<◌, ◌≤◌, ◌^◌, true, length, map, List, ap, sym, subst, ◌∙◌, arith}
-use Rattle.positions.specs.Position.{is_table, Position}
+use Rattle.std.proofs.Common.{◌≡◌, true, length, List, ap, sym, subst, ◌∙◌, arith}
+use Rattle.positions.specs.Position.{is_table}
 use Rattle.positions.specs.Holds.{holds}
 use Rattle.js_doc.specs.JsonView.{view}
-use Rattle.js_forms.specs.Places.{most_weight}
-use Rattle.js_forms.specs.Table.{Entry, laid_out, ranks, table_of}
-use Rattle.js_forms.specs.Walk.{entry_view}
+use Rattle.js_forms.specs.Table.{Entry, laid_out, ranks}
 use Rattle.js_forms.proofs.Ranks.{is_table-table_of, IsTable-table_of}
 use Rattle.js_forms.proofs.Small.{length-table_of}
 use Rattle.js_forms.proofs.Meaning.{valid-holds}

@@ -1,4 +1,4 @@
-use Rattle.std.proofs.Common.{◌≡◌, length, map, flat_map, ap, arith}
+use Rattle.std.proofs.Common.{length, map, flat_map, ap, arith}
 use Rattle.std.proofs.lemmas.List.{length-map}
 use Rattle.js_forms.specs.Table.{nodes_of}
 use Rattle.js_forms.specs.Walk.{entry_view}

@@ -1,4 +1,4 @@
-use Rattle.std.proofs.Common.{◌≡◌, ◌+◌, ◌∷◌, [], ◌++◌, map, drop, ap, sym, ◌∙◌, append_assoc}
+use Rattle.std.proofs.Common.{◌+◌, ◌++◌, map, drop, ap, sym, ◌∙◌, append_assoc}
 use Rattle.js_forms.specs.Table.{entry_ranks}
 use Rattle.js_forms.specs.Walk.{entry_view}
 use Rattle.js_forms.proofs.LayoutLemmas.{entry_ranks-left}

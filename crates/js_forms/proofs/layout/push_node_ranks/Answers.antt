@@ -1,4 +1,4 @@
-use Rattle.std.proofs.Common.{◌≡◌, ◌+◌, ◌-◌, ◌*◌, ◌∷◌, [], ◌++◌, map, drop, length, ap, sym, ◌∙◌, append_assoc}
+use Rattle.std.proofs.Common.{◌+◌, ◌-◌, ◌*◌, ◌++◌, map, drop, length, ap, sym, ◌∙◌, append_assoc}
 use Rattle.js_forms.specs.Table.{node_ranks}
 use Rattle.js_forms.specs.Walk.{entry_view}
 use Rattle.js_forms.proofs.LayoutLemmas.{node_ranks-left}

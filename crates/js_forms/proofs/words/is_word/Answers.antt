@@ -1,4 +1,4 @@
-use Rattle.std.proofs.Common.{sym, ◌∙◌}
+use Rattle.std.proofs.Common.{sym}
 use Rattle.js_json.proofs.MembersLemmas.{same_word-named}
 use Rattle.js_forms.proofs.WordsLemmas.{chars-is_ascii}
 use Rattle.js_forms.proofs.words.is_word.Goals as goal

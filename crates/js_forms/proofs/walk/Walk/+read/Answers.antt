@@ -1,10 +1,10 @@
-use Rattle.std.proofs.Common.{◌≡◌, ℕ, ◌<◌, List, [], ◌∷◌, ◌++◌, map, drop, take, length, refl, sym, ap, subst, ◌∙◌, arith, rules, codes, Some}
+use Rattle.std.proofs.Common.{List, [], ◌∷◌, ◌++◌, map, refl, sym, ap, subst, ◌∙◌, arith, codes, Some}
 use Rattle.std.proofs.lemmas.List.{map_push}
 use Rattle.documents.specs.Json as D
 use Rattle.js_doc.specs.JsonView.{view, map_view}
 use Rattle.js_algebra.specs.View.{node_view, places}
 use Rattle.js_forms.specs.Places.{under_list, under_value, numbered}
-use Rattle.js_forms.specs.Walk.{ReadsOrTells, TellsFault, lower}
+use Rattle.js_forms.specs.Walk.{TellsFault, lower}
 use Rattle.js_forms.proofs.Sizes.{value-count, list-count, element-count, taken, taken-length, taken-all}
 use Rattle.js_forms.proofs.Views.{view-Bool, view-other}
 use Rattle.js_forms.proofs.Reading as R

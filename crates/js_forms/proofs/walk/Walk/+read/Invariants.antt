@@ -1,4 +1,4 @@
-use Rattle.std.proofs.Common.{ℕ, ◌+◌, ◌*◌, map, take}
+use Rattle.std.proofs.Common.{◌+◌, ◌*◌, map, take}
 use Rattle.documents.specs.Json.{count, items_count, members_count, items_of}
 use Rattle.js_doc.specs.JsonView.{view, map_view}
 use Rattle.js_algebra.specs.View.{places}

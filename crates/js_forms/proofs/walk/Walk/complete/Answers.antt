@@ -1,4 +1,3 @@
-use Rattle.std.proofs.Common.{◌≡◌, map}
 use Rattle.std.proofs.lemmas.List.{map-set}
 use Rattle.js_forms.specs.Walk.{entry_view}
 use Rattle.js_forms.specs.declared.entry.Entry.TheVariants.{Keywords}

@@ -1,4 +1,4 @@
-use Rattle.std.proofs.Common.{◌≡◌, ◌∷◌, [], ◌++◌, ap, ◌∙◌}
+use Rattle.std.proofs.Common.{◌∷◌, [], ◌++◌, ap, ◌∙◌}
 use Rattle.js_forms.proofs.WordsLemmas.{chars-is_ascii}
 use Rattle.js_forms.proofs.WalkLaws.{pointer-same}
 use Rattle.js_forms.proofs.walk.Walk.descend.Goals as goal
