@@ -11,3 +11,6 @@ mod walk;
 
 pub use told::{MOST_ENDS, Tree};
 pub use visits::tree;
+
+#[cfg(test)]
+mod tests;
