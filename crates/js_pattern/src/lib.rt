@@ -1,0 +1,13 @@
+//! Patterns: a profile of ECMA-262's regular expressions, read into the tree that decides matching.
+#![tactic(auto)]
+
+mod char_set;
+mod escape;
+mod fault;
+mod quantifier;
+mod re;
+mod scan;
+
+pub use char_set::CharSet;
+pub use fault::{Memory, PatternFault, PatternForm};
+pub use re::{Re, ReList};
