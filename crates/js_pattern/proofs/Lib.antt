@@ -3,3 +3,6 @@ pub mod Examples
 -- Runs of digits, read one digit on.
 pub mod Runs
 pub mod Within
+-- Sorted ranges that are joined are a set.
+pub mod Joins
+pub mod SetOps

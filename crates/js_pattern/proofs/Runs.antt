@@ -24,8 +24,8 @@ module _ (radix : ℕ) where
   digits_from-count a b (c ∷ t) =
       elim (cases_lt (digit_value c) radix) [
         | inl l ↦ ap (λ p. p.1) (digits_from-digit a c t l)
-          ∙ ap suc (digits_from-count (radix * a + digit_value c) (radix * b + digit_value c) t)
-          ∙ sym (ap (λ p. p.1) (digits_from-digit b c t l))
+            ∙ ap suc (digits_from-count (radix * a + digit_value c) (radix * b + digit_value c) t)
+            ∙ sym (ap (λ p. p.1) (digits_from-digit b c t l))
         | inr l ↦ ap (λ p. p.1) (digits_from-other a c t l) ∙ sym (ap (λ p. p.1) (digits_from-other b c t l))
       ]
 
@@ -33,16 +33,17 @@ module _ (radix : ℕ) where
   cut-grows a b d r e =
       elim (cases_lt a 4294967296) [
         | inl l ↦ elim (cases_lt b 4294967296) [
-            | inl k ↦ let same : a ≡ b = omega (arith, e) in ap (λ n. cut (radix * n + d)) same
-            | inr k ↦ let low : a ≡ 4294967295 = omega (arith, e) in large a b low k
-          ]
+          | inl k ↦ let same : a ≡ b = omega (arith, e) in ap (λ n. cut (radix * n + d)) same
+          | inr k ↦ let low : a ≡ 4294967295 = omega (arith, e) in large a b low k
+        ]
         | inr l ↦ elim (cases_lt b 4294967296) [
-            | inl k ↦ let low : b ≡ 4294967295 = omega (arith, e) in sym (large b a low l)
-            | inr k ↦ omega (arith, times a, times b)
-          ]
+          | inl k ↦ let low : b ≡ 4294967295 = omega (arith, e) in sym (large b a low l)
+          | inr k ↦ omega (arith, times a, times b)
+        ]
       ] where
         times : (n : ℕ) → n ≤ radix * n
         times n = omega (arith, mul-le 1 n radix n r (omega arith))
+
         large : (a b : ℕ) → a ≡ 4294967295 → 4294967296 ≤ b → cut (radix * a + d) ≡ cut (radix * b + d)
         large a b e h = omega (arith, times a, times b)
 
@@ -51,8 +52,8 @@ module _ (radix : ℕ) where
   digits_from-cut a b (c ∷ t) r e =
       elim (cases_lt (digit_value c) radix) [
         | inl l ↦ ap (λ p. cut p.0) (digits_from-digit a c t l)
-          ∙ digits_from-cut (radix * a + digit_value c) (radix * b + digit_value c) t r (cut-grows a b (digit_value c) r e)
-          ∙ sym (ap (λ p. cut p.0) (digits_from-digit b c t l))
+            ∙ digits_from-cut (radix * a + digit_value c) (radix * b + digit_value c) t r (cut-grows a b (digit_value c) r e)
+            ∙ sym (ap (λ p. cut p.0) (digits_from-digit b c t l))
         | inr l ↦ ap (λ p. cut p.0) (digits_from-other a c t l) ∙ e ∙ sym (ap (λ p. cut p.0) (digits_from-other b c t l))
       ]
 
@@ -63,12 +64,13 @@ module _ (radix : ℕ) where
       × (i + 1 + (digits_from radix m (drop (i + 1) t)).1 ≡ i + (digits_from radix n (drop i t)).1)
   run-digit n m i c d t r l e h k f =
       let here : digits_from radix n (drop i t) ≡ digits_from radix n (c ∷ drop (i + 1) t) =
-          ap (digits_from radix n) (rw add-one (drop-cons t i c l) ∙ ap (λ x. x ∷ drop (i + 1) t) (sym e)) in
+      ap (digits_from radix n) (rw add-one (drop-cons t i c l) ∙ ap (λ x. x ∷ drop (i + 1) t) (sym e)) in
       let step = here ∙ digits_from-digit n c (drop (i + 1) t) h in
-      let cuts : cut m ≡ cut (radix * n + digit_value c) = omega (arith, k, f, mul_comm n radix) in
-      (digits_from-cut m (radix * n + digit_value c) (drop (i + 1) t) r cuts ∙ sym (ap (λ p. cut p.0) step),
-      let same = digits_from-count m (radix * n + digit_value c) (drop (i + 1) t) in
-      let other = ap (λ p. p.1) step in omega (arith, same, other))
+      let cuts : cut m ≡ cut (radix * n + digit_value c) = omega (arith, k, f, mul_comm n radix) in (
+        digits_from-cut m (radix * n + digit_value c) (drop (i + 1) t) r cuts ∙ sym (ap (λ p. cut p.0) step),
+        let same = digits_from-count m (radix * n + digit_value c) (drop (i + 1) t) in
+            let other = ap (λ p. p.1) step in omega (arith, same, other),
+      )
 
   pub run-other : (n i c : ℕ) (t : List ℕ) → i < length t → c ≡ get_or t i c → (digit_value c < radix → ⊥) → digits_from radix n (drop i t) ≡ (n, 0)
   run-other n i c t l e h =

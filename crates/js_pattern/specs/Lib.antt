@@ -6,3 +6,4 @@ pub mod Quantifiers
 pub mod Grammar
 -- What a contract sees of the reader's own types.
 pub mod View
+pub mod Ranges

@@ -1,10 +1,12 @@
 -- What a contract sees of a tree that the reader made, and how an answer of the reader stands to the grammar's.
-use Rattle.std.specs.Prelude.{◌≡◌, ◌≢◌, ℕ, min, List, map, Option, Some, None, Result, Err}
+use Rattle.std.specs.Prelude.{◌≡◌, ◌≢◌, ℕ, min, List, ◌++◌, Option, option_map, Result, Ok, Err}
 use Rattle.patterns.specs.Tree as trees
 use Rattle.js_pattern.specs.declared.re.Re.{Re, fold-Re}
 use Rattle.js_pattern.specs.declared.re.Re.TheOpen as open_re
 use Rattle.js_pattern.specs.declared.re.Re.TheOpen.{Re-F, ReList-F}
 use Rattle.js_pattern.specs.declared.re.ReList.{ReList, fold-ReList}
+use Rattle.js_pattern.specs.declared.quantifier.Bounds.{Bounds}
+use Rattle.js_pattern.specs.Reading.{Reading}
 use Rattle.js_pattern.specs.declared.fault.PatternFault.{PatternFault}
 use Rattle.js_pattern.specs.declared.fault.PatternFault.TheVariants.{Memory}
 
@@ -37,3 +39,12 @@ IsFault fault reading = fault ≢ Memory → reading ≡ Err fault
 
 abbrev pub cut_braced : ℕ × ℕ → ℕ × ℕ
 cut_braced b = (cut b.0, b.1)
+
+-- a quantifier's numbers as they are kept
+abbrev pub cut_bounds : Bounds → Bounds
+cut_bounds b = record { low = cut b.low; high = option_map cut b.high; taken = b.taken }
+
+-- what an item of a class adds to the ranges so far, by how many characters follow its first one
+abbrev pub AddsItem : List (ℕ × ℕ) → List (ℕ × ℕ) → Reading (List (ℕ × ℕ)) → Result ℕ PatternFault → Type 0
+AddsItem before now reading (Ok n) = (added : List (ℕ × ℕ)) × (reading ≡ Ok (added, n)) × (now ≡ before ++ added)
+AddsItem before now reading (Err fault) = IsFault fault reading

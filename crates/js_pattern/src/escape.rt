@@ -187,11 +187,7 @@ fn code_unit(first: u32, low: Option<u32>, at: usize) -> Result<(Escape, usize),
     match low {
         Some(low) => {
             if 0xd800 <= first && first <= 0xdbff {
-                numbered(
-                    0x10000 + 0x400 * (first - 0xd800) + (low - 0xdc00),
-                    11,
-                    at,
-                )
+                numbered(0x10000 + 0x400 * (first - 0xd800) + (low - 0xdc00), 11, at)
             } else {
                 numbered(first, 5, at)
             }

@@ -5,6 +5,7 @@ mod char_set;
 mod escape;
 mod fault;
 mod quantifier;
+mod ranges;
 mod re;
 mod scan;
 

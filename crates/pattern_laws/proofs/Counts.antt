@@ -7,12 +7,14 @@ use Rattle.pattern_laws.proofs.Members.{Rises, rises-are_ranges, has-below}
 use Rattle.pattern_laws.proofs.Gaps.{Ends, ends-are_ranges}
 
 count_below-none : (f : ℕ → Bool) (n : ℕ) → ((c : ℕ) → f c ≡ false) → count_below f n ≡ 0
+unfolding count_below
 count_below-none f zero h = refl
 count_below-none f (suc n) h = cond-false (f n) _ _ (h n) ∙ count_below-none f n h
 
 -- numbers that pass one of two tests, where none passes both
 count_below-either : (f g : ℕ → Bool) (n : ℕ) → ((c : ℕ) → f c ≡ true → g c ≡ false)
     → count_below (λ c. f c || g c) n ≡ count_below f n + count_below g n
+unfolding count_below
 count_below-either f g zero h = refl
 count_below-either f g (suc n) h =
     elim (cases_Bool (f n)) [
@@ -31,6 +33,7 @@ count_below-either f g (suc n) h =
 
 -- the numbers of a range that lie below n
 count_below-within : (a b n : ℕ) → a ≤ b → count_below (is_within (a, b)) n ≡ min n (suc b) - a
+unfolding count_below
 count_below-within a b zero h = omega arith
 count_below-within a b (suc n) h =
     let rest : count_below (is_within (a, b)) n ≡ min n (suc b) - a = count_below-within a b n h in

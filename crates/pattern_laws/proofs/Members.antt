@@ -24,10 +24,10 @@ rises-lower low high (r ∷ rs) l h = (omega (arith, h.0), h.1, h.2)
 is_within-inside : (r : ℕ × ℕ) (c : ℕ) → r.0 ≤ c → c ≤ r.1 → is_within r c ≡ true
 is_within-inside r c a b = and_from (nat_le r.0 c) (nat_le c r.1) (le-leb r.0 c a) (le-leb c r.1 b)
 
-is_within-true : (r : ℕ × ℕ) (c : ℕ) → is_within r c ≡ true → (r.0 ≤ c) × (c ≤ r.1)
+pub is_within-true : (r : ℕ × ℕ) (c : ℕ) → is_within r c ≡ true → (r.0 ≤ c) × (c ≤ r.1)
 is_within-true r c h = let (a, b) = and_parts (nat_le r.0 c) (nat_le c r.1) h in (leb-true r.0 c a, leb-true c r.1 b)
 
-is_within-outside : (r : ℕ × ℕ) (c : ℕ) → (c < r.0) ⊎ (r.1 < c) → is_within r c ≡ false
+pub is_within-outside : (r : ℕ × ℕ) (c : ℕ) → (c < r.0) ⊎ (r.1 < c) → is_within r c ≡ false
 is_within-outside r c h = grind (arith, nat_tests)
 
 -- nothing lies below the first range
@@ -47,7 +47,7 @@ has-first low r rs c h e =
 has-after : (low : ℕ) (r : ℕ × ℕ) (rs : List (ℕ × ℕ)) (c : ℕ) → Rises low (r ∷ rs) → r.1 < c → has (r ∷ rs) c ≡ has rs c
 has-after low r rs c h l = ap (λ b. b || has rs c) (is_within-outside r c (inr l))
 
-has-inside : (r : ℕ × ℕ) (rs : List (ℕ × ℕ)) (c : ℕ) → r.0 ≤ c → c ≤ r.1 → has (r ∷ rs) c ≡ true
+pub has-inside : (r : ℕ × ℕ) (rs : List (ℕ × ℕ)) (c : ℕ) → r.0 ≤ c → c ≤ r.1 → has (r ∷ rs) c ≡ true
 has-inside r rs c a b = or_left (is_within r c) (has rs c) (is_within-inside r c a b)
 
 -- the first range ends no later where every member of it is one of the other list

@@ -7,16 +7,16 @@ use Rattle.pattern_laws.specs.Laws.{every_range}
 use Rattle.pattern_laws.proofs.Members.{Rises, rises-are_ranges, rises-lower}
 
 -- two ranges that meet are one
-is_within-joined : (a b c d n : ℕ) → a ≤ b → c ≤ d → c ≤ b + 1 → a ≤ d + 1
+pub is_within-joined : (a b c d n : ℕ) → a ≤ b → c ≤ d → c ≤ b + 1 → a ≤ d + 1
     → is_within (min a c, max b d) n ≡ is_within (a, b) n || is_within (c, d) n
 is_within-joined a b c d n h k p q = grind (arith, nat_tests)
 
-or_swap : (x y z : Bool) → x || (y || z) ≡ y || (x || z)
+pub or_swap : (x y z : Bool) → x || (y || z) ≡ y || (x || z)
 or_swap true true z = refl
 or_swap true false z = refl
 or_swap false y z = refl
 
-or_group : (x y z : Bool) → (x || y) || z ≡ x || (y || z)
+pub or_group : (x y z : Bool) → (x || y) || z ≡ x || (y || z)
 or_group true y z = refl
 or_group false y z = refl
 
@@ -67,7 +67,7 @@ rises-with_range low r (s ∷ ss) a up h =
     (λ p q. rises-with_range low (min r.0 s.0, max r.1 s.1) ss (omega (arith, h.0)) (omega arith)
     (rises-lower low (s.1 + 2) ss (omega (arith, h.0, h.1)) h.2))
 
-is_range-joined : (a b c d : ℕ) → is_range (a, b) ≡ true → is_range (c, d) ≡ true → c ≤ b + 1 → a ≤ d + 1
+pub is_range-joined : (a b c d : ℕ) → is_range (a, b) ≡ true → is_range (c, d) ≡ true → c ≤ b + 1 → a ≤ d + 1
     → is_range (min a c, max b d) ≡ true
 is_range-joined a b c d h k p q = grind (arith, nat_tests)
 
@@ -84,7 +84,7 @@ are_ranges-parts low r rs h =
     let (above, range) = and_parts (nat_le low r.0) (is_range r) front in
     (leb-true low r.0 above, range, rest)
 
-are_ranges-from : (low : ℕ) (r : ℕ × ℕ) (rs : List (ℕ × ℕ)) → low ≤ r.0 → is_range r ≡ true → are_ranges (r.1 + 2) rs ≡ true
+pub are_ranges-from : (low : ℕ) (r : ℕ × ℕ) (rs : List (ℕ × ℕ)) → low ≤ r.0 → is_range r ≡ true → are_ranges (r.1 + 2) rs ≡ true
     → are_ranges low (r ∷ rs) ≡ true
 are_ranges-from low r rs a b c = and_from _ _ (and_from _ _ (le-leb low r.0 a) b) c
 

@@ -45,7 +45,7 @@ abbrev pub complement_of : List (ℕ × ℕ) → List (ℕ × ℕ)
 complement_of rs = gaps_from 0 (with_range (0xd800, 0xdfff) rs)
 
 -- how many numbers below n pass a test
-abbrev pub count_below : (ℕ → Bool) → ℕ → ℕ
+unfoldable pub count_below : (ℕ → Bool) → ℕ → ℕ
 count_below test zero = 0
 count_below test (suc n) = if test n then suc (count_below test n) else count_below test n
 
