@@ -6,3 +6,4 @@ pub mod Within
 -- Sorted ranges that are joined are a set.
 pub mod Joins
 pub mod SetOps
+pub mod Characters

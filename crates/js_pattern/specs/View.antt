@@ -6,7 +6,7 @@ use Rattle.js_pattern.specs.declared.re.Re.TheOpen as open_re
 use Rattle.js_pattern.specs.declared.re.Re.TheOpen.{Re-F, ReList-F}
 use Rattle.js_pattern.specs.declared.re.ReList.{ReList, fold-ReList}
 use Rattle.js_pattern.specs.declared.quantifier.Bounds.{Bounds}
-use Rattle.js_pattern.specs.Reading.{Reading}
+use Rattle.js_pattern.specs.Reading.{Reading, after}
 use Rattle.js_pattern.specs.declared.fault.PatternFault.{PatternFault}
 use Rattle.js_pattern.specs.declared.fault.PatternFault.TheVariants.{Memory}
 
@@ -46,5 +46,5 @@ cut_bounds b = record { low = cut b.low; high = option_map cut b.high; taken = b
 
 -- what an item of a class adds to the ranges so far, by how many characters follow its first one
 abbrev pub AddsItem : List (ℕ × ℕ) → List (ℕ × ℕ) → Reading (List (ℕ × ℕ)) → Result ℕ PatternFault → Type 0
-AddsItem before now reading (Ok n) = (added : List (ℕ × ℕ)) × (reading ≡ Ok (added, n)) × (now ≡ before ++ added)
+AddsItem before now reading (Ok n) = after 0 (λ added. before ++ added) reading ≡ Ok (now, n)
 AddsItem before now reading (Err fault) = IsFault fault reading

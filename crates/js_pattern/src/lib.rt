@@ -2,9 +2,11 @@
 #![tactic(auto)]
 
 mod char_set;
+mod class;
 mod escape;
 mod fault;
 mod quantifier;
+mod range_list;
 mod ranges;
 mod re;
 mod scan;
