@@ -7,3 +7,4 @@ pub mod Within
 pub mod Joins
 pub mod SetOps
 pub mod Characters
+pub mod Items

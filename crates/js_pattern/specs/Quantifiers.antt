@@ -1,6 +1,7 @@
 -- How often an atom stands.
 use Rattle.std.specs.Prelude.{ℕ, ◌+◌, Bool, true, false, ◌&&◌, ◌||◌, nat_eq, nat_lt, List, [], ◌∷◌, drop, Result, Ok, Err, Option, Some, None, if◌then◌else◌}
 use Rattle.patterns.specs.Tree.{Tree, repeated}
+use Rattle.js_pattern.specs.declared.fault.PatternFault.{PatternFault}
 use Rattle.js_pattern.specs.declared.fault.PatternFault.TheVariants.{RepeatTooWide, QuantifierOrder}
 use Rattle.js_pattern.specs.declared.quantifier.Bounds.{Bounds}
 use Rattle.js_pattern.specs.Reading.{Reading, ◌∈◌, stands_at, digits}
@@ -30,22 +31,25 @@ quantifier c t =
     else if c ∈ "{" then braces t
     else None
 
-abbrev pub is_above : ℕ → Option ℕ → Bool
-is_above n None = false
-is_above n (Some m) = nat_lt n m
+-- numbers over 16,384, and a least number above the greatest, are faults at the quantifier, in this order
+abbrev pub judged_by : ℕ → ℕ → Option ℕ → Result (Unit {0}) PatternFault
+judged_by at low None = if nat_lt 16384 low then Err (RepeatTooWide at) else Ok tt
+judged_by at low (Some high) =
+    if nat_lt 16384 low || nat_lt 16384 high then Err (RepeatTooWide at)
+    else if nat_lt high low then Err (QuantifierOrder at)
+    else Ok tt
 
-abbrev pub is_below : ℕ → Option ℕ → Bool
-is_below n None = false
-is_below n (Some m) = nat_lt m n
+abbrev pub judged : ℕ → Bounds → Result (Unit {0}) PatternFault
+judged at b = judged_by at b.low b.high
 
--- a number over 16,384, and then a least number above the greatest, are faults at the quantifier. A `?` after it
--- asks for the shortest match first, and changes nothing of what matches
+-- a `?` after a quantifier asks for the shortest match first, and changes nothing of what matches
+abbrev pub repeated_by : Tree → List ℕ → Bounds → Result (Unit {0}) PatternFault → Reading Tree
+repeated_by tree t b (Ok u) = Ok (repeated tree b.low b.high, 1 + b.taken + (if stands_at b.taken "?" t then 1 else 0))
+repeated_by tree t b (Err fault) = Err fault
+
 abbrev pub quantified_by : Tree → ℕ → List ℕ → Option Bounds → Reading Tree
 quantified_by tree at t None = Ok (tree, 0)
-quantified_by tree at t (Some b) =
-    if nat_lt 16384 b.low || is_above 16384 b.high then Err (RepeatTooWide at)
-    else if is_below b.low b.high then Err (QuantifierOrder at)
-    else Ok (repeated tree b.low b.high, 1 + b.taken + (if stands_at b.taken "?" t then 1 else 0))
+quantified_by tree at t (Some b) = repeated_by tree t b (judged at b)
 
 -- an atom with the quantifier that a text begins with, at the place `at`
 abbrev pub quantified : Tree → ℕ → List ℕ → Reading Tree

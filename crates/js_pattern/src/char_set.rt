@@ -5,10 +5,11 @@
 
 ghost use Rattle.std.specs.Prelude.{◌≡◌, ℕ, ◌≤◌, Bool, true, false, ◌&&◌, ◌||◌, not, List, [], ◌∷◌, IfOk, IsTrue, ◌↔◌, length};
 ghost use Rattle.std.specs.Option.{IfSome, IsNone, MatchOption};
-ghost use Rattle.patterns.specs.CharSet.{has, is_scalar, set_of, complement_of, count_below, comes_no_later};
+ghost use Rattle.patterns.specs.CharSet.{has, is_scalar, are_ranges, set_of, complement_of, count_below, comes_no_later};
 ghost use Rattle.pattern_laws.specs.Laws.{every_range};
 
 use crate::fault::Memory;
+use crate::range_list::RangeList;
 use crate::ranges::{first_within, gaps, join, width, with_range};
 use std::alloc::Global;
 use std::marker::Model;
@@ -100,6 +101,23 @@ impl CharSet {
     {
         ranges.sort_unstable();
         let ranges = join(alloc, &ranges)?;
+        Ok(CharSet { ranges })
+    }
+
+    /// The set of the ranges of a class.
+    pub(crate) fn from_list(alloc: Global, list: RangeList) -> Result<Self, Memory>
+        ensures { IfOk result (λ set. set ≡ set_of list.ranges.items) }
+    {
+        let RangeList { ranges } = list;
+        Self::from_ranges(alloc, ranges)
+    }
+
+    /// The set that has these ranges.
+    pub(crate) fn from_slice(alloc: Global, ranges: &[(u32, u32)]) -> Result<Self, Memory>
+        requires { are_ranges 0 ranges.now ≡ true }
+        ensures { IfOk result (λ set. set ≡ ranges.now) }
+    {
+        let ranges = Vec::from_slice(alloc, ranges)?;
         Ok(CharSet { ranges })
     }
 }

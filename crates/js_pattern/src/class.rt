@@ -3,15 +3,17 @@
 //! Reading a class looks at each character once, but for an escape after a `-`, which may be read twice. Its ranges
 //! are sorted at the end.
 
-ghost use Rattle.std.specs.Prelude.{◌≡◌, ◌+◌, ◌<◌, ◌≤◌, ◌^◌, length};
-ghost use Rattle.std.specs.Result.{IfOk};
-ghost use Rattle.js_pattern.specs.Classes.{class_atom, range_from, item};
-ghost use Rattle.js_pattern.specs.View.{AddsItem};
+ghost use Rattle.std.specs.Prelude.{◌≡◌, ◌+◌, ◌<◌, ◌≤◌, ◌^◌, length, Ok};
+ghost use Rattle.std.specs.Result.{IfOk, IfErr};
+ghost use Rattle.js_pattern.specs.Classes.{class_atom, range_from, item, items, class};
+ghost use Rattle.js_pattern.specs.View.{AddsItem, IsFault};
 
+use crate::char_set::CharSet;
 use crate::escape::{Escape, read_escape};
 use crate::fault::PatternFault;
 use crate::range_list::RangeList;
-use crate::scan::is_at;
+use crate::scan::{is_at, skip};
+use std::alloc::Global;
 
 /// A member of a class, whose first character stands at the place `at`.
 fn class_atom(
@@ -65,7 +67,7 @@ fn read_range(
 }
 
 /// Reads an item of a class, whose first character stands at the place `at`. Answers how many characters follow that.
-pub(crate) fn read_item(
+fn read_item(
     list: &mut RangeList,
     first: char,
     rest: &[char],
@@ -95,4 +97,49 @@ pub(crate) fn read_item(
             Ok(taken)
         }
     }
+}
+
+/// Reads the items of a class and its closing bracket. The text begins at the place `at`.
+fn read_items(
+    alloc: Global,
+    text: &[char],
+    at: usize,
+) -> Result<(RangeList, usize), PatternFault>
+    requires { at + length text.now < 2 ^ 64 }
+    ensures value { IfOk result (λ r. items 0 at text.now ≡ Ok (r.0.ranges.items, r.1)) }
+    ensures fault { IfErr result (λ fault. IsFault fault (items 0 at text.now)) }
+    ensures within { IfOk result (λ r. r.1 ≤ length text.now) }
+{
+    let mut list = RangeList::new(alloc);
+    let mut taken = 0;
+    while taken < text.len() {
+        let first = text[taken];
+        if first == ']' {
+            return Ok((list, taken + 1));
+        }
+        let rest = skip(text, taken + 1);
+        let count = read_item(&mut list, first, rest, at + taken)?;
+        taken += 1 + count;
+    }
+    Err(PatternFault::Syntax(at + text.len()))
+}
+
+/// Reads a class, whose `[` stands at the place `at`, before the text.
+pub(crate) fn read_class(
+    alloc: Global,
+    text: &[char],
+    at: usize,
+) -> Result<(CharSet, usize), PatternFault>
+    requires { at + 1 + length text.now < 2 ^ 64 }
+    ensures value { IfOk result (λ r. class at text.now ≡ Ok r) }
+    ensures fault { IfErr result (λ fault. IsFault fault (class at text.now)) }
+    ensures within { IfOk result (λ r. r.1 ≤ length text.now) }
+{
+    if is_at(text, 0, '^') {
+        let (list, taken) = read_items(alloc, &text[1..], at + 2)?;
+        let set = CharSet::from_list(alloc, list)?.complement()?;
+        return Ok((set, 1 + taken));
+    }
+    let (list, taken) = read_items(alloc, text, at + 1)?;
+    Ok((CharSet::from_list(alloc, list)?, taken))
 }
