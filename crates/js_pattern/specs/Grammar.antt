@@ -27,17 +27,24 @@ abbrev pub alternation_of : List Tree → Tree
 alternation_of (t ∷ []) = t
 alternation_of ts = either (trees_of ts)
 
--- the alternatives of a group or of the whole text, each a list of terms
+-- the alternatives of a group or of the whole text: the terms of the first one, and of each of the others
 abbrev pub Body : Type 0
-Body = List (List Tree)
+Body = List Tree × List (List Tree)
 
 abbrev pub tree_of : Body → Tree
-tree_of body = alternation_of (map sequence_of body)
+tree_of body = alternation_of (sequence_of body.0 ∷ map sequence_of body.1)
+
+-- no terms, and no other alternative
+abbrev pub empty_body : Body
+empty_body = ([], [])
 
 -- a term before the first alternative
 abbrev pub add_term : Tree → Body → Body
-add_term t [] = (t ∷ []) ∷ []
-add_term t (ts ∷ body) = (t ∷ ts) ∷ body
+add_term t body = (t ∷ body.0, body.1)
+
+-- an alternative without terms before the others
+abbrev pub add_alternative : Body → Body
+add_alternative body = ([], body.0 ∷ body.1)
 
 abbrev pub set_of_escape : Escape → Tree
 set_of_escape (Character c) = one_of ((c, c) ∷ [])
@@ -53,12 +60,15 @@ atom at c t =
     else if is_some (quantifier c t) then Err (Syntax at)
     else Ok (one_of ((c, c) ∷ []), 0)
 
+abbrev pub quantified_atom : ℕ → ℕ → List ℕ → Reading Tree
+quantified_atom at c t = and_then (atom at c t) (λ tree n. after n (λ x. x) (quantified tree (at + 1 + n) (drop n t)))
+
 -- an assertion, which takes no quantifier, or an atom with its quantifier
 abbrev pub term : ℕ → ℕ → List ℕ → Reading Tree
 term at c t =
     if c ∈ "^" then Ok (at_start, 0)
     else if c ∈ "$" then Ok (at_end, 0)
-    else and_then (atom at c t) (λ tree n. after n (λ x. x) (quantified tree (at + 1 + n) (drop n t)))
+    else quantified_atom at c t
 
 -- how many characters belong to the opening of a group after its `(`, which stands at the place `at`
 abbrev pub opening : ℕ → List ℕ → Result ℕ PatternFault
@@ -102,15 +112,15 @@ group_of more at t (Err fault) = Err fault
 
 -- what a character begins: c stands at the place `at`, the text follows it, and `more n` reads n characters on
 abbrev pub body_at : Sign → ℕ → ℕ → List ℕ → (ℕ → Reading Body) → Reading Body
-body_at closes at c t more = Ok ([] ∷ [], 0)
-body_at divides at c t more = after 1 (λ body. [] ∷ body) (more 0)
+body_at closes at c t more = Ok (empty_body, 0)
+body_at divides at c t more = after 1 add_alternative (more 0)
 body_at opens at c t more = group_of more at t (opening at t)
 body_at begins_term at c t more = and_then (term at c t) (term_and_more more)
 
 -- the alternatives up to the end of the text, or to a `)` that ends their group. The text begins at the place `at`,
 -- and what is read there begins `skip` characters later
 abbrev pub alternatives : ℕ → ℕ → List ℕ → Reading Body
-alternatives skip at [] = Ok ([] ∷ [], 0)
+alternatives skip at [] = Ok (empty_body, 0)
 alternatives (suc skip) at (c ∷ t) = alternatives skip (suc at) t
 alternatives zero at (c ∷ t) = body_at (sign_of c) at c t (λ n. alternatives n (suc at) t)
 

@@ -7,3 +7,4 @@ pub mod Grammar
 -- What a contract sees of the reader's own types.
 pub mod View
 pub mod Ranges
+pub mod Progress

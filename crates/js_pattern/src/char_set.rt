@@ -120,4 +120,13 @@ impl CharSet {
         let ranges = Vec::from_slice(alloc, ranges)?;
         Ok(CharSet { ranges })
     }
+
+    /// The set of one character.
+    pub(crate) fn from_char(alloc: Global, c: char) -> Result<Self, Memory>
+        ensures { IfOk result (λ set. set ≡ (c, c) ∷ []) }
+    {
+        let mut ranges = Vec::new(alloc);
+        ranges.push((c as u32, c as u32))?;
+        Ok(CharSet { ranges })
+    }
 }

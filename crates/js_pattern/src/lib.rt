@@ -5,11 +5,13 @@ mod char_set;
 mod class;
 mod escape;
 mod fault;
+mod level;
 mod quantifier;
 mod range_list;
 mod ranges;
 mod re;
 mod scan;
+mod term;
 
 pub use char_set::CharSet;
 pub use fault::{Memory, PatternFault, PatternForm};

@@ -24,25 +24,22 @@ pub struct ReList {
     items: Vec<Re>,
 }
 
-impl Re {
+impl ReList {
+    ghost use Rattle.patterns.specs.Tree.{trees_of};
+    ghost use Rattle.js_pattern.specs.declared.re.ReList.{out-ReList};
     ghost use Rattle.js_pattern.specs.View.{view, list_view};
-    ghost use Rattle.patterns.specs.Tree.{repeated, in_turn};
 
-    fn twice(self) -> Re
-        ensures { view result ≡ view self }
+    pub(crate) fn from_vec(items: Vec<Re>) -> Self
+        ensures { list_view result ≡ trees_of (map view items.items) }
     {
-        self
+        ReList { items }
     }
 
-    fn sequence(items: ReList) -> Re
-        ensures { view result ≡ in_turn (list_view items) }
+    /// The trees in order.
+    pub fn as_slice(&self) -> &[Re]
+        ensures view { trees_of (map view result.now) ≡ list_view self.now }
+        ensures held { result.now ≡ (out-ReList self.now).items.items }
     {
-        Re::Seq(items)
-    }
-
-    fn repeat(inner: Box<Re>, low: u32, high: Option<u32>) -> Re
-        ensures { view result ≡ repeated (view inner.value) low high }
-    {
-        Re::Repeat(inner, low, high)
+        &self.items
     }
 }
