@@ -8,3 +8,4 @@ pub mod Joins
 pub mod SetOps
 pub mod Characters
 pub mod Items
+pub mod Steps

@@ -104,7 +104,7 @@ group_end more body taken at (c ∷ t) =
 -- a group whose `(` stands at the place `at`, and the text follows it. Its body begins `taken` characters later
 abbrev pub group : (ℕ → Reading Body) → ℕ → List ℕ → ℕ → Reading Body
 group more at t taken =
-    and_then (more taken) (λ body n. group_end more body (taken + n) (at + 1 + taken + n) (drop (taken + n) t))
+    and_then (more taken) (λ body n. group_end more body (taken + n) (at + 1 + (taken + n)) (drop (taken + n) t))
 
 abbrev pub group_of : (ℕ → Reading Body) → ℕ → List ℕ → Result ℕ PatternFault → Reading Body
 group_of more at t (Ok taken) = group more at t taken

@@ -1,13 +1,14 @@
 -- What comes of a text from a place on, where groups are open. The reader keeps this the same.
-use Rattle.std.specs.Prelude.{ℕ, ◌+◌, nat_lt, List, [], ◌∷◌, ◌++◌, map, reverse, length, drop, Result, Ok, Err, if◌then◌else◌}
+use Rattle.std.specs.Prelude.{◌≡◌, ℕ, ◌+◌, nat_lt, List, [], ◌∷◌, ◌++◌, map, reverse, length, drop, Result, Ok, Err, if◌then◌else◌}
 use Rattle.patterns.specs.Tree.{Tree}
 use Rattle.js_pattern.specs.declared.fault.PatternFault.{PatternFault}
 use Rattle.js_pattern.specs.declared.fault.PatternFault.TheVariants.{Syntax}
 use Rattle.js_pattern.specs.declared.level.Level.{Level}
+use Rattle.js_pattern.specs.declared.reader.Reader.{Reader}
 use Rattle.js_pattern.specs.Reading.{Reading}
 use Rattle.js_pattern.specs.Quantifiers.{quantified}
 use Rattle.js_pattern.specs.Grammar.{Body, alternation_of, sequence_of, alternatives}
-use Rattle.js_pattern.specs.View.{view}
+use Rattle.js_pattern.specs.View.{view, IsFault}
 
 -- what is read of an open group: its alternatives so far, and the terms of the one that is being read
 pub record Part : Type 0 where
@@ -60,3 +61,12 @@ closed next p at t (Err fault) = Err fault
 abbrev pub outcome : List Part → Part → ℕ → List ℕ → Result Tree PatternFault
 outcome [] p at t = ended p at t (alternatives 0 at t)
 outcome (outer ∷ outers) p at t = closed (λ tree. outcome outers (with_term outer tree)) p at t (alternatives 0 at t)
+
+-- what comes of the text that begins at a place, given what the reader holds
+abbrev pub comes_of : Reader → ℕ → List ℕ → Result Tree PatternFault
+comes_of r at t = outcome (parts r.outers.items) (part r.level) at t
+
+-- a step of the reader at a character c: what comes of the text stays the same n characters after c, or it is the fault
+abbrev pub GoesOn : Reader → Reader → ℕ → ℕ → List ℕ → Result ℕ PatternFault → Type 0
+GoesOn old new at c t (Ok n) = comes_of old at (c ∷ t) ≡ comes_of new (at + 1 + n) (drop n t)
+GoesOn old new at c t (Err fault) = IsFault fault (comes_of old at (c ∷ t))

@@ -10,9 +10,11 @@ mod quantifier;
 mod range_list;
 mod ranges;
 mod re;
+mod reader;
 mod scan;
 mod term;
 
 pub use char_set::CharSet;
 pub use fault::{Memory, PatternFault, PatternForm};
 pub use re::{Re, ReList};
+pub use reader::read_pattern;
