@@ -1,5 +1,5 @@
 -- Ranges of characters stay such when more are added.
-use Rattle.std.proofs.Common.{◌≡◌, ℕ, ◌+◌, ◌<◌, ◌≤◌, ◌⊎◌, inl, inr, ⊎_elim, Bool, true, false, List, [], ◌∷◌, ◌++◌, if◌then◌else◌, refl, arith}
+use Rattle.std.proofs.Common.{◌≡◌, ℕ, ◌<◌, ◌≤◌, ◌⊎◌, inl, inr, ⊎_elim, Bool, true, false, List, [], ◌∷◌, ◌++◌, if◌then◌else◌, refl, arith}
 use Rattle.std.specs.Char.{IsScalar}
 use Rattle.std.proofs.Math.Utf8.{scalar_cases}
 use Rattle.std.proofs.lemmas.Bool.{and_from}

@@ -1,9 +1,9 @@
 -- The grammar on worked examples.
-use Rattle.std.proofs.Common.{◌≡◌, ℕ, List, [], ◌∷◌, refl, codes, Some, None, Ok, Err}
-use Rattle.patterns.specs.Tree.{empty, one_of, at_start, at_end, in_turn, either, repeated, no_trees, tree, trees_of}
+use Rattle.std.proofs.Common.{◌≡◌, [], ◌∷◌, refl, codes, Some, None, Ok, Err}
+use Rattle.patterns.specs.Tree.{empty, one_of, at_start, at_end, in_turn, either, repeated, trees_of}
 use Rattle.js_pattern.specs.declared.fault.PatternFault.TheVariants.{Syntax, Unsupported, QuantifierOrder, RangeOrder, RepeatTooWide}
-use Rattle.js_pattern.specs.declared.fault.PatternForm.TheVariants.{Lookaround, NamedGroup, Backreference, Octal, Boundary, Property, Control, Surrogate}
-use Rattle.js_pattern.specs.Grammar.{pattern, add_term}
+use Rattle.js_pattern.specs.declared.fault.PatternForm.TheVariants.{Lookaround, Surrogate}
+use Rattle.js_pattern.specs.Grammar.{pattern}
 
 nothing : pattern [] ≡ Ok empty
 unfolding pattern

@@ -1,9 +1,8 @@
 -- The items of a class, read one item on.
-use Rattle.std.proofs.Common.{◌≡◌, ℕ, zero, suc, ◌+◌, ◌-◌, ◌<◌, ◌≤◌, Bool, true, false, List, [], ◌∷◌, ◌++◌, length, get_or, drop, Result, Ok, Err, refl, ap, sym, ◌∙◌, subst, append_assoc, add_assoc, add-zero, zero-add, add-one, length-drop, arith}
+use Rattle.std.proofs.Common.{◌≡◌, ℕ, zero, suc, ◌+◌, ◌<◌, ◌≤◌, false, List, [], ◌∷◌, ◌++◌, length, get_or, drop, Ok, Err, refl, ap, sym, ◌∙◌, append_assoc, add_assoc, add-zero, add-one, arith}
 use Rattle.std.proofs.Math.Seq.{drop-cons}
-use Rattle.std.proofs.lemmas.List.{drop-drop, drop_all}
+use Rattle.std.proofs.lemmas.List.{drop-drop}
 use Rattle.js_pattern.specs.declared.fault.PatternFault.{PatternFault}
-use Rattle.js_pattern.specs.declared.fault.PatternFault.TheVariants.{Syntax}
 use Rattle.js_pattern.specs.Reading.{Reading, and_then, after, ◌∈◌}
 use Rattle.js_pattern.specs.Classes.{item, items_at, items}
 use Rattle.js_pattern.specs.View.{IsFault}
@@ -67,12 +66,12 @@ module _ (text rest : List ℕ) (at taken c : ℕ) (l : taken < length text) (is
       let place : suc (at + taken) + n ≡ at + (taken + (1 + n)) = omega arith in
       let far : taken + 1 + n ≡ taken + (1 + n) = omega arith in
       let left : drop n rest ≡ drop (taken + (1 + n)) text =
-          ap (drop n) follows ∙ drop-drop n (taken + 1) text ∙ ap (λ k. drop k text) far in
+      ap (drop n) follows ∙ drop-drop n (taken + 1) text ∙ ap (λ k. drop k text) far in
       let skipped : more n ≡ items 0 (at + (taken + (1 + n))) (drop (taken + (1 + n)) text) =
-          items-skip n (suc (at + taken)) rest within ∙ ap (λ a. items 0 a (drop n rest)) place ∙ ap (items 0 (at + (taken + (1 + n)))) left in
+      items-skip n (suc (at + taken)) rest within ∙ ap (λ a. items 0 a (drop n rest)) place ∙ ap (items 0 (at + (taken + (1 + n)))) left in
       let whole : after 0 (λ all. old ++ all) (items 0 (at + taken) (drop taken text))
-          ≡ after (suc n) (λ all. new ++ all) (items 0 (at + (taken + (1 + n))) (drop (taken + (1 + n)) text)) =
-          ap (after 0 (λ all. old ++ all)) here ∙ step ∙ ap (after (suc n) (λ all. new ++ all)) skipped in
+      ≡ after (suc n) (λ all. new ++ all) (items 0 (at + (taken + (1 + n))) (drop (taken + (1 + n)) text)) =
+      ap (after 0 (λ all. old ++ all)) here ∙ step ∙ ap (after (suc n) (λ all. new ++ all)) skipped in
       let one : taken + (1 + n) ≡ taken + suc n = omega arith in
       ap (λ k. after k (λ all. new ++ all) (items 0 (at + (taken + (1 + n))) (drop (taken + (1 + n)) text))) one
       ∙ sym (after-after taken (suc n) (λ x. x) (λ all. new ++ all) (items 0 (at + (taken + (1 + n))) (drop (taken + (1 + n)) text)))

@@ -1,17 +1,17 @@
 -- Sorted ranges that are joined are the set of all of them.
-use Rattle.std.proofs.Common.{◌≡◌, ℕ, zero, suc, ◌+◌, ◌<◌, ◌≤◌, inl, inr, min, max, Bool, true, false, ◌&&◌, ◌||◌, cond, not, nat_le, nat_lt, List, [], ◌∷◌, length, get_or, refl, ap, sym, ◌∙◌, subst, add-one, arith}
+use Rattle.std.proofs.Common.{◌≡◌, ℕ, suc, ◌+◌, ◌<◌, ◌≤◌, inl, inr, max, Bool, true, false, ◌&&◌, ◌||◌, not, nat_le, nat_lt, List, [], ◌∷◌, length, get_or, refl, ap, sym, ◌∙◌, subst, add-one, arith}
 use Rattle.std.specs.List.{sum_by}
 use Rattle.std.specs.List.Sorted.{IsPermutation, IsSorted}
 use Rattle.std.specs.Ordering.{nat_cmp, ordering_then, is_lt}
 use Rattle.std.specs.declared.cmp.Ordering.{Ordering}
 use Rattle.std.proofs.lemmas.List.Sums.{sum_by-cons}
 use Rattle.std.proofs.lemmas.List.Sorted.{sum_by-IsPermutation}
-use Rattle.std.proofs.lemmas.Bool.{true≢false, cases_Bool, cases_lt, and_parts, and_from, leb-true, leb-false, ltb-true, le-leb, lt-ltb, cond-true, cond-false}
+use Rattle.std.proofs.lemmas.Bool.{cases_Bool, and_parts, and_from, leb-true, leb-false, le-leb, lt-ltb, cond-true, cond-false}
 use Rattle.std.proofs.lemmas.Bool.Decides.{nat_tests}
 use Rattle.patterns.specs.CharSet.{is_within, has, is_range, are_ranges, set_of}
 use Rattle.pattern_laws.specs.Laws.{every_range}
-use Rattle.pattern_laws.proofs.Members.{Rises, rises-are_ranges, same_members}
-use Rattle.pattern_laws.proofs.Sets.{is_range-up, is_range-below, are_ranges-from, is_range-joined, or_group, or_swap, is_within-joined, are_ranges-set_of, has-set_of}
+use Rattle.pattern_laws.proofs.Members.{rises-are_ranges, same_members}
+use Rattle.pattern_laws.proofs.Sets.{is_range-up, is_range-below, are_ranges-from, or_group, are_ranges-set_of, has-set_of}
 use Rattle.js_pattern.specs.Ranges.{are_up, joined, joined_from}
 
 -- each range begins no earlier than the one before it

@@ -9,3 +9,4 @@ pub mod SetOps
 pub mod Characters
 pub mod Items
 pub mod Steps
+pub mod One

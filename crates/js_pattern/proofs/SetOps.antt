@@ -1,13 +1,11 @@
 -- What the operations on sets need of their ranges, and what they give.
-use Rattle.std.proofs.Common.{◌≡◌, ◌↔◌, ℕ, zero, suc, ◌+◌, ◌-◌, ◌<◌, ◌≤◌, ◌⊎◌, inl, inr, max, min, Bool, true, false, ◌&&◌, ◌||◌, nat_le, nat_lt, List, [], ◌∷◌, ◌++◌, length, get_or, drop, Option, Some, None, refl, ap, sym, ◌∙◌, subst, add-one, arith}
+use Rattle.std.proofs.Common.{◌≡◌, ◌↔◌, ℕ, ◌+◌, ◌-◌, ◌<◌, ◌≤◌, inl, inr, max, min, true, false, ◌&&◌, ◌||◌, nat_le, nat_lt, List, [], ◌∷◌, ◌++◌, Option, Some, None, refl, ap, sym, ◌∙◌, subst, arith}
 use Rattle.std.specs.Option.{SomeIff, IsSome, IsNone}
 use Rattle.std.specs.Char.{IsScalar, InScalarRange}
-use Rattle.std.proofs.Math.Seq.{drop-cons}
-use Rattle.std.proofs.lemmas.Bool.{true≢false, cases_lt, and_parts, and_from, or_cases, or_left, leb-true, ltb-true, le-leb, lt-ltb}
-use Rattle.std.proofs.lemmas.Bool.Decides.{nat_tests}
-use Rattle.patterns.specs.CharSet.{is_within, has, is_range, are_ranges, with_range, set_of}
+use Rattle.std.proofs.lemmas.Bool.{true≢false, cases_lt, and_parts, and_from, or_cases, leb-true, ltb-true, le-leb, lt-ltb}
+use Rattle.patterns.specs.CharSet.{is_within, has, is_range, are_ranges, with_range}
 use Rattle.pattern_laws.specs.Laws.{every_range, width_of}
-use Rattle.pattern_laws.proofs.Members.{Rises, rises-are_ranges, has-below, has-inside, is_within-outside, is_within-true}
+use Rattle.pattern_laws.proofs.Members.{Rises, rises-are_ranges, has-below, has-inside, is_within-outside}
 use Rattle.pattern_laws.proofs.Sets.{three, are_ranges-parts, are_ranges-lower, is_range-up, is_range-below, or_group}
 use Rattle.js_pattern.specs.Ranges.{are_up, FirstWithin}
 use Rattle.js_pattern.proofs.Joins.{are_up-every_range}

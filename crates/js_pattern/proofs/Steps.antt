@@ -1,5 +1,5 @@
 -- What comes of a text stays the same as the reader goes on: a term, a `|`, a `(` or a `)` later.
-use Rattle.std.proofs.Common.{◌≡◌, ℕ, zero, suc, ◌+◌, ◌-◌, ◌<◌, ◌≤◌, inl, inr, Bool, true, false, cond, if◌then◌else◌, nat_lt, List, [], ◌∷◌, ◌++◌, map, reverse, length, drop, Result, Ok, Err, refl, ap, sym, ◌∙◌, subst, append_assoc, append-nil, add_assoc, add-zero, length-drop, arith}
+use Rattle.std.proofs.Common.{◌≡◌, ℕ, zero, suc, ◌+◌, ◌-◌, ◌<◌, inl, inr, Bool, if◌then◌else◌, nat_lt, List, [], ◌∷◌, ◌++◌, map, reverse, length, drop, Result, Ok, Err, refl, ap, sym, ◌∙◌, append_assoc, append-nil, add-zero, length-drop, arith}
 use Rattle.std.proofs.lemmas.List.{drop-drop, map-append, reverse-append, length-reverse, length-map}
 use Rattle.std.proofs.lemmas.Bool.{cases_lt, lt-ltb, le-ltb}
 use Rattle.patterns.specs.Tree.{Tree}
@@ -7,7 +7,7 @@ use Rattle.js_pattern.specs.declared.fault.PatternFault.{PatternFault}
 use Rattle.js_pattern.specs.declared.fault.PatternFault.TheVariants.{Syntax}
 use Rattle.js_pattern.specs.Reading.{Reading, and_then, after}
 use Rattle.js_pattern.specs.Quantifiers.{quantified}
-use Rattle.js_pattern.specs.Grammar.{Body, empty_body, add_term, add_alternative, alternation_of, sequence_of, tree_of, Sign, closes, divides, opens, begins_term, sign_of, opening, term, term_and_more, group_end, group, group_of, body_at, alternatives, whole, pattern}
+use Rattle.js_pattern.specs.Grammar.{Body, empty_body, add_term, add_alternative, alternation_of, sequence_of, tree_of, closes, divides, opens, begins_term, sign_of, opening, term, term_and_more, group_end, group_of, body_at, alternatives, whole, pattern}
 use Rattle.js_pattern.specs.declared.level.Level.{Level}
 use Rattle.js_pattern.specs.View.{IsFault}
 use Rattle.js_pattern.specs.Progress.{Part, make_part, part, parts, with_term, divided, finished, ended, Next, go_on, close_at, closed, outcome}
@@ -29,8 +29,10 @@ module _ (p q : Part) (at k : ℕ) (s : List ℕ) (f : Body → Body) (same : (b
       ∙ ap (λ t. if_left (nat_lt n (length (drop k s))) (at + k + n) t) (same body) where
         if_left : Bool → ℕ → Tree → Result Tree PatternFault
         if_left b a t = if b then Err (Syntax a) else Ok t
+
         add_assoc' : (a b c : ℕ) → a + (b + c) ≡ a + b + c
         add_assoc' a b c = omega arith
+
         left_over : (k n : ℕ) (s : List ℕ) → nat_lt (k + n) (length s) ≡ nat_lt n (length (drop k s))
         left_over k n s =
             let shorter : length (drop k s) ≡ length s - k = length-drop k s in
@@ -128,9 +130,9 @@ module _ (outers : List Part) (p : Part) (at c : ℕ) (t : List ℕ) where
         (from_here (k + 1 + m) (add_term tree) e)
         ∙ moved (k + 1 + m) (with_term p tree)
         ∙ (let place : at + 1 + (k + 1 + m) ≡ at + 1 + k + 1 + m = omega arith in
-          ap (λ a. outcome outers (with_term p tree) a (drop (k + 1 + m) t)) place)
+        ap (λ a. outcome outers (with_term p tree) a (drop (k + 1 + m) t)) place)
         ∙ ap (outcome outers (with_term p tree) (at + 1 + k + 1 + m))
-          (sym (drop-drop m (k + 1) t) ∙ ap (drop m) (sym (drop-drop 1 k t) ∙ ap (drop 1) left))
+        (sym (drop-drop m (k + 1) t) ∙ ap (drop m) (sym (drop-drop 1 k t) ∙ ap (drop 1) left))
     by_quantifier body k u c' left (Err fault) e = outcome_fault outers p at (c ∷ t) fault e
 
     by_end : (body : Body) (k : ℕ) (u : List ℕ) → drop k t ≡ u → alternatives 0 at (c ∷ t) ≡ group_end more body k (at + 1 + k) u
@@ -164,7 +166,7 @@ module _ (outers : List Part) (p : Part) (at c : ℕ) (t : List ℕ) where
   after_close outer sign =
       ap (closed (λ tree. outcome outers (with_term outer tree)) p at (c ∷ t)) (ap (λ x. body_at x at c t (λ k. alternatives k (suc at) t)) sign)
       ∙ (let place : at + 0 ≡ at = omega arith in
-        ap (λ a. go_on (λ tree. outcome outers (with_term outer tree)) (a + 1) t (quantified (finished p empty_body) (a + 1) t)) place)
+      ap (λ a. go_on (λ tree. outcome outers (with_term outer tree)) (a + 1) t (quantified (finished p empty_body) (a + 1) t)) place)
 
   -- faults of what stands here
   pub term_fault : (fault : PatternFault) → sign_of c ≡ begins_term → IsFault fault (term at c t) → IsFault fault (outcome outers p at (c ∷ t))

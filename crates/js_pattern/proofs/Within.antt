@@ -1,5 +1,5 @@
 -- What is read lies within the text.
-use Rattle.std.proofs.Common.{◌≡◌, ℕ, ◌+◌, ◌≤◌, List, length, drop, Option, Some, None, Result, Ok, Err, if◌then◌else◌, length-drop, arith}
+use Rattle.std.proofs.Common.{ℕ, ◌+◌, ◌≤◌, List, length, drop, Option, Some, None, Result, Ok, Err, if◌then◌else◌, length-drop, arith}
 use Rattle.std.specs.Option.{OnSome, is_some}
 use Rattle.std.specs.Result.{IfOk}
 

@@ -1,5 +1,5 @@
 -- A class: what stands between `[` and `]`.
-use Rattle.std.specs.Prelude.{ℕ, zero, suc, ◌+◌, ◌-◌, Bool, true, false, not, ◌&&◌, ◌||◌, nat_le, nat_lt, List, [], ◌∷◌, ◌++◌, length, drop, Result, Ok, Err, if◌then◌else◌}
+use Rattle.std.specs.Prelude.{ℕ, zero, suc, ◌+◌, Bool, true, false, not, ◌&&◌, nat_le, nat_lt, List, [], ◌∷◌, ◌++◌, drop, Ok, Err, if◌then◌else◌}
 use Rattle.patterns.specs.CharSet.{set_of, complement_of}
 use Rattle.js_pattern.specs.declared.fault.PatternFault.TheVariants.{Syntax, RangeOrder}
 use Rattle.js_pattern.specs.declared.escape.Escape.{Escape}

@@ -1,5 +1,5 @@
 -- A backslash and what follows it.
-use Rattle.std.specs.Prelude.{ℕ, zero, suc, ◌+◌, ◌-◌, ◌*◌, Bool, true, false, ◌&&◌, ◌||◌, nat_eq, nat_le, nat_lt, List, [], ◌∷◌, length, take, drop, Result, Ok, Err, Option, Some, None, if◌then◌else◌}
+use Rattle.std.specs.Prelude.{ℕ, ◌+◌, ◌-◌, ◌*◌, Bool, ◌&&◌, nat_eq, nat_le, nat_lt, List, [], ◌∷◌, take, drop, Ok, Err, Option, Some, None, if◌then◌else◌}
 use Rattle.patterns.specs.CharSet.{is_scalar, has, complement_of}
 use Rattle.js_pattern.specs.declared.fault.PatternFault.TheVariants.{Syntax, Unsupported}
 use Rattle.js_pattern.specs.declared.fault.PatternForm.{PatternForm}

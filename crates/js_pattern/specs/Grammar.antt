@@ -1,5 +1,5 @@
 -- A pattern: alternatives of terms, and groups of such.
-use Rattle.std.specs.Prelude.{ℕ, zero, suc, ◌+◌, ◌-◌, Bool, true, false, ◌&&◌, ◌||◌, nat_lt, List, [], ◌∷◌, ◌++◌, map, length, drop, Result, Ok, Err, Option, Some, None, if◌then◌else◌, is_some}
+use Rattle.std.specs.Prelude.{ℕ, zero, suc, ◌+◌, ◌||◌, nat_lt, List, [], ◌∷◌, map, length, drop, Result, Ok, Err, if◌then◌else◌, is_some}
 use Rattle.patterns.specs.CharSet.{complement_of}
 use Rattle.patterns.specs.Tree.{Tree, empty, one_of, at_start, at_end, in_turn, either, trees_of}
 use Rattle.js_pattern.specs.declared.fault.PatternFault.{PatternFault}

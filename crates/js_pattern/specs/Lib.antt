@@ -4,6 +4,8 @@ pub mod Escapes
 pub mod Classes
 pub mod Quantifiers
 pub mod Grammar
+pub mod Correct
+pub mod Names
 -- What a contract sees of the reader's own types.
 pub mod View
 pub mod Ranges

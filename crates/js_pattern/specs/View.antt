@@ -1,5 +1,5 @@
 -- What a contract sees of a tree that the reader made, and how an answer of the reader stands to the grammar's.
-use Rattle.std.specs.Prelude.{◌≡◌, ◌≢◌, ℕ, min, List, ◌++◌, Option, option_map, Result, Ok, Err}
+use Rattle.std.specs.Prelude.{◌≡◌, ◌≢◌, ℕ, min, List, ◌++◌, option_map, Result, Ok, Err}
 use Rattle.patterns.specs.Tree as trees
 use Rattle.js_pattern.specs.declared.re.Re.{Re, fold-Re}
 use Rattle.js_pattern.specs.declared.re.Re.TheOpen as open_re

@@ -45,6 +45,13 @@ impl CharSet {
         false
     }
 
+    /// The set's ranges in order, each with its first and its last character.
+    pub fn as_slice(&self) -> &[(u32, u32)]
+        ensures { result.now ≡ self.now }
+    {
+        &self.ranges
+    }
+
     /// The characters that the set lacks.
     pub fn complement(&self) -> Result<Self, Memory>
         ensures value { IfOk result (λ rest. rest ≡ complement_of self.now) }

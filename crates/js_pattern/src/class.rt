@@ -16,11 +16,7 @@ use crate::scan::{is_at, skip};
 use std::alloc::Global;
 
 /// A member of a class, whose first character stands at the place `at`.
-fn class_atom(
-    first: char,
-    rest: &[char],
-    at: usize,
-) -> Result<(Escape, usize), PatternFault>
+fn class_atom(first: char, rest: &[char], at: usize) -> Result<(Escape, usize), PatternFault>
     ensures value { result ≡ class_atom at first rest.now }
     ensures within { IfOk result (λ r. r.1 ≤ length rest.now) }
 {
@@ -100,11 +96,7 @@ fn read_item(
 }
 
 /// Reads the items of a class and its closing bracket. The text begins at the place `at`.
-fn read_items(
-    alloc: Global,
-    text: &[char],
-    at: usize,
-) -> Result<(RangeList, usize), PatternFault>
+fn read_items(alloc: Global, text: &[char], at: usize) -> Result<(RangeList, usize), PatternFault>
     requires { at + length text.now < 2 ^ 64 }
     ensures value { IfOk result (λ r. items 0 at text.now ≡ Ok (r.0.ranges.items, r.1)) }
     ensures fault { IfErr result (λ fault. IsFault fault (items 0 at text.now)) }

@@ -1,6 +1,7 @@
 //! Why a text is no pattern of the profile, and where.
 
 ghost use Rattle.std.specs.Prelude.{◌≡◌};
+ghost use Rattle.js_pattern.specs.Names.{form_name};
 ghost use Rattle.js_pattern.specs.declared.fault.PatternFault.TheVariants as variants;
 
 use std::alloc::{AllocError, AllocFailed};
@@ -40,6 +41,24 @@ pub enum PatternForm {
     Control,
     /// an escape of a surrogate that forms no character
     Surrogate,
+}
+
+impl PatternForm {
+    /// The name that reports print.
+    pub fn name(self) -> &'static str
+        ensures { result.now ≡ form_name self }
+    {
+        match self {
+            PatternForm::Lookaround => "lookaround",
+            PatternForm::NamedGroup => "namedgroup",
+            PatternForm::Backreference => "backreference",
+            PatternForm::Octal => "octal",
+            PatternForm::Boundary => "boundary",
+            PatternForm::Property => "property",
+            PatternForm::Control => "control",
+            PatternForm::Surrogate => "surrogate",
+        }
+    }
 }
 
 /// The first fault of a text, with its place: the number of scalar values before it.

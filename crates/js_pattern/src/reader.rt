@@ -4,8 +4,9 @@
 //! million `(` takes memory and no depth of calls. What comes of the whole text, given the open groups and what is left
 //! of the text, stays the same with each step.
 
-ghost use Rattle.std.specs.Prelude.{◌≡◌, ◌+◌, ◌<◌, ◌≤◌, ◌^◌, [], ◌∷◌, length, chars, Ok};
+ghost use Rattle.std.specs.Prelude.{◌≡◌, ◌≢◌, ◌+◌, ◌<◌, ◌≤◌, ◌^◌, [], ◌∷◌, length, chars, Ok};
 ghost use Rattle.std.specs.Result.{IfOk, IfErr, OnOk};
+ghost use Rattle.js_pattern.specs.Correct.{HasTree, HasFirstFault, NeverBoth, HasOne};
 ghost use Rattle.js_pattern.specs.Grammar.{pattern};
 ghost use Rattle.js_pattern.specs.View.{view, IsFault};
 
@@ -160,8 +161,12 @@ fn characters(alloc: Global, text: &str) -> Result<Vec<char>, AllocError>
 ///
 /// It takes one step a character, but for class ranges, which are sorted, and memory in the length of the text.
 pub fn read_pattern(alloc: Global, text: &str) -> Result<Re, PatternFault>
-    ensures tree { IfOk result (λ tree. pattern (chars text.now) ≡ Ok (view tree)) }
-    ensures fault { IfErr result (λ fault. IsFault fault (pattern (chars text.now))) }
+    ensures tree { IfOk result (λ tree. HasTree (chars text.now) (view tree)) }
+    ensures fault { IfErr result (λ fault. fault ≢ PatternFault.Memory → HasFirstFault (chars text.now) fault) }
+
+    // The text decides which of the two it is.
+    ensures never_both { NeverBoth (chars text.now) }
+    ensures always_one { HasOne (chars text.now) }
 {
     let characters = characters(alloc, text)?;
     read_characters(alloc, &characters)

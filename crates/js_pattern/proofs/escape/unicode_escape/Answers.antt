@@ -1,4 +1,3 @@
-use Rattle.std.proofs.Common.{drop, subst, OnSome, length, ◌≤◌}
 use Rattle.js_pattern.proofs.Within.{code_units-within}
 use Rattle.js_pattern.proofs.escape.unicode_escape.Goals as goal
 

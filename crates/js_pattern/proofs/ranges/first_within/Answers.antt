@@ -1,4 +1,4 @@
-use Rattle.std.proofs.Common.{◌≡◌, ◌+◌, ◌≤◌, ℕ, suc, List, ◌∷◌, drop, get_or, add-one, sym, ◌∙◌, subst, true, ap}
+use Rattle.std.proofs.Common.{◌≡◌, ◌≤◌, ℕ, suc, ◌∷◌, drop, get_or, add-one, sym, ◌∙◌, subst, true, ap}
 use Rattle.std.proofs.Math.Seq.{drop-cons}
 use Rattle.patterns.specs.CharSet.{has, are_ranges}
 use Rattle.js_pattern.proofs.SetOps.{found, none_has, whole_first, passed_has, passed_ranges}

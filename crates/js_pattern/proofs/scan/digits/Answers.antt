@@ -1,4 +1,4 @@
-use Rattle.std.proofs.Common.{◌≡◌, ◌<◌, ◌≤◌, length, drop, ap, sym, ◌∙◌, arith}
+use Rattle.std.proofs.Common.{ap, sym, ◌∙◌, arith}
 use Rattle.js_pattern.specs.View.{cut}
 use Rattle.js_pattern.proofs.Runs.{run-digit, run-other, run-end}
 use Rattle.js_pattern.proofs.scan.digits.Goals as goal

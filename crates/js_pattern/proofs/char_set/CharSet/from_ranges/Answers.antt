@@ -1,4 +1,3 @@
-use Rattle.std.proofs.Common.{◌∙◌}
 use Rattle.js_pattern.proofs.Joins.{are_up-every_range, every_range-permuted, are_ranges-joined, joined-set_of}
 use Rattle.js_pattern.proofs.char_set.CharSet.from_ranges.Goals as goal
 

@@ -1,4 +1,4 @@
-use Rattle.std.proofs.Common.{[], ◌∷◌, is_ok, true, refl}
+use Rattle.std.proofs.Common.{[], ◌∷◌, is_ok, refl}
 use Rattle.std.proofs.lemmas.Bool.{and_from}
 use Rattle.js_pattern.proofs.Characters.{every_range-tried, is_range-one}
 use Rattle.js_pattern.proofs.range_list.RangeList.push.Goals as goal

@@ -1,4 +1,4 @@
-use Rattle.std.proofs.Common.{[], ◌∷◌, ◌++◌, is_ok, true, refl}
+use Rattle.std.proofs.Common.{[], ◌∷◌, ◌++◌, is_ok, refl}
 use Rattle.std.proofs.lemmas.Bool.{and_from}
 use Rattle.js_pattern.proofs.Characters.{every_range-push, every_range-tried, is_range-low, is_range-high, is_range-up}
 use Rattle.js_pattern.proofs.range_list.RangeList.push_span.Goals as goal

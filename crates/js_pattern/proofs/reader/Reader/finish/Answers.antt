@@ -1,4 +1,4 @@
-use Rattle.std.proofs.Common.{◌≡◌, ◌<◌, ℕ, length, sym, vec_len, arith}
+use Rattle.std.proofs.Common.{◌<◌, length, sym, vec_len, arith}
 use Rattle.std.proofs.lemmas.Bool.{eqb-false}
 use Rattle.js_pattern.specs.Progress.{part}
 use Rattle.js_pattern.proofs.Steps.{levels_open}

@@ -16,13 +16,13 @@ returns-clause-steps c =
     let n = c.in_ok-tree.taken in
     let tree = view c.in_ok-tree.tree in
     let stack : parts c.args.self.now.outers.items ≡ outer ∷ outers =
-        ap parts c.in-Some.ensures.items ∙ parts_push c.pop.new.self.items c.in-Some.outer in
+    ap parts c.in-Some.ensures.items ∙ parts_push c.pop.new.self.items c.in-Some.outer in
     let group : quantified (finished p empty_body) (at + 1) rest ≡ Ok (tree, n) =
-        ap (λ t. quantified t (at + 1) rest)
-        (sym (c.in_ok-finish.ensures.tree ∙ ap (λ l. finished (part l) empty_body) c.replace-level.ensures.value))
-        ∙ c.in_ok-tree.ensures.value in
+    ap (λ t. quantified t (at + 1) rest)
+    (sym (c.in_ok-finish.ensures.tree ∙ ap (λ l. finished (part l) empty_body) c.replace-level.ensures.value))
+    ∙ c.in_ok-tree.ensures.value in
     let pushed : part c.push.new.self ≡ with_term outer tree =
-        c.in_ok-push.ensures.part ∙ ap (λ l. with_term (part l) tree) c.replace-level.ensures.after in
+    c.in_ok-push.ensures.part ∙ ap (λ l. with_term (part l) tree) c.replace-level.ensures.after in
     ap (λ o. outcome o p at (41 ∷ rest)) stack
     ∙ after_close outers p at 41 rest outer refl
     ∙ ap (go_on (λ t. outcome outers (with_term outer t)) (at + 1) rest) group

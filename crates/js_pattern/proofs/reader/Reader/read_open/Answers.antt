@@ -1,4 +1,4 @@
-use Rattle.std.proofs.Common.{◌∙◌, ◌+◌, ◌∷◌, [], drop, ap, sym, refl, rules}
+use Rattle.std.proofs.Common.{◌∙◌, ◌+◌, [], drop, ap, sym, refl, rules}
 use Rattle.js_pattern.specs.Progress.{make_part, part, parts, outcome}
 use Rattle.js_pattern.proofs.Steps.{after_opening, opening_fault}
 use Rattle.js_pattern.proofs.reader.Reader.read_open.Goals as goal
@@ -6,7 +6,7 @@ use Rattle.js_pattern.proofs.reader.Reader.read_open.Goals as goal
 pub returns-in_err-taken-clause-steps : goal.returns-in_err-taken-clause-steps
 returns-in_err-taken-clause-steps c =
     let h = opening_fault (parts c.args.self.now.outers.items) (part c.args.self.now.level) c.args.at 40 c.args.rest.now
-        c.in_err-taken.field-0.0 refl (sym c.in_err-taken.ensures.value) in
+    c.in_err-taken.field-0.0 refl (sym c.in_err-taken.ensures.value) in
     search (rules, h)
 
 pub returns-clause-steps : goal.returns-clause-steps

@@ -7,7 +7,7 @@ use Rattle.js_pattern.proofs.reader.Reader.read_term.Goals as goal
 pub returns-in_err-term-clause-steps : goal.returns-in_err-term-clause-steps
 returns-in_err-term-clause-steps c =
     let h = term_fault (parts c.args.self.now.outers.items) (part c.args.self.now.level) c.args.at c.args.first c.args.rest.now
-        c.in_err-term.field-0.0 c.requires.sign c.in_err-term.ensures.fault in
+    c.in_err-term.field-0.0 c.requires.sign c.in_err-term.ensures.fault in
     search (rules, h)
 
 pub returns-clause-steps : goal.returns-clause-steps
