@@ -1,6 +1,6 @@
 -- What a JSON text holds: a document, but for numbers that aren't whole, which are one leaf.
-use Rattle.std.specs.Prelude.{ℕ, suc, ◌+◌, max, ℤ, List, [], ◌∷◌, Bool, true, ◌&&◌, Option, Some, None, cond}
-use Rattle.documents.specs.Tests.{every, some, same_word, comes_before, is_scalar}
+use Rattle.std.specs.Prelude.{ℕ, suc, ◌+◌, ℤ, List, [], ◌∷◌, Bool, Option, Some, None, cond}
+use Rattle.documents.specs.Tests.{same_word}
 
 mutual
   pub data Json : Type 0 where

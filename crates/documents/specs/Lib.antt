@@ -3,4 +3,3 @@ pub mod Tests
 pub mod Kind
 pub mod Document
 pub mod Json
-

@@ -1,5 +1,5 @@
 -- Tests of the elements of a list, as Bools that compute.
-use Rattle.std.specs.Prelude.{ℕ, List, [], ◌∷◌, Bool, true, false, ◌&&◌, ◌||◌, not, cond, nat_eq, nat_lt}
+use Rattle.std.specs.Prelude.{ℕ, List, [], ◌∷◌, Bool, true, false, ◌&&◌, ◌||◌, cond, nat_eq, nat_lt}
 
 abbrev pub every : {A : Type 0} → (A → Bool) → List A → Bool
 every p [] = true

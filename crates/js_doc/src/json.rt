@@ -1,0 +1,131 @@
+//! JSON values: documents, with a leaf for a number that is not whole. Schema texts are read as these.
+
+ghost use Rattle.std.specs.Prelude.{◌≡◌, ◌<◌, map, length, get_or};
+ghost use Rattle.documents.specs.Json.{items_of, members_of, elements, entries};
+
+use crate::text::Str;
+
+/// A JSON value. `NotWhole` stands for each number that is not held as a 64-bit integer.
+#[cycle(json)]
+#[derive(Drop)]
+pub enum Json {
+    Null,
+    Bool(bool),
+    Num(i128),
+    NotWhole,
+    Text(Str),
+    List(JsonList),
+    Members(JsonMap),
+}
+
+/// The elements of an array, in order.
+#[cycle(json)]
+#[derive(Drop)]
+pub struct JsonList {
+    items: Vec<Json>,
+}
+
+/// A member of an object.
+#[cycle(json)]
+#[derive(Drop)]
+pub struct JsonMember {
+    name: Str,
+    value: Json,
+}
+
+/// The members of an object, each name once, in ascending order of scalar values.
+#[cycle(json)]
+#[derive(Drop)]
+pub struct JsonMap {
+    members: Vec<JsonMember>,
+}
+
+impl JsonList {
+    ghost use Rattle.js_doc.specs.declared.json.JsonList.{out-JsonList};
+    ghost use Rattle.js_doc.specs.JsonView.{view, list_view};
+
+    pub fn from_vec(items: Vec<Json>) -> JsonList
+        ensures { list_view result ≡ items_of (map view items.items) }
+    {
+        JsonList { items }
+    }
+
+    /// The elements. The clause `held` is for proofs that a recursion over them ends.
+    pub fn as_slice(&self) -> &[Json]
+        ensures view { items_of (map view result.now) ≡ list_view self.now }
+        ensures held { result.now ≡ (out-JsonList self.now).items.items }
+    {
+        self.items.as_slice()
+    }
+
+    pub fn len(&self) -> usize
+        ensures { result ≡ length (elements (list_view self.now)) }
+    {
+        self.as_slice().len()
+    }
+
+    pub fn at(&self, i: usize) -> &Json
+        requires { i < length (elements (list_view self.now)) }
+        ensures { view result.now ≡ get_or (elements (list_view self.now)) i (view result.now) }
+    {
+        &self.as_slice()[i]
+    }
+}
+
+impl JsonMember {
+    ghost use Rattle.js_doc.specs.declared.json.JsonMember.{out-JsonMember};
+    ghost use Rattle.js_doc.specs.JsonView.{view, member_view};
+
+    pub fn new(name: Str, value: Json) -> JsonMember
+        ensures { member_view result ≡ (name, view value) }
+    {
+        JsonMember { name, value }
+    }
+
+    pub fn name(&self) -> &Str
+        ensures view { result.now ≡ (member_view self.now).0 }
+        ensures held { result.now ≡ (out-JsonMember self.now).name }
+    {
+        &self.name
+    }
+
+    pub fn value(&self) -> &Json
+        ensures view { view result.now ≡ (member_view self.now).1 }
+        ensures held { result.now ≡ (out-JsonMember self.now).value }
+    {
+        &self.value
+    }
+}
+
+impl JsonMap {
+    ghost use Rattle.js_doc.specs.declared.json.JsonMap.{out-JsonMap};
+    ghost use Rattle.js_doc.specs.JsonView.{view, map_view, member_view};
+
+    /// The members must come in ascending order of their names.
+    pub fn from_vec(members: Vec<JsonMember>) -> JsonMap
+        ensures { map_view result ≡ members_of (map member_view members.items) }
+    {
+        JsonMap { members }
+    }
+
+    /// The members. The clause `held` is for proofs that a recursion over them ends.
+    pub fn as_slice(&self) -> &[JsonMember]
+        ensures view { members_of (map member_view result.now) ≡ map_view self.now }
+        ensures held { result.now ≡ (out-JsonMap self.now).members.items }
+    {
+        self.members.as_slice()
+    }
+
+    pub fn len(&self) -> usize
+        ensures { result ≡ length (entries (map_view self.now)) }
+    {
+        self.as_slice().len()
+    }
+
+    pub fn at(&self, i: usize) -> &JsonMember
+        requires { i < length (entries (map_view self.now)) }
+        ensures { member_view result.now ≡ get_or (entries (map_view self.now)) i (member_view result.now) }
+    {
+        &self.as_slice()[i]
+    }
+}

@@ -1,0 +1,19 @@
+//! Documents and JSON values as the program holds them, with their texts and lists.
+//!
+//! A contract sees a [`Doc`] as the document that it stands for, by `view` of `specs/View.antt`, and a list or a
+//! text as a list. Every call costs at most time in proportion to the value that it reads. All crates stand on this one.
+#![tactic(auto)]
+
+mod depths;
+mod document;
+mod equality;
+mod json;
+mod lists;
+mod text;
+
+pub use depths::depth;
+pub use document::{Doc, DocList, DocMap, Member};
+pub use equality::equal;
+pub use json::{Json, JsonList, JsonMap, JsonMember};
+pub use lists::{NumList, StrList};
+pub use text::{Memory, Str};

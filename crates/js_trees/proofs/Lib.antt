@@ -1,0 +1,5 @@
+pub mod Kept
+pub mod Indexed
+pub mod Covering
+pub mod Settling
+pub mod Nexts

@@ -1,0 +1,5 @@
+-- What a reader must believe: what the program tells of a tree.
+pub mod Trails
+pub mod Numbers
+pub mod Walks
+pub mod Least

@@ -1,0 +1,2 @@
+-- What conditions that name one another say of a document.
+pub mod Levels
