@@ -9,4 +9,6 @@ pub mod SetOps
 pub mod Characters
 pub mod Items
 pub mod Steps
+-- A text has a tree or a first fault, and want of memory is none.
+pub mod NoMemory
 pub mod One

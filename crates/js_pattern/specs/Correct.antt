@@ -1,7 +1,8 @@
 -- What the reader's answer says of the text.
-use Rattle.std.specs.Prelude.{◌≡◌, ◌⊎◌, ℕ, List, Ok, Err}
+use Rattle.std.specs.Prelude.{◌≡◌, ◌≢◌, ◌⊎◌, ℕ, List, Ok, Err}
 use Rattle.patterns.specs.Tree.{Tree}
 use Rattle.js_pattern.specs.declared.fault.PatternFault.{PatternFault}
+use Rattle.js_pattern.specs.declared.fault.PatternFault.TheVariants.{Memory}
 use Rattle.js_pattern.specs.Grammar.{pattern}
 
 -- the text is a pattern, of this tree
@@ -16,6 +17,7 @@ HasFirstFault text fault = pattern text ≡ Err fault
 abbrev pub NeverBoth : List ℕ → Type 0
 NeverBoth text = (tree : Tree) (fault : PatternFault) → HasTree text tree → HasFirstFault text fault → ⊥
 
--- each text has one of them
+-- each text has one of them, and want of memory is no fault of a text
 abbrev pub HasOne : List ℕ → Type 0
-HasOne text = ((tree : Tree) × HasTree text tree) ⊎ ((fault : PatternFault) × HasFirstFault text fault)
+HasOne text =
+    ((tree : Tree) × HasTree text tree) ⊎ ((fault : PatternFault) × HasFirstFault text fault × (fault ≢ Memory))

@@ -1,4 +1,6 @@
-//! The tree of a pattern.
+//! The tree of a pattern, as contracts see it by `view`: a `Tree` of `patterns`.
+//!
+//! It takes memory in the length of the pattern. Dropping it recurs as deep as its nodes nest.
 
 ghost use Rattle.std.specs.Prelude.{◌≡◌, map};
 
@@ -8,12 +10,19 @@ use crate::char_set::CharSet;
 #[cycle(re)]
 #[derive(Drop)]
 pub enum Re {
+    /// nothing
     Empty,
+    /// one character of a set
     Set(CharSet),
+    /// the start of the word
     Start,
+    /// the end of the word
     End,
+    /// one after another
     Seq(ReList),
+    /// one of several
     Alt(ReList),
+    /// so often at least, and so often at most, if there is a second number
     Repeat(Box<Re>, u32, Option<u32>),
 }
 
@@ -35,7 +44,7 @@ impl ReList {
         ReList { items }
     }
 
-    /// The trees in order.
+    /// The trees in order. `held` lets a recursion over them be seen to end.
     pub fn as_slice(&self) -> &[Re]
         ensures view { trees_of (map view result.now) ≡ list_view self.now }
         ensures held { result.now ≡ (out-ReList self.now).items.items }
