@@ -11,23 +11,32 @@ use Rattle.js_pattern.specs.declared.escape.ClassEscape.{ClassEscape}
 use Rattle.js_pattern.specs.declared.escape.ClassEscape.TheVariants.{Digit, NotDigit, Word, NotWord, Space, NotSpace}
 use Rattle.js_pattern.proofs.SetOps.{every_range-append}
 
-pub every_range-push : (rs : List (ℕ × ℕ)) (r : ℕ × ℕ) → every_range rs ≡ true → is_range r ≡ true → every_range (rs ++ r ∷ []) ≡ true
+pub every_range-push : (rs : List (ℕ × ℕ)) (r : ℕ × ℕ) → every_range rs ≡ true → is_range r ≡ true
+    → every_range (rs ++ r ∷ []) ≡ true
 every_range-push rs r h k = every_range-append rs (r ∷ []) h (and_from _ _ k refl)
 
 pub is_range-one : (c : ℕ) → IsScalar c → is_range (c, c) ≡ true
-is_range-one c h = elim (scalar_cases c h) [ inl l ↦ grind (arith, nat_tests) | inr l ↦ grind (arith, nat_tests) ]
+is_range-one c h =
+    elim (scalar_cases c h) [ inl l ↦ grind (arith, nat_tests) | inr l ↦ grind (arith, nat_tests) ]
 
 pub is_range-low : (c : ℕ) → c < 0xd800 → is_range (c, 0xd7ff) ≡ true
 is_range-low c h = grind (arith, nat_tests)
 
 pub is_range-high : (c : ℕ) → IsScalar c → 0xdfff < c → is_range (0xe000, c) ≡ true
-is_range-high c h k = elim (scalar_cases c h) [ inl l ↦ absurd (omega arith) | inr l ↦ grind (arith, nat_tests) ]
+is_range-high c h k =
+    elim (scalar_cases c h) [ inl l ↦ absurd (omega arith) | inr l ↦ grind (arith, nat_tests) ]
 
-pub is_range-up : (c d : ℕ) → IsScalar c → IsScalar d → c ≤ d → ((c < 0xd800) × (d ≤ 0xdfff)) ⊎ (0xd800 ≤ c) → is_range (c, d) ≡ true
+pub is_range-up : (c d : ℕ) → IsScalar c → IsScalar d → c ≤ d → ((c < 0xd800) × (d ≤ 0xdfff)) ⊎ (0xd800 ≤ c)
+    → is_range (c, d) ≡ true
 is_range-up c d h k l apart =
     elim (scalar_cases d k) [
       | inl x ↦ grind (arith, nat_tests)
-      | inr x ↦ elim (scalar_cases c h) [ inl y ↦ absurd (⊎_elim (λ p. omega (arith, p.1, x)) (λ q. omega (arith, y, q)) apart) | inr y ↦ grind (arith, nat_tests) ]
+      | inr x ↦ elim (scalar_cases c h) [
+        | inl y ↦ absurd
+            (⊎_elim (λ p. omega (arith, p.1, x)) (λ q. omega (arith, y, q)) apart)
+        | inr y ↦ grind
+            (arith, nat_tests)
+      ]
     ]
 
 pub every_range-class_set : (class : ClassEscape) → every_range (class_set class) ≡ true

@@ -13,15 +13,19 @@ letters : pattern (codes "ab") ≡ Ok (in_turn (trees_of (one_of ((97, 97) ∷ [
 unfolding pattern
 letters = refl
 
-anchored : pattern (codes "^a+$") ≡ Ok (in_turn (trees_of (at_start ∷ repeated (one_of ((97, 97) ∷ [])) 1 None ∷ at_end ∷ [])))
+anchored : pattern (codes "^a+$")
+    ≡ Ok (in_turn (trees_of (at_start ∷ repeated (one_of ((97, 97) ∷ [])) 1 None ∷ at_end ∷ [])))
 unfolding pattern
 anchored = refl
 
-grouped : pattern (codes "(?:a|)b") ≡ Ok (in_turn (trees_of (either (trees_of (one_of ((97, 97) ∷ []) ∷ empty ∷ [])) ∷ one_of ((98, 98) ∷ []) ∷ [])))
+grouped : pattern (codes "(?:a|)b")
+    ≡ Ok (in_turn (trees_of
+    (either (trees_of (one_of ((97, 97) ∷ []) ∷ empty ∷ [])) ∷ one_of ((98, 98) ∷ []) ∷ [])))
 unfolding pattern
 grouped = refl
 
-digits_twice : pattern (codes "\\d{3}-[^0-4]") ≡ Ok (in_turn (trees_of (repeated (one_of ((48, 57) ∷ [])) 3 (Some 3) ∷ one_of ((45, 45) ∷ [])
+digits_twice : pattern (codes "\\d{3}-[^0-4]")
+    ≡ Ok (in_turn (trees_of (repeated (one_of ((48, 57) ∷ [])) 3 (Some 3) ∷ one_of ((45, 45) ∷ [])
     ∷ one_of ((0, 47) ∷ (53, 0xd7ff) ∷ (0xe000, 0x10ffff) ∷ []) ∷ [])))
 unfolding pattern
 digits_twice = refl

@@ -20,7 +20,8 @@ use Rattle.js_pattern.specs.Grammar.{Body, empty_body, tree_of, add_term, add_al
 abbrev NoMemory : {A : Type 0} → Result A PatternFault → Type 0
 NoMemory r = r ≢ Err Memory
 
-if_no : {A : Type 0} (b : Bool) (x y : Result A PatternFault) → NoMemory x → NoMemory y → NoMemory (if b then x else y)
+if_no : {A : Type 0} (b : Bool) (x y : Result A PatternFault) → NoMemory x → NoMemory y
+    → NoMemory (if b then x else y)
 if_no true x y h k = h
 if_no false x y h k = k
 
@@ -33,7 +34,8 @@ syntax_no at e = cc
 unsupported_no : {A : Type 0} (at : ℕ) (form : PatternForm) → NoMemory {A = A} (Err (Unsupported at form))
 unsupported_no at form e = cc
 
-then_no : {A B : Type 0} (r : Reading A) (f : A → ℕ → Reading B) → NoMemory r → ((x : A) (n : ℕ) → NoMemory (f x n)) → NoMemory (and_then r f)
+then_no : {A B : Type 0} (r : Reading A) (f : A → ℕ → Reading B) → NoMemory r
+    → ((x : A) (n : ℕ) → NoMemory (f x n)) → NoMemory (and_then r f)
 then_no (Ok p) f h k = k p.0 p.1
 then_no (Err fault) f h k = λ e. h (let same : fault ≡ Memory = cc in ap Err same)
 
@@ -43,7 +45,8 @@ after_no n f (Err fault) h = λ e. h (let same : fault ≡ Memory = cc in ap Err
 
 numbered_no : (at taken n : ℕ) → NoMemory (numbered at taken n)
 numbered_no at taken n =
-    if_no (is_scalar n) _ _ (ok_no (Character n, taken)) (if_no (nat_lt n 0x110000) _ _ (unsupported_no at Surrogate) (syntax_no at))
+    if_no (is_scalar n) _ _ (ok_no (Character n, taken))
+    (if_no (nat_lt n 0x110000) _ _ (unsupported_no at Surrogate) (syntax_no at))
 
 byte_no : (at : ℕ) (o : Option ℕ) → NoMemory (byte_of at o)
 byte_no at None = syntax_no at
@@ -53,19 +56,24 @@ unicode_no : (at : ℕ) (b : Option (ℕ × ℕ)) (o p : Option ℕ) → NoMemor
 unicode_no at (Some b) o p = numbered_no at (1 + b.1) b.0
 unicode_no at None None p = syntax_no at
 unicode_no at None (Some n) None = numbered_no at 5 n
-unicode_no at None (Some n) (Some low) = if_no (is_high_surrogate n) _ _ (numbered_no at 11 (0x10000 + 0x400 * (n - 0xd800) + (low - 0xdc00))) (numbered_no at 5 n)
+unicode_no at None (Some n) (Some low) =
+    if_no (is_high_surrogate n) _ _ (numbered_no at 11 (0x10000 + 0x400 * (n - 0xd800) + (low - 0xdc00)))
+    (numbered_no at 5 n)
 
 letter_no : (at : ℕ) (o : Option ℕ) → NoMemory (letter_of at o)
 letter_no at None = syntax_no at
 letter_no at (Some n) = ok_no (Character n, 1)
 
-escape_of_no : (at c : ℕ) (t : List ℕ) (set : Option ClassEscape) (form : Option PatternForm) → NoMemory (escape_of at c t set form)
+escape_of_no : (at c : ℕ) (t : List ℕ) (set : Option ClassEscape) (form : Option PatternForm)
+    → NoMemory (escape_of at c t set form)
 escape_of_no at c t (Some set) form = ok_no (Class set, 1)
 escape_of_no at c t None (Some form) = unsupported_no at form
 escape_of_no at c t None None =
-    if_no (c ∈ "0") _ _ (if_no (nat_lt 0 (digits 10 t).1) _ _ (unsupported_no at Octal) (ok_no (Character 0, 1)))
+    if_no (c ∈ "0") _ _ (if_no (nat_lt 0 (digits 10 t).1) _ _ (unsupported_no at Octal)
+    (ok_no (Character 0, 1)))
     (if_no (c ∈ "x") _ _ (byte_no at (hexadecimal 2 t))
-    (if_no (c ∈ "u") _ _ (unicode_no at (in_braces t) (hexadecimal 4 t) (low_surrogate (drop 4 t))) (letter_no at (letter_escape c))))
+    (if_no (c ∈ "u") _ _ (unicode_no at (in_braces t) (hexadecimal 4 t) (low_surrogate (drop 4 t)))
+    (letter_no at (letter_escape c))))
 
 escape_no : (at : ℕ) (t : List ℕ) → NoMemory (escape at t)
 escape_no at [] = syntax_no at
@@ -80,7 +88,8 @@ range_to_no at x taken (Character y) n = if_no (nat_le x y) _ _ (ok_no (span x y
 
 range_from_no : (at x taken end : ℕ) (t : List ℕ) → NoMemory (range_from at x taken end t)
 range_from_no at x taken end [] = ok_no _
-range_from_no at x taken end (d ∷ t) = then_no (class_atom end d t) (range_to at x taken) (class_atom_no end d t) (range_to_no at x taken)
+range_from_no at x taken end (d ∷ t) =
+    then_no (class_atom end d t) (range_to at x taken) (class_atom_no end d t) (range_to_no at x taken)
 
 item_of_no : (at : ℕ) (t : List ℕ) (e : Escape) (n : ℕ) → NoMemory (item_of at t e n)
 item_of_no at t (Class set) n = if_no (stands_at n "-" t) _ _ (ok_no _) (ok_no _)
@@ -88,7 +97,8 @@ item_of_no at t (Character x) n =
     if_no (stands_at n "-" t && not (stands_at (n + 1) "]" t)) _ _
     (range_from_no at x (n + 1) (at + n + 2) (drop (n + 1) t)) (ok_no ((x, x) ∷ [], n))
 
-items_at_no : (b : Bool) (at c : ℕ) (t : List ℕ) (more : ℕ → Reading (List (ℕ × ℕ))) → ((n : ℕ) → NoMemory (more n)) → NoMemory (items_at b at c t more)
+items_at_no : (b : Bool) (at c : ℕ) (t : List ℕ) (more : ℕ → Reading (List (ℕ × ℕ)))
+    → ((n : ℕ) → NoMemory (more n)) → NoMemory (items_at b at c t more)
 items_at_no true at c t more h = ok_no ([], 1)
 items_at_no false at c t more h =
     then_no (item at c t) (λ rs n. after (suc n) (λ more_rs. rs ++ more_rs) (more n))
@@ -102,19 +112,24 @@ items_no zero at (c ∷ t) = items_at_no (c ∈ "]") at c t (λ n. items n (suc 
 
 class_no : (at : ℕ) (t : List ℕ) → NoMemory (class at t)
 class_no at t =
-    if_no (stands_at 0 "^" t) _ _ (after_no 1 (λ rs. complement_of (set_of rs)) (items 0 (at + 2) (drop 1 t)) (items_no 0 (at + 2) (drop 1 t)))
+    if_no (stands_at 0 "^" t) _ _
+    (after_no 1 (λ rs. complement_of (set_of rs)) (items 0 (at + 2) (drop 1 t))
+    (items_no 0 (at + 2) (drop 1 t)))
     (after_no 0 set_of (items 0 (at + 1) t) (items_no 0 (at + 1) t))
 
 judged_no : (at low : ℕ) (high : Option ℕ) → NoMemory (judged_by at low high)
 judged_no at low None = if_no (nat_lt 16384 low) _ _ (λ e. cc) (ok_no tt)
 judged_no at low (Some high) =
-    if_no (nat_lt 16384 low || nat_lt 16384 high) _ _ (λ e. cc) (if_no (nat_lt high low) _ _ (λ e. cc) (ok_no tt))
+    if_no (nat_lt 16384 low || nat_lt 16384 high) _ _ (λ e. cc)
+    (if_no (nat_lt high low) _ _ (λ e. cc) (ok_no tt))
 
-repeated_no : (tree : Tree) (t : List ℕ) (b : Bounds) (r : Result (Unit {0}) PatternFault) → NoMemory r → NoMemory (repeated_by tree t b r)
+repeated_no : (tree : Tree) (t : List ℕ) (b : Bounds) (r : Result (Unit {0}) PatternFault) → NoMemory r
+    → NoMemory (repeated_by tree t b r)
 repeated_no tree t b (Ok u) h = ok_no _
 repeated_no tree t b (Err fault) h = λ e. h (let same : fault ≡ Memory = cc in ap Err same)
 
-quantified_by_no : (tree : Tree) (at : ℕ) (t : List ℕ) (o : Option Bounds) → NoMemory (quantified_by tree at t o)
+quantified_by_no : (tree : Tree) (at : ℕ) (t : List ℕ) (o : Option Bounds)
+    → NoMemory (quantified_by tree at t o)
 quantified_by_no tree at t None = ok_no (tree, 0)
 quantified_by_no tree at t (Some b) = repeated_no tree t b (judged at b) (judged_no at b.low b.high)
 
@@ -132,7 +147,8 @@ atom_no at c t =
 term_no : (at c : ℕ) (t : List ℕ) → NoMemory (term at c t)
 term_no at c t =
     if_no (c ∈ "^") _ _ (ok_no _) (if_no (c ∈ "$") _ _ (ok_no _)
-    (then_no (atom at c t) _ (atom_no at c t) (λ tree n. after_no n (λ x. x) _ (quantified_no tree (at + 1 + n) (drop n t)))))
+    (then_no (atom at c t) _ (atom_no at c t)
+    (λ tree n. after_no n (λ x. x) _ (quantified_no tree (at + 1 + n) (drop n t)))))
 
 opening_no : (at : ℕ) (t : List ℕ) → NoMemory (opening at t)
 opening_no at t =
@@ -140,7 +156,8 @@ opening_no at t =
     (if_no (stands_at 1 ":" t) _ _ (ok_no 2)
     (if_no (stands_at 1 "=" t || stands_at 1 "!" t) _ _ (unsupported_no at Lookaround)
     (if_no (stands_at 1 "<" t) _ _
-    (if_no (stands_at 2 "=" t || stands_at 2 "!" t) _ _ (unsupported_no at Lookaround) (unsupported_no at NamedGroup))
+    (if_no (stands_at 2 "=" t || stands_at 2 "!" t) _ _ (unsupported_no at Lookaround)
+    (unsupported_no at NamedGroup))
     (syntax_no at))))
     (ok_no 0)
 
@@ -151,11 +168,13 @@ module _ (more : ℕ → Reading Body) (h : (n : ℕ) → NoMemory (more n)) whe
   group_end_no : (body : Body) (taken at : ℕ) (t : List ℕ) → NoMemory (group_end more body taken at t)
   group_end_no body taken at [] = syntax_no at
   group_end_no body taken at (c ∷ t) =
-      then_no (quantified (tree_of body) (at + 1) t) _ (quantified_no (tree_of body) (at + 1) t) (λ tree n. term_and_more_no tree (taken + 1 + n))
+      then_no (quantified (tree_of body) (at + 1) t) _ (quantified_no (tree_of body) (at + 1) t)
+      (λ tree n. term_and_more_no tree (taken + 1 + n))
 
   group_of_no : (at : ℕ) (t : List ℕ) (r : Result ℕ PatternFault) → NoMemory r → NoMemory (group_of more at t r)
   group_of_no at t (Ok taken) k =
-      then_no (more taken) _ (h taken) (λ body n. group_end_no body (taken + n) (at + 1 + (taken + n)) (drop (taken + n) t))
+      then_no (more taken) _ (h taken)
+      (λ body n. group_end_no body (taken + n) (at + 1 + (taken + n)) (drop (taken + n) t))
   group_of_no at t (Err fault) k = λ e. k (let same : fault ≡ Memory = cc in ap Err same)
 
   body_at_no : (sign : Sign) (at c : ℕ) (t : List ℕ) → NoMemory (body_at sign at c t more)

@@ -12,7 +12,11 @@ use Rattle.js_pattern.specs.View.{cut}
 module _ (radix : ℕ) where
   digits_from-digit : (n c : ℕ) (t : List ℕ) → digit_value c < radix
       → digits_from radix n (c ∷ t)
-      ≡ ((digits_from radix (radix * n + digit_value c) t).0, suc (digits_from radix (radix * n + digit_value c) t).1)
+      ≡ (
+        (digits_from radix (radix * n + digit_value c) t).0,
+        suc
+            (digits_from radix (radix * n + digit_value c) t).1,
+      )
   digits_from-digit n c t h = cond-true (nat_lt (digit_value c) radix) _ _ (lt-ltb (digit_value c) radix h)
 
   digits_from-other : (n c : ℕ) (t : List ℕ) → radix ≤ digit_value c → digits_from radix n (c ∷ t) ≡ (n, 0)
@@ -47,18 +51,22 @@ module _ (radix : ℕ) where
         large : (a b : ℕ) → a ≡ 4294967295 → 4294967296 ≤ b → cut (radix * a + d) ≡ cut (radix * b + d)
         large a b e h = omega (arith, times a, times b)
 
-  pub digits_from-cut : (a b : ℕ) (t : List ℕ) → 1 ≤ radix → cut a ≡ cut b → cut (digits_from radix a t).0 ≡ cut (digits_from radix b t).0
+  pub digits_from-cut : (a b : ℕ) (t : List ℕ) → 1 ≤ radix → cut a ≡ cut b
+      → cut (digits_from radix a t).0 ≡ cut (digits_from radix b t).0
   digits_from-cut a b [] r e = e
   digits_from-cut a b (c ∷ t) r e =
       elim (cases_lt (digit_value c) radix) [
         | inl l ↦ ap (λ p. cut p.0) (digits_from-digit a c t l)
-            ∙ digits_from-cut (radix * a + digit_value c) (radix * b + digit_value c) t r (cut-grows a b (digit_value c) r e)
+            ∙ digits_from-cut (radix * a + digit_value c) (radix * b + digit_value c) t r
+            (cut-grows a b (digit_value c) r e)
             ∙ sym (ap (λ p. cut p.0) (digits_from-digit b c t l))
-        | inr l ↦ ap (λ p. cut p.0) (digits_from-other a c t l) ∙ e ∙ sym (ap (λ p. cut p.0) (digits_from-other b c t l))
+        | inr l ↦ ap (λ p. cut p.0) (digits_from-other a c t l) ∙ e
+            ∙ sym (ap (λ p. cut p.0) (digits_from-other b c t l))
       ]
 
   -- the run at an index, where a digit stands there and where none does
-  pub run-digit : (n m i c d : ℕ) (t : List ℕ) → 1 ≤ radix → i < length t → c ≡ get_or t i c → digit_value c < radix → digit_value c ≡ d
+  pub run-digit : (n m i c d : ℕ) (t : List ℕ) → 1 ≤ radix → i < length t → c ≡ get_or t i c
+      → digit_value c < radix → digit_value c ≡ d
       → m ≡ min (min (n * radix) 4294967295 + d) 4294967295
       → (cut (digits_from radix m (drop (i + 1) t)).0 ≡ cut (digits_from radix n (drop i t)).0)
       × (i + 1 + (digits_from radix m (drop (i + 1) t)).1 ≡ i + (digits_from radix n (drop i t)).1)
@@ -72,7 +80,8 @@ module _ (radix : ℕ) where
             let other = ap (λ p. p.1) step in omega (arith, same, other),
       )
 
-  pub run-other : (n i c : ℕ) (t : List ℕ) → i < length t → c ≡ get_or t i c → (digit_value c < radix → ⊥) → digits_from radix n (drop i t) ≡ (n, 0)
+  pub run-other : (n i c : ℕ) (t : List ℕ) → i < length t → c ≡ get_or t i c → (digit_value c < radix → ⊥)
+      → digits_from radix n (drop i t) ≡ (n, 0)
   run-other n i c t l e h =
       ap (digits_from radix n) (rw add-one (drop-cons t i c l) ∙ ap (λ x. x ∷ drop (i + 1) t) (sym e))
       ∙ digits_from-other n c (drop (i + 1) t) (omega (arith, h))

@@ -17,10 +17,12 @@ pub alternatives_skip : (n at : ℕ) (t : List ℕ) → alternatives n at t ≡ 
 alternatives_skip zero at t = ap (λ a. alternatives 0 a t) (sym (add-zero at))
 alternatives_skip (suc n) at [] = refl
 alternatives_skip (suc n) at (c ∷ t) =
-    alternatives_skip n (suc at) t ∙ (let e : suc at + n ≡ at + suc n = omega arith in ap (λ a. alternatives 0 a (drop n t)) e)
+    alternatives_skip n (suc at) t
+    ∙ (let e : suc at + n ≡ at + suc n = omega arith in ap (λ a. alternatives 0 a (drop n t)) e)
 
 -- where reading goes on k characters later with another part, the outcome stays
-module _ (p q : Part) (at k : ℕ) (s : List ℕ) (f : Body → Body) (same : (body : Body) → finished p (f body) ≡ finished q body) where
+module _ (p q : Part) (at k : ℕ) (s : List ℕ) (f : Body → Body)
+    (same : (body : Body) → finished p (f body) ≡ finished q body) where
   ended_on : (r : Reading Body) → ended p at s (after k f r) ≡ ended q (at + k) (drop k s) r
   ended_on (Err fault) = refl
   ended_on (Ok (body, n)) =
@@ -41,42 +43,54 @@ module _ (p q : Part) (at k : ℕ) (s : List ℕ) (f : Body → Body) (same : (b
               | inr l ↦ le-ltb (k + n) (length s) l ∙ sym (le-ltb n (length (drop k s)) (omega arith))
             ]
 
-  closed_on : (next : Next) (r : Reading Body) → closed next p at s (after k f r) ≡ closed next q (at + k) (drop k s) r
+  closed_on : (next : Next) (r : Reading Body)
+      → closed next p at s (after k f r) ≡ closed next q (at + k) (drop k s) r
   closed_on next (Err fault) = refl
   closed_on next (Ok (body, n)) =
       ap (λ t. close_at next t (at + (k + n)) (drop (k + n) s)) (same body)
-      ∙ (let e : at + (k + n) ≡ at + k + n = omega arith in ap (λ a. close_at next (finished q body) a (drop (k + n) s)) e)
+      ∙ (let e : at + (k + n)
+      ≡ at + k + n = omega arith in ap (λ a. close_at next (finished q body) a (drop (k + n) s)) e)
       ∙ ap (close_at next (finished q body) (at + k + n)) (sym (drop-drop n k s))
 
-  pub outcome_on : (outers : List Part) → alternatives 0 at s ≡ after k f (alternatives 0 (at + k) (drop k s)) → outcome outers p at s ≡ outcome outers q (at + k) (drop k s)
+  pub outcome_on : (outers : List Part) → alternatives 0 at s ≡ after k f (alternatives 0 (at + k) (drop k s))
+      → outcome outers p at s ≡ outcome outers q (at + k) (drop k s)
   outcome_on [] e = ap (ended p at s) e ∙ ended_on (alternatives 0 (at + k) (drop k s))
   outcome_on (outer ∷ outers) e =
       ap (closed (λ tree. outcome outers (with_term outer tree)) p at s) e
       ∙ closed_on (λ tree. outcome outers (with_term outer tree)) (alternatives 0 (at + k) (drop k s))
 
 -- what one more term, or the end of an alternative, makes of the tree
-finished-add_term : (p : Part) (tree : Tree) (body : Body) → finished p (add_term tree body) ≡ finished (with_term p tree) body
+finished-add_term : (p : Part) (tree : Tree) (body : Body)
+    → finished p (add_term tree body) ≡ finished (with_term p tree) body
 finished-add_term p tree body =
-    ap (λ ts. alternation_of (p.done ++ sequence_of ts ∷ map sequence_of body.1)) (sym (append_assoc p.terms (tree ∷ []) body.0))
+    ap (λ ts. alternation_of (p.done ++ sequence_of ts ∷ map sequence_of body.1))
+    (sym (append_assoc p.terms (tree ∷ []) body.0))
 
-finished-add_alternative : (p : Part) (body : Body) → finished p (add_alternative body) ≡ finished (divided p) body
+finished-add_alternative : (p : Part) (body : Body)
+    → finished p (add_alternative body) ≡ finished (divided p) body
 finished-add_alternative p body =
-    ap (λ ts. alternation_of (p.done ++ sequence_of ts ∷ sequence_of body.0 ∷ map sequence_of body.1)) (append-nil p.terms)
-    ∙ ap alternation_of (sym (append_assoc p.done (sequence_of p.terms ∷ []) (sequence_of body.0 ∷ map sequence_of body.1)))
+    ap (λ ts. alternation_of (p.done ++ sequence_of ts ∷ sequence_of body.0 ∷ map sequence_of body.1))
+    (append-nil p.terms)
+    ∙ ap alternation_of (sym
+    (append_assoc p.done (sequence_of p.terms ∷ []) (sequence_of body.0 ∷ map sequence_of body.1)))
 
 -- a fault of what stands here is what comes of the text
-pub outcome_fault : (outers : List Part) (p : Part) (at : ℕ) (s : List ℕ) (fault : PatternFault) → alternatives 0 at s ≡ Err fault → outcome outers p at s ≡ Err fault
+pub outcome_fault : (outers : List Part) (p : Part) (at : ℕ) (s : List ℕ) (fault : PatternFault)
+    → alternatives 0 at s ≡ Err fault → outcome outers p at s ≡ Err fault
 outcome_fault [] p at s fault e = ap (ended p at s) e
-outcome_fault (outer ∷ outers) p at s fault e = ap (closed (λ tree. outcome outers (with_term outer tree)) p at s) e
+outcome_fault (outer ∷ outers) p at s fault e =
+    ap (closed (λ tree. outcome outers (with_term outer tree)) p at s) e
 
 module _ (outers : List Part) (p : Part) (at c : ℕ) (t : List ℕ) where
-  from_here : (k : ℕ) (f : Body → Body) → alternatives 0 at (c ∷ t) ≡ after (suc k) f (alternatives k (suc at) t)
+  from_here : (k : ℕ) (f : Body → Body)
+      → alternatives 0 at (c ∷ t) ≡ after (suc k) f (alternatives k (suc at) t)
       → alternatives 0 at (c ∷ t) ≡ after (suc k) f (alternatives 0 (at + suc k) (drop (suc k) (c ∷ t)))
   from_here k f e =
       e ∙ ap (after (suc k) f) (alternatives_skip k (suc at) t
       ∙ (let place : suc at + k ≡ at + suc k = omega arith in ap (λ a. alternatives 0 a (drop k t)) place))
 
-  moved : (k : ℕ) (q : Part) → outcome outers q (at + suc k) (drop (suc k) (c ∷ t)) ≡ outcome outers q (at + 1 + k) (drop k t)
+  moved : (k : ℕ) (q : Part)
+      → outcome outers q (at + suc k) (drop (suc k) (c ∷ t)) ≡ outcome outers q (at + 1 + k) (drop k t)
   moved k q = let place : at + suc k ≡ at + 1 + k = omega arith in ap (λ a. outcome outers q a (drop k t)) place
 
   -- a term
@@ -85,11 +99,13 @@ module _ (outers : List Part) (p : Part) (at c : ℕ) (t : List ℕ) where
   after_term tree n sign e =
       let more : ℕ → Reading Body = λ k. alternatives k (suc at) t in
       outcome_on p (with_term p tree) at (suc n) (c ∷ t) (add_term tree) (finished-add_term p tree) outers
-      (from_here n (add_term tree) (ap (λ x. body_at x at c t more) sign ∙ ap (λ r. and_then r (term_and_more more)) e))
+      (from_here n (add_term tree)
+      (ap (λ x. body_at x at c t more) sign ∙ ap (λ r. and_then r (term_and_more more)) e))
       ∙ moved n (with_term p tree)
 
   -- the end of an alternative
-  pub after_bar : sign_of c ≡ divides → outcome outers p at (c ∷ t) ≡ outcome outers (divided p) (at + 1 + 0) (drop 0 t)
+  pub after_bar : sign_of c ≡ divides
+      → outcome outers p at (c ∷ t) ≡ outcome outers (divided p) (at + 1 + 0) (drop 0 t)
   after_bar sign =
       let more : ℕ → Reading Body = λ k. alternatives k (suc at) t in
       outcome_on p (divided p) at 1 (c ∷ t) add_alternative (finished-add_alternative p) outers
@@ -126,7 +142,8 @@ module _ (outers : List Part) (p : Part) (at c : ℕ) (t : List ℕ) where
         → outcome outers p at (c ∷ t) ≡ go_on next (at + 1 + k + 1) u q
     unfolding next more
     by_quantifier body k u c' left (Ok (tree, m)) e =
-        outcome_on p (with_term p tree) at (suc (k + 1 + m)) (c ∷ t) (add_term tree) (finished-add_term p tree) outers
+        outcome_on p (with_term p tree) at (suc (k + 1 + m)) (c ∷ t) (add_term tree)
+        (finished-add_term p tree) outers
         (from_here (k + 1 + m) (add_term tree) e)
         ∙ moved (k + 1 + m) (with_term p tree)
         ∙ (let place : at + 1 + (k + 1 + m) ≡ at + 1 + k + 1 + m = omega arith in
@@ -135,21 +152,25 @@ module _ (outers : List Part) (p : Part) (at c : ℕ) (t : List ℕ) where
         (sym (drop-drop m (k + 1) t) ∙ ap (drop m) (sym (drop-drop 1 k t) ∙ ap (drop 1) left))
     by_quantifier body k u c' left (Err fault) e = outcome_fault outers p at (c ∷ t) fault e
 
-    by_end : (body : Body) (k : ℕ) (u : List ℕ) → drop k t ≡ u → alternatives 0 at (c ∷ t) ≡ group_end more body k (at + 1 + k) u
+    by_end : (body : Body) (k : ℕ) (u : List ℕ) → drop k t ≡ u
+        → alternatives 0 at (c ∷ t) ≡ group_end more body k (at + 1 + k) u
         → outcome outers p at (c ∷ t) ≡ close_at next (tree_of body) (at + 1 + k) u
     by_end body k [] left e = outcome_fault outers p at (c ∷ t) (Syntax (at + 1 + k)) e
-    by_end body k (c' ∷ u) left e = by_quantifier body k u c' left (quantified (tree_of body) (at + 1 + k + 1) u) e
+    by_end body k (c' ∷ u) left e =
+        by_quantifier body k u c' left (quantified (tree_of body) (at + 1 + k + 1) u) e
 
     by_inside : (r : Reading Body) → alternatives 0 at (c ∷ t) ≡ by_body r
         → outcome outers p at (c ∷ t) ≡ closed next (make_part [] []) (at + 1 + n) (drop n t) r
     unfolding by_body
     by_inside (Ok (body, m)) e =
         by_end body (n + m) (drop (n + m) t) refl e
-        ∙ (let place : at + 1 + (n + m) ≡ at + 1 + n + m = omega arith in ap (λ a. close_at next (tree_of body) a (drop (n + m) t)) place)
+        ∙ (let place : at + 1 + (n + m)
+        ≡ at + 1 + n + m = omega arith in ap (λ a. close_at next (tree_of body) a (drop (n + m) t)) place)
         ∙ ap (close_at next (tree_of body) (at + 1 + n + m)) (sym (drop-drop m n t))
     by_inside (Err fault) e = outcome_fault outers p at (c ∷ t) fault e
 
-    pub after_opening : outcome outers p at (c ∷ t) ≡ outcome (p ∷ outers) (make_part [] []) (at + 1 + n) (drop n t)
+    pub after_opening : outcome outers p at (c ∷ t)
+        ≡ outcome (p ∷ outers) (make_part [] []) (at + 1 + n) (drop n t)
     unfolding next
     after_opening = by_inside (alternatives 0 (at + 1 + n) (drop n t)) (here ∙ ap by_body inside)
 
@@ -157,39 +178,50 @@ module _ (outers : List Part) (p : Part) (at c : ℕ) (t : List ℕ) where
   pub after_last : sign_of c ≡ closes → outcome [] p at (c ∷ t) ≡ Err (Syntax at)
   after_last sign =
       ap (ended p at (c ∷ t)) (ap (λ x. body_at x at c t (λ k. alternatives k (suc at) t)) sign)
-      ∙ ap (λ b. if b then Err (Syntax (at + 0)) else Ok (finished p empty_body)) (lt-ltb 0 (suc (length t)) (omega arith))
+      ∙ ap (λ b. if b then Err (Syntax (at + 0)) else Ok (finished p empty_body))
+      (lt-ltb 0 (suc (length t)) (omega arith))
       ∙ (let place : at + 0 ≡ at = omega arith in ap (λ a. Err (Syntax a)) place)
 
   -- the `)` of a group, with the quantifier that follows it
   pub after_close : (outer : Part) → sign_of c ≡ closes
-      → outcome (outer ∷ outers) p at (c ∷ t) ≡ go_on (λ tree. outcome outers (with_term outer tree)) (at + 1) t (quantified (finished p empty_body) (at + 1) t)
+      → outcome (outer ∷ outers) p at (c ∷ t)
+      ≡ go_on (λ tree. outcome outers (with_term outer tree)) (at + 1) t
+      (quantified (finished p empty_body) (at + 1) t)
   after_close outer sign =
-      ap (closed (λ tree. outcome outers (with_term outer tree)) p at (c ∷ t)) (ap (λ x. body_at x at c t (λ k. alternatives k (suc at) t)) sign)
+      ap (closed (λ tree. outcome outers (with_term outer tree)) p at (c ∷ t))
+      (ap (λ x. body_at x at c t (λ k. alternatives k (suc at) t)) sign)
       ∙ (let place : at + 0 ≡ at = omega arith in
-      ap (λ a. go_on (λ tree. outcome outers (with_term outer tree)) (a + 1) t (quantified (finished p empty_body) (a + 1) t)) place)
+      ap (λ a. go_on (λ tree. outcome outers (with_term outer tree)) (a + 1) t
+      (quantified (finished p empty_body) (a + 1) t)) place)
 
   -- faults of what stands here
-  pub term_fault : (fault : PatternFault) → sign_of c ≡ begins_term → IsFault fault (term at c t) → IsFault fault (outcome outers p at (c ∷ t))
+  pub term_fault : (fault : PatternFault) → sign_of c ≡ begins_term → IsFault fault (term at c t)
+      → IsFault fault (outcome outers p at (c ∷ t))
   term_fault fault sign h no_memory =
       outcome_fault outers p at (c ∷ t) fault
       (ap (λ x. body_at x at c t (λ k. alternatives k (suc at) t)) sign
       ∙ ap (λ r. and_then r (term_and_more (λ k. alternatives k (suc at) t))) (h no_memory))
 
-  pub opening_fault : (fault : PatternFault) → sign_of c ≡ opens → opening at t ≡ Err fault → IsFault fault (outcome outers p at (c ∷ t))
+  pub opening_fault : (fault : PatternFault) → sign_of c ≡ opens → opening at t ≡ Err fault
+      → IsFault fault (outcome outers p at (c ∷ t))
   opening_fault fault sign e no_memory =
       outcome_fault outers p at (c ∷ t) fault
-      (ap (λ x. body_at x at c t (λ k. alternatives k (suc at) t)) sign ∙ ap (group_of (λ k. alternatives k (suc at) t) at t) e)
+      (ap (λ x. body_at x at c t (λ k. alternatives k (suc at) t)) sign
+      ∙ ap (group_of (λ k. alternatives k (suc at) t) at t) e)
 
-  pub close_fault : (outer : Part) (fault : PatternFault) → sign_of c ≡ closes → IsFault fault (quantified (finished p empty_body) (at + 1) t)
+  pub close_fault : (outer : Part) (fault : PatternFault) → sign_of c ≡ closes
+      → IsFault fault (quantified (finished p empty_body) (at + 1) t)
       → IsFault fault (outcome (outer ∷ outers) p at (c ∷ t))
   close_fault outer fault sign h no_memory =
-      after_close outer sign ∙ ap (go_on (λ tree. outcome outers (with_term outer tree)) (at + 1) t) (h no_memory)
+      after_close outer sign
+      ∙ ap (go_on (λ tree. outcome outers (with_term outer tree)) (at + 1) t) (h no_memory)
 
 -- the end of the text, where no group is open, and where one is
 pub at_last : (p : Part) (at : ℕ) → outcome [] p at [] ≡ Ok (finished p empty_body)
 at_last p at = refl
 
-pub at_open : (outer : Part) (outers : List Part) (p : Part) (at : ℕ) → outcome (outer ∷ outers) p at [] ≡ Err (Syntax at)
+pub at_open : (outer : Part) (outers : List Part) (p : Part) (at : ℕ)
+    → outcome (outer ∷ outers) p at [] ≡ Err (Syntax at)
 at_open outer outers p at = let place : at + 0 ≡ at = omega arith in ap (λ a. Err (Syntax a)) place
 
 -- what comes of the whole text
@@ -197,7 +229,9 @@ pub whole_text : (t : List ℕ) → pattern t ≡ outcome [] (make_part [] []) 0
 unfolding pattern
 whole_text t = by (alternatives 0 0 t) where
   by : (r : Reading Body) → whole t r ≡ ended (make_part [] []) 0 t r
-  by (Ok (body, n)) = let e : n ≡ 0 + n = omega arith in ap (λ a. if nat_lt n (length t) then Err (Syntax a) else Ok (tree_of body)) e
+  by (Ok (body, n)) =
+      let e : n ≡ 0 + n = omega arith in ap
+      (λ a. if nat_lt n (length t) then Err (Syntax a) else Ok (tree_of body)) e
   by (Err fault) = refl
 
 -- the stack of groups, as a group is opened
@@ -209,6 +243,8 @@ open_at_end [] p at h = absurd (omega arith)
 open_at_end (o ∷ os) p at h = at_open o os p at
 
 -- a group is open at the end of the text
-pub levels_open : (ls : List Level) (p : Part) (at : ℕ) → 0 < length ls → outcome (parts ls) p at [] ≡ Err (Syntax at)
+pub levels_open : (ls : List Level) (p : Part) (at : ℕ) → 0 < length ls
+    → outcome (parts ls) p at [] ≡ Err (Syntax at)
 levels_open ls p at h =
-    open_at_end (parts ls) p at (let e : length (parts ls) ≡ length ls = length-reverse (map part ls) ∙ length-map ls part in omega arith)
+    open_at_end (parts ls) p at
+    (let e : length (parts ls) ≡ length ls = length-reverse (map part ls) ∙ length-map ls part in omega arith)

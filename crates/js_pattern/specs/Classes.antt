@@ -32,7 +32,8 @@ abbrev pub item_of : ℕ → List ℕ → Escape → ℕ → Reading (List (ℕ 
 item_of at t (Class set) n =
     if stands_at n "-" t then Ok (class_set set ++ (45, 45) ∷ [], n + 1) else Ok (class_set set, n)
 item_of at t (Character x) n =
-    if stands_at n "-" t && not (stands_at (n + 1) "]" t) then range_from at x (n + 1) (at + n + 2) (drop (n + 1) t)
+    if stands_at n "-" t && not (stands_at (n + 1) "]" t) then range_from at x (n + 1) (at + n + 2)
+    (drop (n + 1) t)
     else Ok ((x, x) ∷ [], n)
 
 -- one item of a class: c stands at the place `at`, and the text follows it

@@ -21,7 +21,8 @@ word_set = (48, 57) ∷ (65, 90) ∷ (95, 95) ∷ (97, 122) ∷ []
 -- tab to carriage return, the Unicode spaces and line ends, and the byte order mark
 abbrev pub space_set : List (ℕ × ℕ)
 space_set =
-    (0x9, 0xd) ∷ (0x20, 0x20) ∷ (0xa0, 0xa0) ∷ (0x1680, 0x1680) ∷ (0x2000, 0x200a) ∷ (0x2028, 0x2029) ∷ (0x202f, 0x202f)
+    (0x9, 0xd) ∷ (0x20, 0x20) ∷ (0xa0, 0xa0) ∷ (0x1680, 0x1680) ∷ (0x2000, 0x200a) ∷ (0x2028, 0x2029) ∷
+    (0x202f, 0x202f)
     ∷ (0x205f, 0x205f) ∷ (0x3000, 0x3000) ∷ (0xfeff, 0xfeff) ∷ []
 
 -- the set of a class escape: a capital letter stands for the complement
@@ -106,7 +107,8 @@ unicode_of at (Some b) first second = numbered at (1 + b.1) b.0
 unicode_of at None None second = Err (Syntax at)
 unicode_of at None (Some n) None = numbered at 5 n
 unicode_of at None (Some n) (Some low) =
-    if is_high_surrogate n then numbered at 11 (0x10000 + 0x400 * (n - 0xd800) + (low - 0xdc00)) else numbered at 5 n
+    if is_high_surrogate n then numbered at 11
+    (0x10000 + 0x400 * (n - 0xd800) + (low - 0xdc00)) else numbered at 5 n
 
 -- `\u{H..}`, `\uHHHH`, or two of the latter that form one character; t follows the `u`
 abbrev pub unicode_escape : ℕ → List ℕ → Reading Escape

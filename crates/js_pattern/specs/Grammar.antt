@@ -61,7 +61,8 @@ atom at c t =
     else Ok (one_of ((c, c) ∷ []), 0)
 
 abbrev pub quantified_atom : ℕ → ℕ → List ℕ → Reading Tree
-quantified_atom at c t = and_then (atom at c t) (λ tree n. after n (λ x. x) (quantified tree (at + 1 + n) (drop n t)))
+quantified_atom at c t =
+    and_then (atom at c t) (λ tree n. after n (λ x. x) (quantified tree (at + 1 + n) (drop n t)))
 
 -- an assertion, which takes no quantifier, or an atom with its quantifier
 abbrev pub term : ℕ → ℕ → List ℕ → Reading Tree
@@ -76,7 +77,9 @@ opening at t =
     if stands_at 0 "?" t
     then (if stands_at 1 ":" t then Ok 2
     else if stands_at 1 "=" t || stands_at 1 "!" t then Err (Unsupported at Lookaround)
-    else if stands_at 1 "<" t then (if stands_at 2 "=" t || stands_at 2 "!" t then Err (Unsupported at Lookaround) else Err (Unsupported at NamedGroup))
+    else if stands_at 1 "<" t then
+    (if stands_at 2 "=" t || stands_at 2 "!" t then Err (Unsupported at Lookaround) else Err
+    (Unsupported at NamedGroup))
     else Err (Syntax at))
     else Ok 0
 
@@ -104,7 +107,8 @@ group_end more body taken at (c ∷ t) =
 -- a group whose `(` stands at the place `at`, and the text follows it. Its body begins `taken` characters later
 abbrev pub group : (ℕ → Reading Body) → ℕ → List ℕ → ℕ → Reading Body
 group more at t taken =
-    and_then (more taken) (λ body n. group_end more body (taken + n) (at + 1 + (taken + n)) (drop (taken + n) t))
+    and_then (more taken)
+    (λ body n. group_end more body (taken + n) (at + 1 + (taken + n)) (drop (taken + n) t))
 
 abbrev pub group_of : (ℕ → Reading Body) → ℕ → List ℕ → Result ℕ PatternFault → Reading Body
 group_of more at t (Ok taken) = group more at t taken

@@ -60,7 +60,8 @@ closed next p at t (Err fault) = Err fault
 -- what comes of the text that begins at a place, inside these groups
 abbrev pub outcome : List Part → Part → ℕ → List ℕ → Result Tree PatternFault
 outcome [] p at t = ended p at t (alternatives 0 at t)
-outcome (outer ∷ outers) p at t = closed (λ tree. outcome outers (with_term outer tree)) p at t (alternatives 0 at t)
+outcome (outer ∷ outers) p at t =
+    closed (λ tree. outcome outers (with_term outer tree)) p at t (alternatives 0 at t)
 
 -- what comes of the text that begins at a place, given what the reader holds
 abbrev pub comes_of : Reader → ℕ → List ℕ → Result Tree PatternFault

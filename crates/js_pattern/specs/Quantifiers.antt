@@ -44,7 +44,8 @@ judged at b = judged_by at b.low b.high
 
 -- a `?` after a quantifier asks for the shortest match first, and changes nothing of what matches
 abbrev pub repeated_by : Tree → List ℕ → Bounds → Result (Unit {0}) PatternFault → Reading Tree
-repeated_by tree t b (Ok u) = Ok (repeated tree b.low b.high, 1 + b.taken + (if stands_at b.taken "?" t then 1 else 0))
+repeated_by tree t b (Ok u) =
+    Ok (repeated tree b.low b.high, 1 + b.taken + (if stands_at b.taken "?" t then 1 else 0))
 repeated_by tree t b (Err fault) = Err fault
 
 abbrev pub quantified_by : Tree → ℕ → List ℕ → Option Bounds → Reading Tree

@@ -11,7 +11,8 @@ are_up (r ∷ rs) = nat_le r.0 r.1 && nat_lt r.1 0x110000 && are_up rs
 abbrev pub joined_from : ℕ → ℕ → List (ℕ × ℕ) → List (ℕ × ℕ)
 joined_from first last [] = (first, last) ∷ []
 joined_from first last (r ∷ rs) =
-    if nat_le r.0 (last + 1) then joined_from first (max last r.1) rs else (first, last) ∷ joined_from r.0 r.1 rs
+    if nat_le r.0 (last + 1) then joined_from first (max last r.1) rs else
+    (first, last) ∷ joined_from r.0 r.1 rs
 
 abbrev pub joined : List (ℕ × ℕ) → List (ℕ × ℕ)
 joined [] = []

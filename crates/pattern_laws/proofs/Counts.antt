@@ -24,7 +24,8 @@ count_below-either f g (suc n) h =
       | inr e ↦ elim (cases_Bool (g n)) [
         | inl d ↦ cond-true (f n || g n) _ _ (ap (λ b. b || g n) e ∙ d) ∙ ap suc (count_below-either f g n h)
             ∙ (let x : count_below f (suc n) ≡ count_below f n = cond-false (f n) _ _ e in
-            let y : count_below g (suc n) ≡ suc (count_below g n) = cond-true (g n) _ _ d in omega (arith, x, y))
+            let y : count_below g (suc n) ≡ suc (count_below g n) =
+            cond-true (g n) _ _ d in omega (arith, x, y))
         | inr d ↦ cond-false (f n || g n) _ _ (ap (λ b. b || g n) e ∙ d) ∙ count_below-either f g n h
             ∙ (let x : count_below f (suc n) ≡ count_below f n = cond-false (f n) _ _ e in
             let y : count_below g (suc n) ≡ count_below g n = cond-false (g n) _ _ d in omega (arith, x, y))
@@ -42,11 +43,13 @@ count_below-within a b (suc n) h =
           let (x, y) = and_parts (nat_le a n) (nat_le n b) e in
           let p : a ≤ n = leb-true a n x in
           let q : n ≤ b = leb-true n b y in
-          let s : count_below (is_within (a, b)) (suc n) ≡ suc (count_below (is_within (a, b)) n) = cond-true (is_within (a, b) n) _ _ e in
+          let s : count_below (is_within (a, b)) (suc n) ≡ suc (count_below (is_within (a, b)) n) =
+          cond-true (is_within (a, b) n) _ _ e in
           omega (arith, s, rest)
       | inr e ↦
           let out : (n < a) ⊎ (b < n) = outside a b n e in
-          let s : count_below (is_within (a, b)) (suc n) ≡ count_below (is_within (a, b)) n = cond-false (is_within (a, b) n) _ _ e in
+          let s : count_below (is_within (a, b)) (suc n) ≡ count_below (is_within (a, b)) n =
+          cond-false (is_within (a, b) n) _ _ e in
           elim out [ inl l ↦ omega (arith, s, rest) | inr l ↦ omega (arith, s, rest) ]
     ] where
       outside : (a b n : ℕ) → is_within (a, b) n ≡ false → (n < a) ⊎ (b < n)
@@ -60,7 +63,8 @@ count_below-within a b (suc n) h =
           ]
 
 -- in a range, so in none of the later ones
-later-none : (r : ℕ × ℕ) (rs : List (ℕ × ℕ)) → Rises (r.1 + 2) rs → (c : ℕ) → is_within r c ≡ true → has rs c ≡ false
+later-none : (r : ℕ × ℕ) (rs : List (ℕ × ℕ)) → Rises (r.1 + 2) rs → (c : ℕ) → is_within r c ≡ true
+    → has rs c ≡ false
 later-none r rs h c e =
     let (a, b) = and_parts (nat_le r.0 c) (nat_le c r.1) e in
     let below : c ≤ r.1 = leb-true c r.1 b in has-below (r.1 + 2) rs c h (omega arith)
@@ -74,7 +78,8 @@ ends_below : (n : ℕ) (rs : List (ℕ × ℕ)) → n ≡ 0x110000 → Ends rs �
 ends_below n [] e h = tt
 ends_below n (r ∷ rs) e h = (omega (arith, h.0), ends_below n rs e h.1)
 
-width_of-counts : (n low : ℕ) (rs : List (ℕ × ℕ)) → Rises low rs → EndsBelow n rs → width_of rs ≡ count_below (has rs) n
+width_of-counts : (n low : ℕ) (rs : List (ℕ × ℕ)) → Rises low rs → EndsBelow n rs
+    → width_of rs ≡ count_below (has rs) n
 width_of-counts n low [] h e = sym (count_below-none (has []) n (λ c. refl))
 width_of-counts n low (r ∷ rs) h e =
     let both : count_below (has (r ∷ rs)) n ≡ count_below (is_within r) n + count_below (has rs) n =
@@ -83,8 +88,10 @@ width_of-counts n low (r ∷ rs) h e =
     let rest : width_of rs ≡ count_below (has rs) n = width_of-counts n (r.1 + 2) rs h.2 e.1 in
     omega (arith, both, one, rest, e.0)
 
-width_of-limit : (n : ℕ) (s : List (ℕ × ℕ)) → n ≡ 0x110000 → are_ranges 0 s ≡ true → width_of s ≡ count_below (has s) n
-width_of-limit n s e h = width_of-counts n 0 s (rises-are_ranges 0 s h) (ends_below n s e (ends-are_ranges 0 s h))
+width_of-limit : (n : ℕ) (s : List (ℕ × ℕ)) → n ≡ 0x110000 → are_ranges 0 s ≡ true
+    → width_of s ≡ count_below (has s) n
+width_of-limit n s e h =
+    width_of-counts n 0 s (rises-are_ranges 0 s h) (ends_below n s e (ends-are_ranges 0 s h))
 
 pub width_of-count : (s : List (ℕ × ℕ)) → are_ranges 0 s ≡ true → width_of s ≡ count_below (has s) 0x110000
 width_of-count s h = width_of-limit 0x110000 s refl h

@@ -10,7 +10,8 @@ use Rattle.pattern_laws.proofs.Sets.{has-with_range, rises-with_range, three, ar
 abbrev is_gap : ℕ → List (ℕ × ℕ) → ℕ → Bool
 is_gap low rs n = nat_le low n && nat_lt n 0x110000 && not (has rs n)
 
-is_gap-end : (low n : ℕ) → low < 0x110000 → is_within (low, 0x10ffff) n || false ≡ nat_le low n && nat_lt n 0x110000 && true
+is_gap-end : (low n : ℕ) → low < 0x110000
+    → is_within (low, 0x10ffff) n || false ≡ nat_le low n && nat_lt n 0x110000 && true
 is_gap-end low n h = grind (arith, nat_tests)
 
 is_gap-none : (low n : ℕ) → 0x110000 ≤ low → false ≡ nat_le low n && nat_lt n 0x110000 && true
@@ -36,7 +37,8 @@ Ends (r ∷ rs) = (r.1 < 0x110000) × Ends rs
 
 -- a property of `gaps_from low (r ∷ rs)` by its two cases
 two : (P : List (ℕ × ℕ) → Type 0) (low : ℕ) (r : ℕ × ℕ) (rs : List (ℕ × ℕ))
-    → (low < r.0 → P ((low, r.0 - 1) ∷ gaps_from (r.1 + 1) rs)) → (r.0 ≤ low → P (gaps_from (r.1 + 1) rs)) → P (gaps_from low (r ∷ rs))
+    → (low < r.0 → P ((low, r.0 - 1) ∷ gaps_from (r.1 + 1) rs)) → (r.0 ≤ low → P (gaps_from (r.1 + 1) rs))
+    → P (gaps_from low (r ∷ rs))
 two P low r rs gap none =
     elim (cases_Bool (nat_lt low r.0)) [
       | inl e ↦ subst P (sym (cond-true (nat_lt low r.0) _ _ e)) (gap (ltb-true low r.0 e))
@@ -44,26 +46,31 @@ two P low r rs gap none =
     ]
 
 -- the gap after the last range, or none
-last_gap : (P : List (ℕ × ℕ) → Type 0) (low : ℕ) → (low < 0x110000 → P ((low, 0x10ffff) ∷ [])) → (0x110000 ≤ low → P []) → P (gaps_from low [])
+last_gap : (P : List (ℕ × ℕ) → Type 0) (low : ℕ) → (low < 0x110000 → P ((low, 0x10ffff) ∷ []))
+    → (0x110000 ≤ low → P []) → P (gaps_from low [])
 last_gap P low gap none =
     elim (cases_Bool (nat_lt low 0x110000)) [
       | inl e ↦ subst P (sym (cond-true (nat_lt low 0x110000) _ _ e)) (gap (ltb-true low 0x110000 e))
       | inr e ↦ subst P (sym (cond-false (nat_lt low 0x110000) _ _ e)) (none (ltb-false low 0x110000 e))
     ]
 
-pub has-gaps_from : (low : ℕ) (rs : List (ℕ × ℕ)) (n : ℕ) → Rises low rs → Ends rs → has (gaps_from low rs) n ≡ is_gap low rs n
+pub has-gaps_from : (low : ℕ) (rs : List (ℕ × ℕ)) (n : ℕ) → Rises low rs → Ends rs
+    → has (gaps_from low rs) n ≡ is_gap low rs n
 has-gaps_from low [] n h e =
-    last_gap (λ l. has l n ≡ nat_le low n && nat_lt n 0x110000 && true) low (is_gap-end low n) (is_gap-none low n)
+    last_gap (λ l. has l n ≡ nat_le low n && nat_lt n 0x110000 && true) low (is_gap-end low n)
+    (is_gap-none low n)
 has-gaps_from low (r ∷ rs) n h e =
     let later : has (gaps_from (r.1 + 1) rs) n ≡ is_gap (r.1 + 1) rs n =
     has-gaps_from (r.1 + 1) rs n (rises-lower (r.1 + 1) (r.1 + 2) rs (omega arith) h.2) e.1 in
     let none : n < r.1 + 2 → has rs n ≡ false = λ l. has-below (r.1 + 2) rs n h.2 l in
     two (λ l. has l n ≡ is_gap low (r ∷ rs) n) low r rs
-    (λ l. ap (λ b. is_within (low, r.0 - 1) n || b) later ∙ is_gap-before low r.0 r.1 n (has rs n) l h.1 e.0 none)
+    (λ l. ap (λ b. is_within (low, r.0 - 1) n || b) later
+    ∙ is_gap-before low r.0 r.1 n (has rs n) l h.1 e.0 none)
     (λ l. later ∙ is_gap-at low r.0 r.1 n (has rs n) (omega (arith, h.0)) h.1 e.0 none)
 
 -- a gap has no surrogate, since the ranges have them all
-is_range-gap : (low a : ℕ) → low < a → a < 0x110001 → ((n : ℕ) → 0xd800 ≤ n → n < 0xe000 → low ≤ n → n < a → ⊥) → is_range (low, a - 1) ≡ true
+is_range-gap : (low a : ℕ) → low < a → a < 0x110001
+    → ((n : ℕ) → 0xd800 ≤ n → n < 0xe000 → low ≤ n → n < a → ⊥) → is_range (low, a - 1) ≡ true
 is_range-gap low a l k none =
     elim (cases_lt low 0xd800) [
       | inl x ↦ elim (cases_lt 0xd800 a) [
@@ -83,18 +90,22 @@ HasSurrogates low rs = (n : ℕ) → low ≤ n → 0xd800 ≤ n → n < 0xe000 �
 has-later : (r : ℕ × ℕ) (rs : List (ℕ × ℕ)) (n : ℕ) → r.1 < n → has (r ∷ rs) n ≡ true → has rs n ≡ true
 has-later r rs n l h =
     elim (or_cases (is_within r n) (has rs n) h) [
-      | inl e ↦ absurd (let (a, b) = and_parts (nat_le r.0 n) (nat_le n r.1) e in let c : n ≤ r.1 = leb-true n r.1 b in omega arith)
+      | inl e ↦ absurd (let (a, b) = and_parts (nat_le r.0 n)
+          (nat_le n r.1) e in let c : n ≤ r.1 = leb-true n r.1 b in omega arith)
       | inr e ↦ e
     ]
 
-surrogates_later : (low : ℕ) (r : ℕ × ℕ) (rs : List (ℕ × ℕ)) → low ≤ r.0 → r.0 ≤ r.1 → HasSurrogates low (r ∷ rs) → HasSurrogates (r.1 + 1) rs
+surrogates_later : (low : ℕ) (r : ℕ × ℕ) (rs : List (ℕ × ℕ)) → low ≤ r.0 → r.0 ≤ r.1
+    → HasSurrogates low (r ∷ rs) → HasSurrogates (r.1 + 1) rs
 surrogates_later low r rs a up h n l x y = has-later r rs n (omega arith) (h n (omega arith) x y)
 
-pub are_ranges-gaps_from : (floor low : ℕ) (rs : List (ℕ × ℕ)) → floor ≤ low → Rises low rs → Ends rs → HasSurrogates low rs
+pub are_ranges-gaps_from : (floor low : ℕ) (rs : List (ℕ × ℕ)) → floor ≤ low → Rises low rs → Ends rs
+    → HasSurrogates low rs
     → are_ranges floor (gaps_from low rs) ≡ true
 are_ranges-gaps_from floor low [] f h e s =
     last_gap (λ l. are_ranges floor l ≡ true) low
-    (λ l. and_from _ _ (and_from _ _ (le-leb floor low f) (is_range-gap low 0x110000 l (omega arith) (λ n x y p q. true≢false (sym (s n p x y))))) refl)
+    (λ l. and_from _ _ (and_from _ _ (le-leb floor low f)
+    (is_range-gap low 0x110000 l (omega arith) (λ n x y p q. true≢false (sym (s n p x y))))) refl)
     (λ l. refl)
 are_ranges-gaps_from floor low (r ∷ rs) f h e s =
     let rest : HasSurrogates (r.1 + 1) rs = surrogates_later low r rs h.0 h.1 s in
@@ -146,7 +157,8 @@ module _ (s : List (ℕ × ℕ)) (h : are_ranges 0 s ≡ true) where
   unfolding whole
   are_ranges-complement_of =
       are_ranges-gaps_from 0 0 whole (omega arith) rises-whole ends-whole
-      (λ n _ x y. has-whole n ∙ or_left _ (has s n) (and_from _ _ (le-leb 0xd800 n x) (le-leb n 0xdfff (omega arith))))
+      (λ n _ x y. has-whole n
+      ∙ or_left _ (has s n) (and_from _ _ (le-leb 0xd800 n x) (le-leb n 0xdfff (omega arith))))
 
   pub has-complement_of : (n : ℕ) → has (complement_of s) n ≡ is_scalar n && not (has s n)
   unfolding whole

@@ -25,7 +25,8 @@ module _ (r s : ℕ × ℕ) (ss : List (ℕ × ℕ)) where
   with_range-before : nat_lt (r.1 + 1) s.0 ≡ true → with_range r (s ∷ ss) ≡ r ∷ s ∷ ss
   with_range-before h = cond-true (nat_lt (r.1 + 1) s.0) _ _ h
 
-  with_range-after : nat_lt (r.1 + 1) s.0 ≡ false → nat_lt (s.1 + 1) r.0 ≡ true → with_range r (s ∷ ss) ≡ s ∷ with_range r ss
+  with_range-after : nat_lt (r.1 + 1) s.0 ≡ false → nat_lt (s.1 + 1) r.0 ≡ true
+      → with_range r (s ∷ ss) ≡ s ∷ with_range r ss
   with_range-after h k = cond-false (nat_lt (r.1 + 1) s.0) _ _ h ∙ cond-true (nat_lt (s.1 + 1) r.0) _ _ k
 
   with_range-joined : nat_lt (r.1 + 1) s.0 ≡ false → nat_lt (s.1 + 1) r.0 ≡ false
@@ -42,8 +43,10 @@ three P r s ss before after joined =
     elim (cases_Bool (nat_lt (r.1 + 1) s.0)) [
       | inl e ↦ subst P (sym (with_range-before r s ss e)) (before (ltb-true (r.1 + 1) s.0 e))
       | inr e ↦ elim (cases_Bool (nat_lt (s.1 + 1) r.0)) [
-        | inl f ↦ subst P (sym (with_range-after r s ss e f)) (after (ltb-false (r.1 + 1) s.0 e) (ltb-true (s.1 + 1) r.0 f))
-        | inr f ↦ subst P (sym (with_range-joined r s ss e f)) (joined (ltb-false (r.1 + 1) s.0 e) (ltb-false (s.1 + 1) r.0 f))
+        | inl f ↦ subst P (sym (with_range-after r s ss e f))
+            (after (ltb-false (r.1 + 1) s.0 e) (ltb-true (s.1 + 1) r.0 f))
+        | inr f ↦ subst P (sym (with_range-joined r s ss e f))
+            (joined (ltb-false (r.1 + 1) s.0 e) (ltb-false (s.1 + 1) r.0 f))
       ]
     ]
 
@@ -56,9 +59,11 @@ has-with_range low r (s ∷ ss) n up h =
     (λ _ _. ap (λ b. is_within s n || b) (has-with_range (s.1 + 2) r ss n up h.2)
     ∙ or_swap (is_within s n) (is_within r n) (has ss n))
     (λ p q. has-with_range (s.1 + 2) (min r.0 s.0, max r.1 s.1) ss n (omega arith) h.2
-    ∙ ap (λ b. b || has ss n) (is_within-joined r.0 r.1 s.0 s.1 n up h.1 p q) ∙ or_group (is_within r n) (is_within s n) (has ss n))
+    ∙ ap (λ b. b || has ss n) (is_within-joined r.0 r.1 s.0 s.1 n up h.1 p q)
+    ∙ or_group (is_within r n) (is_within s n) (has ss n))
 
-pub rises-with_range : (low : ℕ) (r : ℕ × ℕ) (ss : List (ℕ × ℕ)) → low ≤ r.0 → r.0 ≤ r.1 → Rises low ss → Rises low (with_range r ss)
+pub rises-with_range : (low : ℕ) (r : ℕ × ℕ) (ss : List (ℕ × ℕ)) → low ≤ r.0 → r.0 ≤ r.1 → Rises low ss
+    → Rises low (with_range r ss)
 rises-with_range low r [] a up h = (a, up, tt)
 rises-with_range low r (s ∷ ss) a up h =
     three (Rises low) r s ss
@@ -84,16 +89,19 @@ are_ranges-parts low r rs h =
     let (above, range) = and_parts (nat_le low r.0) (is_range r) front in
     (leb-true low r.0 above, range, rest)
 
-pub are_ranges-from : (low : ℕ) (r : ℕ × ℕ) (rs : List (ℕ × ℕ)) → low ≤ r.0 → is_range r ≡ true → are_ranges (r.1 + 2) rs ≡ true
+pub are_ranges-from : (low : ℕ) (r : ℕ × ℕ) (rs : List (ℕ × ℕ)) → low ≤ r.0 → is_range r ≡ true
+    → are_ranges (r.1 + 2) rs ≡ true
     → are_ranges low (r ∷ rs) ≡ true
 are_ranges-from low r rs a b c = and_from _ _ (and_from _ _ (le-leb low r.0 a) b) c
 
-pub are_ranges-lower : (low high : ℕ) (rs : List (ℕ × ℕ)) → low ≤ high → are_ranges high rs ≡ true → are_ranges low rs ≡ true
+pub are_ranges-lower : (low high : ℕ) (rs : List (ℕ × ℕ)) → low ≤ high → are_ranges high rs ≡ true
+    → are_ranges low rs ≡ true
 are_ranges-lower low high [] l h = refl
 are_ranges-lower low high (r ∷ rs) l h =
     let (a, b, c) = are_ranges-parts high r rs h in are_ranges-from low r rs (omega arith) b c
 
-pub are_ranges-with_range : (low : ℕ) (r : ℕ × ℕ) (ss : List (ℕ × ℕ)) → low ≤ r.0 → is_range r ≡ true → are_ranges low ss ≡ true
+pub are_ranges-with_range : (low : ℕ) (r : ℕ × ℕ) (ss : List (ℕ × ℕ)) → low ≤ r.0 → is_range r ≡ true
+    → are_ranges low ss ≡ true
     → are_ranges low (with_range r ss) ≡ true
 are_ranges-with_range low r [] a range h = are_ranges-from low r [] a range refl
 are_ranges-with_range low r (s ∷ ss) a range h =
@@ -102,7 +110,8 @@ are_ranges-with_range low r (s ∷ ss) a range h =
     let rise : s.0 ≤ s.1 = is_range-up s is in
     three (λ l. are_ranges low l ≡ true) r s ss
     (λ p. are_ranges-from low r (s ∷ ss) a range (are_ranges-from (r.1 + 2) s ss (omega arith) is c))
-    (λ p q. are_ranges-from low s (with_range r ss) b is (are_ranges-with_range (s.1 + 2) r ss (omega arith) range c))
+    (λ p q. are_ranges-from low s (with_range r ss) b is
+    (are_ranges-with_range (s.1 + 2) r ss (omega arith) range c))
     (λ p q. are_ranges-with_range low (min r.0 s.0, max r.1 s.1) ss (omega arith)
     (is_range-joined r.0 r.1 s.0 s.1 range is p q) (are_ranges-lower low (s.1 + 2) ss (omega arith) c))
 

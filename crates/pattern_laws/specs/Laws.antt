@@ -20,12 +20,15 @@ SetIsItsMembers =
     (s t : List (ℕ × ℕ)) → are_ranges 0 s ≡ true → are_ranges 0 t ≡ true → ((c : ℕ) → has s c ≡ has t c) → s ≡ t
 
 abbrev pub UnionHasBoth : Type 0
-UnionHasBoth = (rs : List (ℕ × ℕ)) → every_range rs ≡ true → (are_ranges 0 (set_of rs) ≡ true) × ((c : ℕ) → has (set_of rs) c ≡ has rs c)
+UnionHasBoth =
+    (rs : List (ℕ × ℕ)) → every_range rs ≡ true
+    → (are_ranges 0 (set_of rs) ≡ true) × ((c : ℕ) → has (set_of rs) c ≡ has rs c)
 
 abbrev pub ComplementHasTheRest : Type 0
 ComplementHasTheRest =
     (s : List (ℕ × ℕ)) → are_ranges 0 s ≡ true
-    → (are_ranges 0 (complement_of s) ≡ true) × ((c : ℕ) → has (complement_of s) c ≡ is_scalar c && not (has s c))
+    → (are_ranges 0 (complement_of s) ≡ true) ×
+    ((c : ℕ) → has (complement_of s) c ≡ is_scalar c && not (has s c))
 
 -- how many numbers the ranges have, range by range
 abbrev pub width_of : List (ℕ × ℕ) → ℕ

@@ -38,7 +38,8 @@ set_of (r ∷ rs) = with_range r (set_of rs)
 -- the numbers from `low` to the last code point that a set leaves out
 abbrev pub gaps_from : ℕ → List (ℕ × ℕ) → List (ℕ × ℕ)
 gaps_from low [] = if nat_lt low 0x110000 then (low, 0x10ffff) ∷ [] else []
-gaps_from low (r ∷ rs) = if nat_lt low r.0 then (low, r.0 - 1) ∷ gaps_from (r.1 + 1) rs else gaps_from (r.1 + 1) rs
+gaps_from low (r ∷ rs) =
+    if nat_lt low r.0 then (low, r.0 - 1) ∷ gaps_from (r.1 + 1) rs else gaps_from (r.1 + 1) rs
 
 -- the characters that a set leaves out; surrogates are none
 abbrev pub complement_of : List (ℕ × ℕ) → List (ℕ × ℕ)

@@ -9,8 +9,10 @@ returns-then-code-high c =
     let set = c.args.ranges.now in
     let r = get_or set c.loop-range.range-index (0, 0) in
     let rest = drop (suc c.loop-range.range-index) set in
-    let here : drop c.loop-range.range-index set ≡ r ∷ rest = drop-cons set c.loop-range.range-index (0, 0) c.loop-range-test.true in
-    let ordered : are_ranges 0 (r ∷ rest) ≡ true = subst (λ s. are_ranges 0 s ≡ true) here c.loop-range.invariant.ordered in
+    let here : drop c.loop-range.range-index set ≡ r ∷ rest =
+    drop-cons set c.loop-range.range-index (0, 0) c.loop-range-test.true in
+    let ordered : are_ranges 0 (r ∷ rest) ≡ true =
+    subst (λ s. are_ranges 0 s ≡ true) here c.loop-range.invariant.ordered in
     let same : (d : ℕ) → c.args.low ≤ d → has (r ∷ rest) d ≡ has set d =
     λ d l. ap (λ s. has s d) (sym here) ∙ c.loop-range.invariant.same d l in
     whole_first (r ∷ rest) set c.args.low c.args.high c.from_u32.result same
@@ -22,19 +24,24 @@ returns-then-low-range c =
     let set = c.args.ranges.now in
     let r = get_or set c.loop-range.range-index (0, 0) in
     let rest = drop (suc c.loop-range.range-index) set in
-    let here : drop c.loop-range.range-index set ≡ r ∷ rest = drop-cons set c.loop-range.range-index (0, 0) c.loop-range-test.true in
-    let ordered : are_ranges 0 (r ∷ rest) ≡ true = subst (λ s. are_ranges 0 s ≡ true) here c.loop-range.invariant.ordered in
+    let here : drop c.loop-range.range-index set ≡ r ∷ rest =
+    drop-cons set c.loop-range.range-index (0, 0) c.loop-range-test.true in
+    let ordered : are_ranges 0 (r ∷ rest) ≡ true =
+    subst (λ s. are_ranges 0 s ≡ true) here c.loop-range.invariant.ordered in
     let same : (d : ℕ) → c.args.low ≤ d → has (r ∷ rest) d ≡ has set d =
     λ d l. ap (λ s. has s d) (sym here) ∙ c.loop-range.invariant.same d l in
-    λ d l m. sym (same d l) ∙ none_has c.args.low c.args.high c.max-code.result r rest ordered c.if-low-range.true c.max-code.ensures c.if-code-high.false d l m
+    λ d l m. sym (same d l)
+    ∙ none_has c.args.low c.args.high c.max-code.result r rest ordered c.if-low-range.true c.max-code.ensures c.if-code-high.false d l m
 
 pub loop-range-preserved : goal.loop-range-preserved
 loop-range-preserved c =
     let set = c.args.ranges.now in
     let r = get_or set c.loop-range.range-index (0, 0) in
     let rest = drop (suc c.loop-range.range-index) set in
-    let here : drop c.loop-range.range-index set ≡ r ∷ rest = drop-cons set c.loop-range.range-index (0, 0) c.loop-range-test.true in
-    let ordered : are_ranges 0 (r ∷ rest) ≡ true = subst (λ s. are_ranges 0 s ≡ true) here c.loop-range.invariant.ordered in
+    let here : drop c.loop-range.range-index set ≡ r ∷ rest =
+    drop-cons set c.loop-range.range-index (0, 0) c.loop-range-test.true in
+    let ordered : are_ranges 0 (r ∷ rest) ≡ true =
+    subst (λ s. are_ranges 0 s ≡ true) here c.loop-range.invariant.ordered in
     let same : (d : ℕ) → c.args.low ≤ d → has (r ∷ rest) d ≡ has set d =
     λ d l. ap (λ s. has s d) (sym here) ∙ c.loop-range.invariant.same d l in
     rw add-one (record {

@@ -22,6 +22,8 @@ returns c =
     rw (c.in_ok-extend_from_slice.ensures.items, c.in_ok-ranges.ensures.items, c.deref.ensures.value, c.deref-2.ensures.value) refl in
     IfOk-weaker c.from_ranges.result (λ both. both ≡ set_of c.extend_from_slice.new.self.items)
     (λ both. (n : ℕ) → has both n ≡ has c.args.self.now n || has c.args.other.now n)
-    (λ both e n. ap (λ s. has s n) (e ∙ ap set_of all) ∙ has-set_of (a ++ b) n (both_ranges a b c.self.invariant c.other.invariant)
-    ∙ has-append a b n ∙ ap (λ s. has s n || has b n) c.self.view_is ∙ ap (λ s. has c.args.self.now n || has s n) c.other.view_is)
+    (λ both e n. ap (λ s. has s n) (e ∙ ap set_of all)
+    ∙ has-set_of (a ++ b) n (both_ranges a b c.self.invariant c.other.invariant)
+    ∙ has-append a b n ∙ ap (λ s. has s n || has b n) c.self.view_is
+    ∙ ap (λ s. has c.args.self.now n || has s n) c.other.view_is)
     c.from_ranges.ensures

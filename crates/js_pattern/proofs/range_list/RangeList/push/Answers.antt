@@ -7,6 +7,7 @@ pub invariant_of-self : goal.invariant_of-self
 invariant_of-self c = record {
   characters =
       rw c.push.ensures.items
-      (every_range-tried (is_ok c.push.result) c.args.self.now.ranges.items ((c.args.c, c.args.c) ∷ []) c.args.self.now.characters
+      (every_range-tried (is_ok c.push.result) c.args.self.now.ranges.items
+      ((c.args.c, c.args.c) ∷ []) c.args.self.now.characters
       (and_from _ _ (is_range-one c.args.c c.ranges.c.0) refl));
 }
