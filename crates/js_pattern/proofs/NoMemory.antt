@@ -1,9 +1,9 @@
 -- Want of memory is no fault of the grammar's.
-use Rattle.std.proofs.Common.{◌≡◌, ◌≢◌, ℕ, zero, suc, ◌+◌, ◌-◌, ◌*◌, ◌++◌, Bool, true, false, ◌&&◌, ◌||◌, not, nat_lt, nat_le, nat_eq, if◌then◌else◌, List, [], ◌∷◌, length, drop, Option, Some, None, Result, Ok, Err, is_some, ap}
+use Rattle.std.proofs.Common.{◌≡◌, ◌≢◌, ℕ, zero, suc, ◌+◌, ◌-◌, ◌*◌, ◌++◌, Bool, true, false, ◌&&◌, ◌||◌, not, nat_lt, nat_le, if◌then◌else◌, List, [], ◌∷◌, length, drop, Option, Some, None, Result, Ok, Err, is_some, ap}
 use Rattle.patterns.specs.CharSet.{is_scalar, set_of, complement_of}
 use Rattle.patterns.specs.Tree.{Tree, one_of}
 use Rattle.js_pattern.specs.declared.fault.PatternFault.{PatternFault}
-use Rattle.js_pattern.specs.declared.fault.PatternFault.TheVariants.{Syntax, Unsupported, QuantifierOrder, RangeOrder, RepeatTooWide, Memory}
+use Rattle.js_pattern.specs.declared.fault.PatternFault.TheVariants.{Syntax, Unsupported, Memory}
 use Rattle.js_pattern.specs.declared.fault.PatternForm.{PatternForm}
 use Rattle.js_pattern.specs.declared.fault.PatternForm.TheVariants.{Lookaround, NamedGroup, Octal, Surrogate}
 use Rattle.js_pattern.specs.declared.escape.Escape.{Escape}
@@ -11,10 +11,10 @@ use Rattle.js_pattern.specs.declared.escape.Escape.TheVariants.{Character, Class
 use Rattle.js_pattern.specs.declared.escape.ClassEscape.{ClassEscape}
 use Rattle.js_pattern.specs.declared.quantifier.Bounds.{Bounds}
 use Rattle.js_pattern.specs.Reading.{Reading, and_then, after, ◌∈◌, stands_at, digits}
-use Rattle.js_pattern.specs.Escapes.{numbered, byte_of, hexadecimal, null_escape, unicode_of, in_braces, low_surrogate, is_high_surrogate, letter_of, letter_escape, escape_of, class_escape, unsupported_escape, escape}
+use Rattle.js_pattern.specs.Escapes.{numbered, byte_of, hexadecimal, unicode_of, in_braces, low_surrogate, is_high_surrogate, letter_of, letter_escape, escape_of, class_escape, unsupported_escape, escape}
 use Rattle.js_pattern.specs.Classes.{class_atom, span, range_to, range_from, item_of, item, items_at, items, class}
 use Rattle.js_pattern.specs.Quantifiers.{judged_by, judged, repeated_by, quantified_by, quantifier, quantified}
-use Rattle.js_pattern.specs.Grammar.{Body, empty_body, tree_of, add_term, add_alternative, dot_set, set_of_escape, atom, quantified_atom, term, opening, Sign, closes, divides, opens, begins_term, sign_of, term_and_more, group_end, group, group_of, body_at, alternatives, whole, pattern}
+use Rattle.js_pattern.specs.Grammar.{Body, empty_body, tree_of, add_term, add_alternative, dot_set, set_of_escape, atom, term, opening, Sign, closes, divides, opens, begins_term, sign_of, term_and_more, group_end, group_of, body_at, alternatives, whole, pattern}
 
 -- the reading has no such fault
 abbrev NoMemory : {A : Type 0} → Result A PatternFault → Type 0
