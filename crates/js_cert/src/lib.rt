@@ -8,7 +8,7 @@ mod lines;
 mod text;
 
 pub use lines::{Cert, CertLine, CertLines, Version};
-pub use text::{append_line, cert_text, write_line};
+pub use text::{append_line, append_list, cert_text, write_line};
 
 #[cfg(test)]
 mod tests;

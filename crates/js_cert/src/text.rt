@@ -72,7 +72,8 @@ fn append_words(out: &mut String, line: &CertLine) -> Result<(), Memory>
     Ok(())
 }
 
-fn append_list(out: &mut String, list: &[Signed]) -> Result<(), Memory>
+/// Puts signed positions at the end, each after a blank.
+pub fn append_list(out: &mut String, list: &[Signed]) -> Result<(), Memory>
     ensures { OnOk result (string_bytes out.new ≡ string_bytes out.old ++ signed_list_text (map signed_view list.now)) }
 {
     for x in list {

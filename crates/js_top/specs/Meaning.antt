@@ -1,12 +1,23 @@
 -- What the document or the certificate of a report means.
-use Rattle.std.specs.Prelude.{◌≡◌, ◌⊎◌, ℕ, List, [], ◌∷◌, ◌++◌, Option, Some, None, codes}
+use Rattle.std.specs.Prelude.{◌≡◌, ℕ, List, [], ◌∷◌, ◌++◌, length, true, false, Option, Some, None, codes}
 use Rattle.documents.specs.Document.{Document}
 use Rattle.documents.specs.Document as D
 use Rattle.documents.specs.Json.{Json}
 use Rattle.documents.specs.Json as J
 use Rattle.validity.specs.Validity.{Included, Separates}
+use Rattle.documents.specs.Tests.{some}
+use Rattle.documents.specs.Kind.{all_kinds}
+use Rattle.position_laws.specs.Join.{joined}
+use Rattle.goals.specs.Signed.{Signed, Plus, Minus}
+use Rattle.goals.specs.Goal.{form}
+use Rattle.certificates.specs.Line.{Line, lines_text, signed_list_text}
+use Rattle.certificates.specs.Good.{is_good}
 use Rattle.js_json.specs.Value.{value_of}
+use Rattle.js_forms.specs.Table.{table_of}
+use Rattle.js_decide.specs.Verdict.{is_over, is_open}
+use Rattle.js_top.specs.Command.{command}
 use Rattle.js_top.specs.Reading.{IsSchema}
+use Rattle.js_top.specs.Report.{line}
 
 -- a document is a JSON value whose numbers are all whole
 abbrev mutual
@@ -37,3 +48,24 @@ pub record IsCounterexample (a b : Json) (text : List ℕ) : Type 0 where
   pub document : Document
   pub is : IsDocumentText text document
   pub separates : Separates a b document
+
+-- the text of good lines for the two schemas, and what they mean
+pub record IsCertificate (a b : Json) (text : List ℕ) : Type 0 where
+  pub lines : List Line
+  pub written : lines_text lines ≡ text
+  pub good : is_good (joined (table_of a) (table_of b)) 0 (length (table_of a)) lines ≡ true
+  pub included : Included a b
+
+-- the line of a goal: some kind's tree has more ends than are looked at, and no tree that is looked at has a branch
+pub record IsLimit (a b : Json) (text : List ℕ) : Type 0 where
+  pub goal : List Signed
+  pub formed : form (joined (table_of a) (table_of b)) (Plus 0 ∷ Minus (length (table_of a)) ∷ []) ≡ Some goal
+  pub written : line (codes "limit branches" ++ signed_list_text goal) ≡ text
+  pub over : some (is_over (joined (table_of a) (table_of b)) goal) all_kinds ≡ true
+  pub none_open : some (is_open (joined (table_of a) (table_of b)) goal) all_kinds ≡ false
+
+-- a fact of the two schemas that the words name, where the files are told and both are read
+abbrev pub OfSchemas : Option (List ℕ → Option (List ℕ)) → List (List ℕ) → (Json → Json → Type 0) → Type 0
+OfSchemas None words P = Unit {0}
+OfSchemas (Some files) words P =
+    (a b : List ℕ) (x y : Json) → command words ≡ Some (a, b) → IsSchema files a x → IsSchema files b y → P x y

@@ -57,7 +57,7 @@ of_command files (Some (a, b)) =
 abbrev pub report : (List ℕ → Option (List ℕ)) → List (List ℕ) → Report
 report files words = of_command files (command words)
 
--- the text and the status are the report, where the files are told
-abbrev pub IsReport : Option (List ℕ → Option (List ℕ)) → List (List ℕ) → List ℕ → Status → Type 0
-IsReport None words text status = Unit {0}
-IsReport (Some files) words text status = report files words ≡ record { text = text; status = status }
+-- what is printed and the status are the report, where the files are told
+abbrev pub IsReport : Option (List ℕ → Option (List ℕ)) → List (List ℕ) → Report → Type 0
+IsReport None words r = Unit {0}
+IsReport (Some files) words r = report files words ≡ r

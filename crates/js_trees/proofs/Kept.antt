@@ -1,13 +1,13 @@
 -- A set of numbers in order is kept as the rising list of its signed positions.
-use Rattle.std.proofs.Common.{◌≡◌, ℕ, suc, ◌+◌, ◌*◌, ◌/◌, ◌%◌, ◌^◌, ◌<◌, ◌≤◌, Bool, true, false, cond, ◌&&◌, nat_eq, nat_lt, Ordering, Less, Equal, Greater, List, [], ◌∷◌, map, refl, arith, ap, ap₂, sym, ◌∙◌, subst}
+use Rattle.std.proofs.Common.{◌≡◌, ℕ, suc, ◌/◌, ◌%◌, ◌^◌, ◌<◌, Bool, true, false, cond, nat_eq, nat_lt, Ordering, Less, Equal, Greater, List, [], ◌∷◌, map, refl, arith, ap, ap₂, sym, ◌∙◌, subst}
 use Rattle.std.specs.Ordering.{nat_cmp, match_ordering, MatchOrdering}
 use Rattle.std.specs.BTreeSet.{insert_key}
 use Rattle.std.specs.BTreeMap.Range.{IsLtBy}
 use Rattle.std.specs.List.{All}
-use Rattle.std.proofs.lemmas.Bool.{eqb-true, eqb-false, eq-eqb, ne_eqb, lt-ltb, ltb-true, ltb-false, le-ltb, and_parts, and_from}
+use Rattle.std.proofs.lemmas.Bool.{eqb-true, eqb-false, lt-ltb, ltb-true, and_parts, and_from}
 use Rattle.std.proofs.lemmas.Cmp.{ranked}
 use Rattle.documents.specs.Tests.{every}
-use Rattle.goals.specs.Signed.{Signed, Plus, Minus, same_signed, comes_before, add}
+use Rattle.goals.specs.Signed.{Signed, same_signed, comes_before, add}
 use Rattle.js_algebra.specs.Order.{order_of}
 use Rattle.js_algebra.specs.View.{with_sign}
 use Rattle.js_algebra.proofs.Orders.{order-same, before-order, same-order, lt_before}
@@ -29,17 +29,19 @@ insert-add x (k ∷ ks) =
     go (nat_lt (order_of x) k) (nat_eq (order_of x) k) refl refl (insert-add x ks)
     ∙ ap₂ (λ s b. cond s (signed_at k ∷ map signed_at ks) (cond b (x ∷ signed_at k ∷ map signed_at ks) (signed_at k ∷ add x (map signed_at ks)))) (sym same) (sym before)
   where
-  same : same_signed x (signed_at k) ≡ nat_eq (order_of x) k
-  same = same-order x (signed_at k) ∙ ap (nat_eq (order_of x)) (order_of-signed_at k)
-  before : comes_before x (signed_at k) ≡ nat_lt (order_of x) k
-  before = before-order x (signed_at k) ∙ ap (nat_lt (order_of x)) (order_of-signed_at k)
-  go : (l e : Bool) → nat_lt (order_of x) k ≡ l → nat_eq (order_of x) k ≡ e → map signed_at (insert_key nat_cmp ks (order_of x)) ≡ add x (map signed_at ks)
-      → map signed_at (match_ordering (cond l Less (cond e Equal Greater)) (order_of x ∷ k ∷ ks) (k ∷ ks) (k ∷ insert_key nat_cmp ks (order_of x)))
-      ≡ cond e (signed_at k ∷ map signed_at ks) (cond l (x ∷ signed_at k ∷ map signed_at ks) (signed_at k ∷ add x (map signed_at ks)))
-  go true true a b more = absurd (omega (arith, ltb-true _ _ a, eqb-true _ _ b))
-  go true false a b more = ap (λ y. y ∷ signed_at k ∷ map signed_at ks) (signed_at-order_of x)
-  go false true a b more = refl
-  go false false a b more = ap (λ S. signed_at k ∷ S) more
+    same : same_signed x (signed_at k) ≡ nat_eq (order_of x) k
+    same = same-order x (signed_at k) ∙ ap (nat_eq (order_of x)) (order_of-signed_at k)
+
+    before : comes_before x (signed_at k) ≡ nat_lt (order_of x) k
+    before = before-order x (signed_at k) ∙ ap (nat_lt (order_of x)) (order_of-signed_at k)
+
+    go : (l e : Bool) → nat_lt (order_of x) k ≡ l → nat_eq (order_of x) k ≡ e → map signed_at (insert_key nat_cmp ks (order_of x)) ≡ add x (map signed_at ks)
+        → map signed_at (match_ordering (cond l Less (cond e Equal Greater)) (order_of x ∷ k ∷ ks) (k ∷ ks) (k ∷ insert_key nat_cmp ks (order_of x)))
+        ≡ cond e (signed_at k ∷ map signed_at ks) (cond l (x ∷ signed_at k ∷ map signed_at ks) (signed_at k ∷ add x (map signed_at ks)))
+    go true true a b more = absurd (omega (arith, ltb-true _ _ a, eqb-true _ _ b))
+    go true false a b more = ap (λ y. y ∷ signed_at k ∷ map signed_at ks) (signed_at-order_of x)
+    go false true a b more = refl
+    go false false a b more = ap (λ S. signed_at k ∷ S) more
 
 every-insert : (p : ℕ → Bool) (k : ℕ) (ks : List ℕ) → p k ≡ true → every p ks ≡ true → every p (insert_key nat_cmp ks k) ≡ true
 every-insert p k [] a b = and_from _ _ a refl
@@ -57,9 +59,9 @@ pub before-above : (k : ℕ) (ks : List ℕ) → All (IsLtBy nat_cmp k) ks → e
 before-above k [] h = refl
 before-above k (x ∷ ks) h =
     and_from _ _ (lt_before (signed_at k) (signed_at x) (omega (arith, order_of-signed_at k, order_of-signed_at x, below k x (h 0 x (omega arith)))))
-      (before-above k ks (λ i d l. h (suc i) d (omega (arith, l))))
+    (before-above k ks (λ i d l. h (suc i) d (omega (arith, l))))
   where
-  below : (a b : ℕ) → nat_cmp a b ≡ Less → a < b
-  below a b e = ranked_less a b (ranked a b (nat_cmp a b) refl) e where
-    ranked_less : (a b : ℕ) → MatchOrdering (nat_cmp a b) (a < b) (a ≡ b) (b < a) → nat_cmp a b ≡ Less → a < b
-    ranked_less a b m e = subst (λ o. MatchOrdering o (a < b) (a ≡ b) (b < a)) e m
+    below : (a b : ℕ) → nat_cmp a b ≡ Less → a < b
+    below a b e = ranked_less a b (ranked a b (nat_cmp a b) refl) e where
+      ranked_less : (a b : ℕ) → MatchOrdering (nat_cmp a b) (a < b) (a ≡ b) (b < a) → nat_cmp a b ≡ Less → a < b
+      ranked_less a b m e = subst (λ o. MatchOrdering o (a < b) (a ≡ b) (b < a)) e m

@@ -3,3 +3,5 @@ pub mod Trails
 pub mod Numbers
 pub mod Walks
 pub mod Least
+pub mod Outcomes
+pub mod Progress

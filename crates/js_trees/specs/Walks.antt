@@ -1,6 +1,6 @@
 -- What holds of a walk: what its set covers, and the step at it.
-use Rattle.std.specs.Prelude.{◌≡◌, ℕ, ◌<◌, ◌≤◌, List, [], ◌∷◌, ◌++◌, map, length, take, Bool, true, false, ◌&&◌, ◌||◌, not, Option, Some, None, nat_lt, ⊤}
-use Rattle.documents.specs.Tests.{every, some}
+use Rattle.std.specs.Prelude.{◌≡◌, ◌≤◌, List, map, length, take, Bool, true, false, ◌&&◌, ◌||◌, not, Option, Some, None, ⊤}
+use Rattle.documents.specs.Tests.{every}
 use Rattle.documents.specs.Kind.{Kind}
 use Rattle.positions.specs.Position.{Position}
 use Rattle.goals.specs.Signed.{Signed, same_signed, has, opposite, position_of}
@@ -9,7 +9,6 @@ use Rattle.goals.specs.Tree as T
 use Rattle.goals.specs.Tree.{has_choice, choice_list}
 use Rattle.js_algebra.specs.Order.{order_of}
 use Rattle.js_algebra.specs.View.{signed_view}
-use Rattle.js_trees.specs.Trails.{set_of}
 use Rattle.js_trees.specs.declared.walk.Walk.{Walk}
 use Rattle.js_trees.specs.declared.walk.Step.{Step}
 use Rattle.js_trees.specs.declared.walk.Step.TheVariants as V

@@ -7,6 +7,7 @@ ghost use Rattle.std.specs.Prelude.{◌≡◌, ◌<◌, ◌≤◌, ◌*◌, ℕ,
 ghost use Rattle.documents.specs.Tests.{every, some};
 ghost use Rattle.goals.specs.Signed.{has, opposite};
 ghost use Rattle.goals.specs.Choices.{choices, is_wrong};
+ghost use Rattle.positions.specs.Position.{is_table};
 ghost use Rattle.goals.specs.Tree.{next, choice_list, has_choice};
 ghost use Rattle.js_algebra.specs.View.{signed_view, kind_view, with_sign, places, is_in_table, are_in_table};
 ghost use Rattle.js_algebra.specs.Order.{order_of};
@@ -20,6 +21,7 @@ use js_doc::Memory;
 use std::alloc::Global;
 
 /// What the tree has at a set; `step_view` is the step that it stands for. A rule comes with the number of its choices.
+#[derive(Clone, Copy)]
 pub enum Step {
     /// Its position has both signs.
     Clash(Signed),
@@ -40,6 +42,8 @@ impl Walk {
     pub fn new(alloc: Global, core: &Core) -> Result<Walk, Memory>
         ensures empty { IfOk result (λ w. w.trail.members ≡ []) }
         ensures room { IfOk result (λ w. w.trail.room ≡ 2 * length core.now.positions) }
+        ensures settled { IfOk result (λ w. w.settled.items ≡ []) }
+        ensures table { is_table core.now.positions core.now.ranks ≡ true }
     {
         let room = 2 * core.len() as usize;
         Ok(Walk {
@@ -85,7 +89,13 @@ impl Walk {
     }
 
     /// Adds the choice of that number of the rule of `x`.
-    pub fn add_choice(&mut self, core: &Core, kind: JsonKind, x: Signed, index: usize) -> Result<(), Memory>
+    pub fn add_choice(
+        &mut self,
+        core: &Core,
+        kind: JsonKind,
+        x: Signed,
+        index: usize,
+    ) -> Result<(), Memory>
         requires in_table { is_in_table core.now.positions (signed_view x) ≡ true }
         requires room { self.old.trail.room ≡ 2 * length core.now.positions }
         requires index { index < length (choice_list (choices core.now.positions (kind_view kind) (signed_view x))) }

@@ -5,6 +5,7 @@ use js_doc::{Memory, Str};
 use js_outside::{FileShelf, StdoutSink};
 use js_top::{Status, run};
 use std::env;
+use std::env::Env;
 use std::io::ErrorKind;
 use std::process::ExitCode;
 
@@ -29,7 +30,9 @@ fn command_words<R: Env + AllocGlobal>(rt: &R) -> Result<Vec<Str>, Status> {
     };
     let mut words = Vec::new(rt.alloc());
     for word in args.skip(1) {
-        words.push(Str::from_string(word)).map_err(|_| Status::Memory)?;
+        words
+            .push(Str::from_string(word))
+            .map_err(|_| Status::Memory)?;
     }
     Ok(words)
 }

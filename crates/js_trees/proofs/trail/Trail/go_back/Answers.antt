@@ -1,5 +1,5 @@
 -- The members that are left.
-use Rattle.std.proofs.Common.{◌≡◌, map, take, ap, sym, ◌∙◌}
+use Rattle.std.proofs.Common.{map, take, ap, ◌∙◌}
 use Rattle.js_algebra.specs.View.{signed_view}
 use Rattle.js_trees.proofs.Indexed.{map-take}
 use Rattle.js_trees.proofs.trail.Trail.go_back.Goals as goal

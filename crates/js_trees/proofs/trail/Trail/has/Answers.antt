@@ -1,15 +1,14 @@
 -- A member is found at its place.
-use Rattle.std.proofs.Common.{◌≡◌, ◌<◌, ◌≤◌, ℕ, Bool, false, nat_lt, nat_eq, ◌&&◌, List, length, get_or, map, ap, sym, ◌∙◌, arith, subst}
+use Rattle.std.proofs.Common.{◌≡◌, ◌<◌, ◌≤◌, ℕ, Bool, nat_lt, nat_eq, ◌&&◌, List, length, get_or, map, ap, ◌∙◌, arith}
 use Rattle.std.specs.Bool.{beq}
 use Rattle.std.proofs.lemmas.Bool.{le-ltb}
 use Rattle.std.proofs.lemmas.Grind.{get_or_default_zero}
-use Rattle.goals.specs.Signed as G
 use Rattle.goals.specs.Signed.{has}
 use Rattle.js_algebra.specs.View.{signed_view}
 use Rattle.js_algebra.specs.Order.{order_of}
 use Rattle.js_algebra.specs.declared.signed.Signed.{Signed}
 use Rattle.js_algebra.proofs.Sorting.{same_fields}
-use Rattle.js_trees.specs.Trails.{Members, IsIndexed}
+use Rattle.js_trees.specs.Trails.{IsIndexed}
 use Rattle.js_trees.proofs.Indexed.{has_there, has_beyond, has_no_room}
 use Rattle.js_trees.proofs.trail.Trail.has.Goals as goal
 
@@ -36,7 +35,7 @@ returns-then-place-len c =
     let room : order_of (signed_view c.args.x) < length c.self.inside.places.items = omega (arith, c.len.ensures, c.order-number.ensures.value) in
     let p = place_read c.self.inside.places.items _ _ (order_of (signed_view c.args.x)) c.index-place.ensures c.order-number.ensures.value room in
     inside c.self.inside.members.items c.self.inside.places.items c.index-place.result.now c.args.x c.index.result.now c.eq.result c.self.invariant p
-      (omega (arith, c.len-2.ensures)) c.index.ensures c.eq.ensures
+    (omega (arith, c.len-2.ensures)) c.index.ensures c.eq.ensures
     ∙ ap (λ t. has (signed_view c.args.x) t.members) c.self.view_is
 
 pub returns-else-place-len : goal.returns-else-place-len

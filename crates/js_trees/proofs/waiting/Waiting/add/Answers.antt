@@ -1,10 +1,9 @@
 -- The number goes to its place in the order.
-use Rattle.std.proofs.Common.{◌≡◌, ◌<◌, ◌^◌, ℕ, List, map, true, sym, ◌∙◌, ap, subst}
+use Rattle.std.proofs.Common.{◌≡◌, map, true, sym, ◌∙◌, ap, subst}
 use Rattle.std.specs.Ordering.{nat_cmp}
 use Rattle.std.specs.BTreeSet.{insert_key}
 use Rattle.goals.specs.Signed.{add}
 use Rattle.js_algebra.specs.View.{signed_view}
-use Rattle.js_algebra.specs.Order.{order_of}
 use Rattle.js_trees.specs.Numbers.{signed_at, are_numbers}
 use Rattle.js_trees.proofs.Kept.{insert-add, numbers-insert}
 use Rattle.js_trees.proofs.waiting.Waiting.add.Goals as goal

@@ -1,5 +1,5 @@
 -- A member is in the table.
-use Rattle.std.proofs.Common.{◌≡◌, true, not, sym, ◌∙◌}
+use Rattle.std.proofs.Common.{sym, ◌∙◌}
 use Rattle.js_algebra.specs.View.{signed_view}
 use Rattle.js_trees.proofs.Settling.{member_in_table}
 use Rattle.js_trees.proofs.walk.Walk.needs_choice.Goals as goal
