@@ -7,3 +7,5 @@ pub mod Sets
 pub mod Gaps
 -- How many members a set has.
 pub mod Counts
+-- Worked examples.
+pub mod Examples
