@@ -1,0 +1,6 @@
+-- What a reader must believe: which characters a set has, what a pattern's tree is, and what it matches.
+pub mod CharSet
+pub mod Tree
+pub mod Match
+-- The same by computing: where a match can end, and whether a word has one.
+pub mod Decision
