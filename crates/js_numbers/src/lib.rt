@@ -1,0 +1,9 @@
+//! Number groups decided exactly: the first whole number that meets bounds, divisors and sets, or that there is none.
+//!
+//! [`decide`] answers by the definition `outcome` of `specs/Outcome.antt`. A number that it finds meets the group, and it
+//! says `Empty` only where no whole number of any size does. No call takes memory, and no step overflows.
+#![tactic(auto)]
+
+mod group;
+
+pub use group::{Cases, NumGroup};
