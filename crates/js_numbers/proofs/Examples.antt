@@ -1,6 +1,5 @@
 -- The definitions on worked examples.
-use Rattle.std.proofs.Common.{◌≡◌, ℕ, List, [], ◌∷◌, Option, Some, None, Ok, Err, ℤ, pos, negsuc, neg_ℤ, refl}
-use Rattle.js_numbers.specs.declared.group.Cases.{Cases}
+use Rattle.std.proofs.Common.{◌≡◌, ℕ, List, [], ◌∷◌, Option, Some, None, ℤ, pos, negsuc, refl}
 use Rattle.js_numbers.specs.declared.group.Cases.TheVariants.{Found, Empty, LimitMultiples, LimitCandidates}
 use Rattle.js_numbers.specs.Multiples.{least_below, lcm_of}
 use Rattle.js_numbers.specs.Group.{Group}

@@ -1,1 +1,7 @@
-pub mod Examples
+mod Examples
+pub mod Least
+pub mod CommonMultiples
+pub mod Sizes
+pub mod Finding
+pub mod Searching
+pub mod Deciding

@@ -1,5 +1,5 @@
 -- A number group, and what it asks of a whole number of any size.
-use Rattle.std.specs.Prelude.{◌≡◌, ℕ, ◌^◌, nat_lt, nat_le, List, Bool, true, false, not, ◌&&◌, ◌||◌, Option, Some, None, ℤ, int_le, int_lt, unsigned_abs}
+use Rattle.std.specs.Prelude.{ℕ, ◌^◌, nat_lt, nat_le, List, Bool, true, false, not, ◌&&◌, ◌||◌, Option, Some, None, ℤ, int_le, int_lt, unsigned_abs}
 use Rattle.std.specs.List.{list_all, list_any}
 use Rattle.std.specs.Ordering.{int_eq}
 use Rattle.js_numbers.specs.declared.group.NumGroup.{NumGroup}

@@ -1,5 +1,5 @@
 -- Multiples, least common multiples, and the least number that passes a test.
-use Rattle.std.specs.Prelude.{◌≡◌, ℕ, zero, suc, ◌+◌, ◌*◌, ◌%◌, ◌<◌, ◌==◌, List, [], ◌∷◌, Bool, true, false, ℤ, unsigned_abs}
+use Rattle.std.specs.Prelude.{◌≡◌, ℕ, zero, suc, ◌*◌, ◌%◌, ◌<◌, ◌==◌, List, [], ◌∷◌, Bool, true, false, ℤ, unsigned_abs}
 use Rattle.std.specs.List.{list_all}
 use Prim.Native.Nat.{◌∣◌}
 

@@ -1,5 +1,5 @@
 -- The answer that is owed for a group: which number is found first, or that there is none, or which limit was passed.
-use Rattle.std.specs.Prelude.{◌≡◌, ℕ, suc, ◌+◌, ◌*◌, ◌/◌, ◌%◌, ◌^◌, ◌==◌, nat_le, List, [], ◌∷◌, Bool, true, false, not, Option, Some, None, Result, Ok, Err, ℤ, pos, neg_ℤ, ◌+ℤ◌, unsigned_abs, if◌then◌else◌}
+use Rattle.std.specs.Prelude.{ℕ, ◌+◌, ◌*◌, ◌/◌, ◌%◌, ◌^◌, ◌==◌, nat_le, List, [], ◌∷◌, Bool, true, not, Option, Some, None, Result, Ok, Err, ℤ, pos, neg_ℤ, ◌+ℤ◌, unsigned_abs, if◌then◌else◌}
 use Rattle.std.specs.List.{list_any, find}
 use Rattle.std.specs.Int.{int_rem_euclid}
 use Rattle.js_numbers.specs.declared.group.Cases.{Cases}
@@ -26,12 +26,22 @@ place m None None k = alternate m k
 abbrev pub is_over : ℤ → Bool
 is_over x = nat_le (2 ^ 127) (unsigned_abs x)
 
+-- x where it is at most 2^127-1 in size
+abbrev pub sized : ℤ → Option ℤ
+sized x = if is_over x then None else Some x
+
 abbrev pub in_reach : Bool → ℤ → Result ℤ Cases
 in_reach remains x = if remains then (if is_over x then Err LimitMultiples else Ok x) else Err Empty
 
 -- the k-th candidate, or why there is none to try: none remains, or it is over 2^127-1 in size
 unfoldable pub reached : ℕ → Group → ℕ → Result ℤ Cases
 reached m g k = let x = place m g.low g.high k in in_reach (is_below g.high x) x
+
+-- what follows where a candidate is over 2^127-1 in size: upwards, it is above any upper bound
+abbrev pub after_last : Option ℤ → Option ℤ → Cases
+after_last (Some low) (Some high) = Empty
+after_last (Some low) None = LimitMultiples
+after_last None high = LimitMultiples
 
 -- the candidates end here: with one that isn't struck, or without one
 abbrev pub is_last : Group → Result ℤ Cases → Bool

@@ -3,13 +3,9 @@
 //! Each test equals its definition in `specs/Group.antt` and costs a look at each divisor and each listed value.
 
 ghost use Rattle.std.specs.Prelude.{◌≡◌};
-ghost use Rattle.js_numbers.specs.Multiples.{is_multiple};
-ghost use Rattle.js_numbers.specs.Group.{has};
 
+use crate::number::{all_have, any_has, divides_all, divides_any, is_above, is_below};
 use js_doc::NumList;
-
-/// The largest number of candidates that may be struck before the search gives up.
-pub const MOST_STRUCK: u32 = 65_536;
 
 /// Bounds, divisors and sets that a whole number must have, and divisors and sets that it must not have.
 pub struct NumGroup<'a> {
@@ -30,18 +26,37 @@ pub enum Cases {
     Empty,
     /// The least common multiple, or the next candidate, is over 2^127-1 in size.
     LimitMultiples,
-    /// [`MOST_STRUCK`] candidates don't meet the group, and another one remains.
+    /// As many candidates as may be struck don't meet the group, and another one remains.
     LimitCandidates,
 }
 
-fn is_multiple(x: i128, m: u64) -> bool
-    ensures { result ≡ is_multiple m x }
-{
-    x.unsigned_abs().is_multiple_of(u128::from(m))
-}
+impl NumGroup<'_> {
+    ghost use Rattle.js_numbers.specs.Group.{group_of, is_below, is_crossed, is_met, is_struck};
 
-fn has(values: &[i128], x: i128) -> bool
-    ensures { result ≡ has values.now x }
-{
-    values.iter().any(|y| *y == x)
+    /// Whether `x` meets the group.
+    pub fn is_met(&self, x: i128) -> bool
+        ensures { result ≡ is_met (group_of self.now) x }
+    {
+        is_above(self.lo, x)
+            && is_below(self.hi, x)
+            && divides_all(self.multiples, x)
+            && all_have(self.sets, x)
+            && !self.is_struck(x)
+    }
+
+    /// Whether `x` is ruled out, by a divisor or by a set.
+    pub fn is_struck(&self, x: i128) -> bool
+        ensures { result ≡ is_struck (group_of self.now) x }
+    {
+        divides_any(self.not_multiples, x) || any_has(self.not_sets, x)
+    }
+
+    pub fn is_crossed(&self) -> bool
+        ensures { result ≡ is_crossed self.now.lo self.now.hi }
+    {
+        match (self.lo, self.hi) {
+            (Some(low), Some(high)) => high < low,
+            _ => false,
+        }
+    }
 }

@@ -4,6 +4,13 @@
 //! says `Empty` only where no whole number of any size does. No call takes memory, and no step overflows.
 #![tactic(auto)]
 
+mod candidates;
+mod decision;
+mod factors;
 mod group;
+mod number;
 
+pub use candidates::MOST_STRUCK;
+pub use decision::decide;
+pub use factors::{gcd, lcm};
 pub use group::{Cases, NumGroup};
