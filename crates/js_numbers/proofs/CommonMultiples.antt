@@ -74,7 +74,7 @@ common_cons : (m : ℕ) (ms : List ℕ) (x : ℕ) → m ∣ x → is_common ms x
 common_cons m ms x d h = and_from _ _ (eq-eqb _ _ (mod-eq-zero_of_dvd m d)) h
 
 -- what is common to all is common to what it divides
-common_along : (ms : List ℕ) (x y : ℕ) → x ∣ y → is_common ms x ≡ true → is_common ms y ≡ true
+pub common_along : (ms : List ℕ) (x y : ℕ) → x ∣ y → is_common ms x ≡ true → is_common ms y ≡ true
 common_along [] x y d h = refl
 common_along (m ∷ ms) x y d h =
     let (e, r) = common_first m ms x h in common_cons m ms y (dvd_trans m e d) (common_along ms x y d r)

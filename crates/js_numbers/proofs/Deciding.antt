@@ -10,7 +10,7 @@ pub lcm_of_positive : (ms : List ℕ) → 0 < lcm_of ms
 unfolding lcm_of
 lcm_of_positive ms = zero-lt-suc _
 
-step : (limit : ℕ) (g : Group) (b : Bool) → is_crossed g.low g.high ≡ b
+pub step : (limit : ℕ) (g : Group) (b : Bool) → is_crossed g.low g.high ≡ b
     → outcome limit g ≡ (if b then Empty else answer_in limit g g.sets)
 unfolding outcome
 step limit g b e = ap (λ t. if t then Empty else answer_in limit g g.sets) e

@@ -5,3 +5,5 @@ pub mod Sizes
 pub mod Finding
 pub mod Searching
 pub mod Deciding
+pub mod PlaceLaws
+pub mod AnswerLaws

@@ -100,11 +100,14 @@ pub reached-Some : (m : ℕ) (g : Group) (k : ℕ) (x : ℤ) (b : Bool) → size
 unfolding reached
 reached-Some m g k x b e h = in_reach-Some g.high (place m g.low g.high k) x b e h
 
-above_low : (m : ℕ) (low : ℤ) (k : ℕ) → low ≤ℤ multiple_from m low k
+pub above_low : (m : ℕ) (low : ℤ) (k : ℕ) → low ≤ℤ multiple_from m low k
 above_low m low k = omega (arith, ints, int_rem_euclid-nonnegative (neg_ℤ low) (pos m))
 
 pub le_true : (a b : ℤ) → a ≤ℤ b → int_le a b ≡ true
 le_true a b h = grind (arith, ints)
+
+pub le_from : (a b : ℤ) → int_le a b ≡ true → a ≤ℤ b
+le_from a b h = grind (arith, ints)
 
 pub le_false : (a b : ℤ) → b <ℤ a → int_le a b ≡ false
 le_false a b h = grind (arith, ints)

@@ -4,6 +4,7 @@ ghost use Rattle.std.specs.Prelude.{◌≡◌, ◌%◌, ◌==◌, true};
 ghost use Rattle.std.specs.List.{find, list_any};
 ghost use Rattle.js_numbers.specs.Multiples.{lcm_of};
 ghost use Rattle.js_numbers.specs.Group.{group_of, is_ready, is_met};
+ghost use Rattle.js_numbers.specs.Correct.{IsRight};
 ghost use Rattle.js_numbers.specs.Outcome.{answer_of_multiples, found, outcome};
 
 use crate::candidates::{MOST_STRUCK, search};
@@ -13,7 +14,8 @@ use crate::group::{Cases, NumGroup};
 /// The first number that meets the group, or that there is none, or which limit was passed on the way.
 pub fn decide(group: &NumGroup) -> Cases
     requires { is_ready (group_of group.now) ≡ true }
-    ensures { result ≡ outcome MOST_STRUCK (group_of group.now) }
+    ensures answer { result ≡ outcome MOST_STRUCK (group_of group.now) }
+    ensures right { IsRight MOST_STRUCK (group_of group.now) result }
 {
     if group.is_crossed() {
         return Cases::Empty;
