@@ -252,3 +252,12 @@ is_right limit g answer r e =
       places = are_places (lcm_of g.multiples) g l.positive;
       divisors = strikes_all (lcm_of g.multiples) g.not_multiples;
     }
+
+pub reached_Ok : (m : ℕ) (g : Group) (k : ℕ) (x : ℤ) → reached m g k ≡ Ok x → IsTried m g k × (place m g.low g.high k ≡ x)
+reached_Ok m g k x e = elim (reach m g k) [
+  | inl w ↦ let wrong : Ok x ≡ Err Empty = sym e ∙ w.1 in cc
+  | inr v ↦ elim v [
+    | inl w ↦ let wrong : Ok x ≡ Err LimitMultiples = sym e ∙ w.1 in cc
+    | inr w ↦ let same : Ok (place m g.low g.high k) ≡ Ok x = sym w.1 ∙ e in (w.0, cc)
+  ]
+]

@@ -7,3 +7,4 @@ pub mod Searching
 pub mod Deciding
 pub mod PlaceLaws
 pub mod AnswerLaws
+pub mod MarkLaws

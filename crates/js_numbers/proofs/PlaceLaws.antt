@@ -87,12 +87,12 @@ divides_alternate m k = go (k % 2 == 0)
     go true = subst (λ z. m ∣ z) (sym (abs_neg (pos (k / 2 * m)))) (dvd-mul_left m (k / 2))
     go false = dvd-mul_left m (k / 2 + 1)
 
-alternate_even : (m r : ℕ) → alternate m (2 * r) ≡ neg_ℤ (pos (r * m))
+pub alternate_even : (m r : ℕ) → alternate m (2 * r) ≡ neg_ℤ (pos (r * m))
 alternate_even m r =
     ap (λ t. if t then neg_ℤ (pos (2 * r / 2 * m)) else pos ((2 * r / 2 + 1) * m)) (eq-eqb (2 * r % 2) 0 (omega arith))
     ∙ (let half : 2 * r / 2 ≡ r = omega arith in ap (λ q. neg_ℤ (pos (q * m))) half)
 
-alternate_odd : (m r : ℕ) → alternate m (2 * r + 1) ≡ pos ((r + 1) * m)
+pub alternate_odd : (m r : ℕ) → alternate m (2 * r + 1) ≡ pos ((r + 1) * m)
 alternate_odd m r =
     ap (λ t. if t then neg_ℤ (pos ((2 * r + 1) / 2 * m)) else pos (((2 * r + 1) / 2 + 1) * m)) (ne_eqb ((2 * r + 1) % 2) 0 (λ e. omega arith))
     ∙ (let half : (2 * r + 1) / 2 ≡ r = omega arith in ap (λ q. pos ((q + 1) * m)) half)

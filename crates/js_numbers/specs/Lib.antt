@@ -4,3 +4,4 @@ pub mod Correct
 pub mod Group
 pub mod Outcome
 pub mod Multiples
+pub mod Marking

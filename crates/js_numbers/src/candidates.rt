@@ -2,16 +2,20 @@
 //!
 //! A candidate is compared with 2^127-1 before it is made, so no step overflows.
 
-ghost use Rattle.std.specs.Prelude.{◌≡◌, ◌<◌, ◌≤◌, ◌^◌, true, unsigned_abs, pos, neg_ℤ};
+ghost use Rattle.std.specs.Prelude.{◌≡◌, ◌<◌, ◌≤◌, ◌^◌, true, ◌||◌, length, unsigned_abs, pos, neg_ℤ};
 ghost use Rattle.std.specs.Int.{int_rem_euclid};
-ghost use Rattle.js_numbers.specs.Group.{group_of, is_ready};
+ghost use Rattle.std.specs.List.{list_any};
+ghost use Rattle.js_numbers.specs.Multiples.{is_multiple};
+ghost use Rattle.js_numbers.specs.Group.{group_of, has, is_ready};
 ghost use Rattle.js_numbers.specs.Outcome.{sized, multiple_from, alternate, place, after_last, reached, answer_among};
+ghost use Rattle.js_numbers.specs.Marking.{Marks};
 
 use crate::group::{Cases, NumGroup};
-use crate::number::is_below;
+use crate::marks::mark_sets;
+use crate::number::{divides_any, is_below};
 
 /// As many candidates may be struck before the search gives up.
-pub const MOST_STRUCK: u32 = 65_536;
+pub const MOST_STRUCK: usize = 65_536;
 
 /// How far the first multiple of `m` that isn't below `low` is above it.
 fn gap(low: i128, m: u128) -> i128
@@ -23,18 +27,18 @@ fn gap(low: i128, m: u128) -> i128
 }
 
 /// The `k`-th multiple of `m` that isn't below `low`, counted from 0; `None` where it is over 2^127-1.
-fn multiple_from(low: i128, m: u128, k: u32) -> Option<i128>
+pub(crate) fn multiple_from(low: i128, m: u128, k: usize) -> Option<i128>
     requires near { unsigned_abs low ≤ 2 ^ 64 }
     requires step { (0 < m) × (m < 2 ^ 127) }
     ensures { result ≡ sized (multiple_from m low k) }
 {
     let first = low.checked_add(gap(low, m))?;
-    let past = u128::from(k).checked_mul(m)?;
+    let past = (k as u128).checked_mul(m)?;
     first.checked_add_unsigned(past)
 }
 
 /// The `k`-th multiple of `m` that isn't above `high`, counted downwards; `None` where its size is over 2^127-1.
-fn multiple_down(high: i128, m: u128, k: u32) -> Option<i128>
+pub(crate) fn multiple_down(high: i128, m: u128, k: usize) -> Option<i128>
     requires near { unsigned_abs high ≤ 2 ^ 64 }
     requires step { (0 < m) × (m < 2 ^ 127) }
     ensures { result ≡ sized (neg_ℤ (multiple_from m (neg_ℤ high) k)) }
@@ -44,7 +48,7 @@ fn multiple_down(high: i128, m: u128, k: u32) -> Option<i128>
 }
 
 /// The `k`-th of 0, `m`, `-m`, `2m`, `-2m` and so on; `None` where its size is over 2^127-1.
-fn alternate(m: u128, k: u32) -> Option<i128>
+fn alternate(m: u128, k: usize) -> Option<i128>
     requires { (0 < m) × (m < 2 ^ 127) }
     ensures { result ≡ sized (alternate m k) }
 {
@@ -56,7 +60,7 @@ fn alternate(m: u128, k: u32) -> Option<i128>
 }
 
 /// The `k`-th candidate; `None` where its size is over 2^127-1.
-fn place(group: &NumGroup, m: u128, k: u32) -> Option<i128>
+fn place(group: &NumGroup, m: u128, k: usize) -> Option<i128>
     requires ready { is_ready (group_of group.now) ≡ true }
     requires step { (0 < m) × (m < 2 ^ 127) }
     ensures { result ≡ sized (place m group.now.lo group.now.hi k) }
@@ -79,7 +83,7 @@ fn after_last(low: Option<i128>, high: Option<i128>) -> Cases
 }
 
 /// The `k`-th candidate, or why there is none to try.
-fn reach(group: &NumGroup, m: u128, k: u32) -> Result<i128, Cases>
+fn reach(group: &NumGroup, m: u128, k: usize) -> Result<i128, Cases>
     requires ready { is_ready (group_of group.now) ≡ true }
     requires step { (0 < m) × (m < 2 ^ 127) }
     ensures { result ≡ reached m (group_of group.now) k }
@@ -91,10 +95,30 @@ fn reach(group: &NumGroup, m: u128, k: u32) -> Result<i128, Cases>
     }
 }
 
+/// Whether a set that is ruled out has `x`, or a divisor that is ruled out divides it.
+fn is_ruled_out(group: &NumGroup, is_listed: bool, x: i128) -> bool
+    ensures { result ≡ (list_any (λ m. is_multiple m x) group.now.not_multiples.now || is_listed) }
+{
+    is_listed || divides_any(group.not_multiples, x)
+}
+
 /// The answer among the multiples of `m`.
 pub(crate) fn search(group: &NumGroup, m: u128) -> Cases
     requires ready { is_ready (group_of group.now) ≡ true }
     requires step { (0 < m) × (m < 2 ^ 127) }
+    ensures { result ≡ answer_among MOST_STRUCK m (group_of group.now) }
+{
+    let mut listed = [false; MOST_STRUCK];
+    mark_sets(group, m, &mut listed);
+    search_unlisted(group, m, &listed)
+}
+
+/// The answer among the multiples of `m`, where the candidates are marked that a set that is ruled out has.
+fn search_unlisted(group: &NumGroup, m: u128, listed: &[bool]) -> Cases
+    requires ready { is_ready (group_of group.now) ≡ true }
+    requires step { (0 < m) × (m < 2 ^ 127) }
+    requires size { length listed.now ≡ MOST_STRUCK }
+    requires marks { Marks MOST_STRUCK (λ k. place m group.now.lo group.now.hi k) (λ x. list_any (λ s. has s x) group.now.not_sets.now) listed.now }
     ensures { result ≡ answer_among MOST_STRUCK m (group_of group.now) }
 {
     for k in 0..MOST_STRUCK {
@@ -102,7 +126,7 @@ pub(crate) fn search(group: &NumGroup, m: u128) -> Cases
             Ok(x) => x,
             Err(why) => return why,
         };
-        if !group.is_struck(x) {
+        if !is_ruled_out(group, listed[k], x) {
             return Cases::Found(x);
         }
     }

@@ -8,6 +8,7 @@ mod candidates;
 mod decision;
 mod factors;
 mod group;
+mod marks;
 mod number;
 
 pub use candidates::MOST_STRUCK;

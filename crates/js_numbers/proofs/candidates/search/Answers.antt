@@ -1,33 +1,11 @@
-use Rattle.std.proofs.Common.{◌∙◌, Ok, ap, sym, to_z-of_z, FitsSigned, rules, arith}
-use Rattle.std.specs.Int.{w128}
+use Rattle.std.specs.List.{list_any}
 use Rattle.js_numbers.specs.declared.candidates.TheConstants.{MOST_STRUCK}
-use Rattle.js_numbers.specs.Group.{group_of}
-use Rattle.js_numbers.proofs.Searching.{StruckBefore, answer_among-Err, answer_among-Ok, answer_among-limit_Ok, answer_among-limit_Err}
+use Rattle.js_numbers.specs.Group.{has}
+use Rattle.js_numbers.specs.Outcome.{place}
+use Rattle.js_numbers.proofs.MarkLaws.{Marks-from_none}
 use Rattle.js_numbers.proofs.candidates.search.Goals as goal
-use Rattle.js_numbers.proofs.candidates.search.Goals.{After-loop-k}
 
-pub returns-in-Err : goal.returns-in-Err
-returns-in-Err c =
-    sym (answer_among-Err MOST_STRUCK c.args.m (group_of c.args.group.now) c.loop-k.k c.in-Err.why c.loop-k-test.true
-    c.loop-k.invariant (sym c.reach.ensures ∙ c.in-Err.is))
-
-pub returns-then-not-is_struck : goal.returns-then-not-is_struck
-returns-then-not-is_struck c =
-    let fits : FitsSigned w128 c.in-Ok.x = search rules in
-    let here = sym c.reach.ensures ∙ c.in-Ok.is ∙ ap Ok (sym (to_z-of_z fits)) in
-    sym (answer_among-Ok MOST_STRUCK c.args.m (group_of c.args.group.now) c.loop-k.k _ c.loop-k-test.true
-    c.loop-k.invariant here (sym c.is_struck.ensures ∙ c.if-not-is_struck.true))
-
--- all of them are struck where the loop ends
-all_struck : (c : After-loop-k) → StruckBefore c.args.m (group_of c.args.group.now) MOST_STRUCK
-all_struck c j l = c.loop-k.invariant j (omega arith)
-
-pub returns-in-Ok-reach : goal.returns-in-Ok-reach
-returns-in-Ok-reach c =
-    sym (answer_among-limit_Ok MOST_STRUCK c.args.m (group_of c.args.group.now) c.in-Ok-reach.field-0
-    (all_struck (goal.at.returns-in-Ok-reach c).After-loop-k) (sym c.reach-2.ensures ∙ c.in-Ok-reach.is))
-
-pub returns-in-Err-reach : goal.returns-in-Err-reach
-returns-in-Err-reach c =
-    sym (answer_among-limit_Err MOST_STRUCK c.args.m (group_of c.args.group.now) c.in-Err-reach.why
-    (all_struck (goal.at.returns-in-Err-reach c).After-loop-k) (sym c.reach-2.ensures ∙ c.in-Err-reach.is))
+pub search_unlisted-requires-clause-marks : goal.search_unlisted-requires-clause-marks
+search_unlisted-requires-clause-marks c =
+    Marks-from_none MOST_STRUCK (λ k. place c.args.m c.args.group.now.lo c.args.group.now.hi k)
+    (λ x. list_any (λ s. has s x) c.args.group.now.not_sets.now) c.mark_sets.new.listed c.mark_sets.ensures
