@@ -1,5 +1,5 @@
 -- Which candidates a list of values has, by their numbers.
-use Rattle.std.specs.Prelude.{◌≡◌, ℕ, ◌<◌, ◌==◌, List, get_or, Bool, true, false, ◌||◌, Option, Some, None, ℤ}
+use Rattle.std.specs.Prelude.{◌≡◌, ℕ, ◌<◌, ◌==◌, List, get_or, Bool, false, ◌||◌, Option, Some, None, ℤ}
 use Rattle.std.specs.Ordering.{int_eq}
 use Rattle.js_numbers.specs.Outcome.{is_over}
 

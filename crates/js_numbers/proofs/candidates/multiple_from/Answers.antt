@@ -1,4 +1,4 @@
-use Rattle.std.proofs.Common.{arith, ◌≡◌, ◌+ℤ◌, ◌*◌, ap, ◌∙◌, to_z, of_z, to_z-of_z}
+use Rattle.std.proofs.Common.{arith, ◌≡◌, ◌+ℤ◌, ◌*◌, to_z, of_z, to_z-of_z}
 use Rattle.std.specs.Int.{w128}
 use Rattle.std.proofs.lemmas.Int.{ints}
 use Rattle.js_numbers.proofs.Sizes.{multiple_reached}

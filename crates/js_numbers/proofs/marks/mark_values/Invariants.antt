@@ -1,4 +1,4 @@
-use Rattle.std.proofs.Common.{◌≡◌, take, length}
+use Rattle.std.proofs.Common.{take}
 use Rattle.js_numbers.specs.declared.candidates.TheConstants.{MOST_STRUCK}
 use Rattle.js_numbers.specs.Group.{has}
 use Rattle.js_numbers.specs.Outcome.{place}

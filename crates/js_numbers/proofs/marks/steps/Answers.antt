@@ -1,4 +1,4 @@
-use Rattle.std.proofs.Common.{◌≡◌, ◌≤◌, ◌%◌, ◌/◌, arith}
+use Rattle.std.proofs.Common.{arith}
 use Rattle.js_numbers.specs.declared.candidates.TheConstants.{MOST_STRUCK}
 use Rattle.js_numbers.proofs.MarkLaws.{steps_found, steps_none}
 use Rattle.js_numbers.proofs.marks.steps.Goals as goal
