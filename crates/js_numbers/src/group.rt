@@ -8,6 +8,7 @@ use crate::number::{all_have, any_has, divides_all, divides_any, is_above, is_be
 use js_doc::NumList;
 
 /// Bounds, divisors and sets that a whole number must have, and divisors and sets that it must not have.
+#[derive(Clone, Copy)]
 pub struct NumGroup<'a> {
     pub lo: Option<i128>,
     pub hi: Option<i128>,
