@@ -25,10 +25,15 @@ mul_mod (suc c) a b =
 -- there is a greatest common divisor, and a common factor comes out of it
 gcd_with_factor : (n a b : ℕ) → b < n → (g : ℕ) × IsGcd a b g × ((c : ℕ) → IsGcd (c * a) (c * b) (c * g))
 gcd_with_factor zero a b l = absurd (omega arith)
-gcd_with_factor (suc n) a zero l = (a, IsGcd-from_zero a zero refl, λ c. IsGcd-from_zero (c * a) (c * zero) (omega arith))
+gcd_with_factor (suc n) a zero l =
+    (a, IsGcd-from_zero a zero refl, λ c. IsGcd-from_zero (c * a) (c * zero) (omega arith))
 gcd_with_factor (suc n) a (suc b) l =
-    let (g, h, s) = gcd_with_factor n (suc b) (a % suc b) (omega arith) in
-    (g, IsGcd-from_mod a (suc b) g h, λ c. IsGcd-from_mod (c * a) (c * suc b) (c * g) (rw (mul_mod c a (suc b)) (s c)))
+    let (g, h, s) = gcd_with_factor n (suc b) (a % suc b) (omega arith) in (
+      g,
+      IsGcd-from_mod a (suc b) g h,
+      λ c. IsGcd-from_mod (c * a) (c * suc b) (c * g)
+          (rw (mul_mod c a (suc b)) (s c)),
+    )
 
 IsGcd-factor : (a b g c : ℕ) → IsGcd a b g → IsGcd (c * a) (c * b) (c * g)
 IsGcd-factor a b g c h =
@@ -38,7 +43,8 @@ IsGcd-factor a b g c h =
 IsLcm-from_product : (a b g l : ℕ) → 0 < g → IsGcd a b g → l * g ≡ a * b → IsLcm a b l
 IsLcm-from_product a b g l p h e = record {
   first = dvd_of_mul-dvd-mul_right a p (subst (λ z. a * g ∣ z) (sym e) (mul-dvd-mul_left g a h.1));
-  second = dvd_of_mul-dvd-mul_right b p (subst (λ z. b * g ∣ z) (mul_comm b a ∙ sym e) (mul-dvd-mul_left g b h.0));
+  second =
+      dvd_of_mul-dvd-mul_right b p (subst (λ z. b * g ∣ z) (mul_comm b a ∙ sym e) (mul-dvd-mul_left g b h.0));
   least = λ x i j.
       let s = IsGcd-factor a b g x h in
       let u : l * g ∣ x * a = subst (λ z. z ∣ x * a) (mul_comm b a ∙ sym e) (mul-dvd-mul_right b j a) in
@@ -108,29 +114,38 @@ product_common (m ∷ ms) =
     (common_along ms (product_of ms) (m * product_of ms) (dvd-mul_left (product_of ms) m) (product_common ms))
 
 -- the definition by search has the meaning by divisors
-least_common : (ms : List ℕ) (l : ℕ) → list_all (λ m. nat_lt 0 m) ms ≡ true → IsLcmOf ms (suc l) → lcm_of ms ≡ suc l
+least_common : (ms : List ℕ) (l : ℕ) → list_all (λ m. nat_lt 0 m) ms ≡ true → IsLcmOf ms (suc l)
+    → lcm_of ms ≡ suc l
 unfolding lcm_of
 least_common ms l p h =
-    let within : suc l ≤ product_of ms = le_of_dvd (product_positive ms p) (h.least (product_of ms) (product_common ms)) in
-    ap suc (least_below-at (λ k. is_common ms (suc k)) (product_of ms) l (omega arith) h.common (λ j below. go j below (is_common ms (suc j)) refl))
+    let within : suc l ≤ product_of ms = le_of_dvd (product_positive ms p)
+    (h.least (product_of ms) (product_common ms)) in
+    ap suc (least_below-at (λ k. is_common ms (suc k)) (product_of ms) l (omega arith) h.common
+    (λ j below. go j below (is_common ms (suc j)) refl))
   where
     go : (j : ℕ) → j < l → (b : Bool) → is_common ms (suc j) ≡ b → is_common ms (suc j) ≡ false
     go j below false e = e
-    go j below true e = let d : suc l ≤ suc j = le_of_dvd (omega arith) (h.least (suc j) e) in absurd (omega arith)
+    go j below true e = let d : suc l ≤ suc j = le_of_dvd (omega arith) (h.least (suc j) e) in
+        absurd (omega arith)
 
-pub lcm_of-unique : (ms : List ℕ) (l : ℕ) → list_all (λ m. nat_lt 0 m) ms ≡ true → IsLcmOf ms l → lcm_of ms ≡ l
+pub lcm_of-unique : (ms : List ℕ) (l : ℕ) → list_all (λ m. nat_lt 0 m) ms ≡ true → IsLcmOf ms l
+    → lcm_of ms ≡ l
 lcm_of-unique ms zero p h = absurd (omega (arith, h.positive))
 lcm_of-unique ms (suc l) p h = least_common ms l p h
 
 -- the least common multiple is one
 pub IsLcmOf-lcm_of : (ms : List ℕ) → list_all (λ m. nat_lt 0 m) ms ≡ true → IsLcmOf ms (lcm_of ms)
-IsLcmOf-lcm_of ms p = let (l, h) = some_lcm_of ms p in subst (λ z. IsLcmOf ms z) (sym (lcm_of-unique ms l p h)) h
+IsLcmOf-lcm_of ms p = let (l, h) = some_lcm_of ms p in subst (λ z. IsLcmOf ms z)
+    (sym (lcm_of-unique ms l p h)) h
 
-positive_cons : (m : ℕ) (ms : List ℕ) → 0 < m → list_all (λ n. nat_lt 0 n) ms ≡ true → list_all (λ n. nat_lt 0 n) (m ∷ ms) ≡ true
+positive_cons : (m : ℕ) (ms : List ℕ) → 0 < m → list_all (λ n. nat_lt 0 n) ms ≡ true
+    → list_all (λ n. nat_lt 0 n) (m ∷ ms) ≡ true
 positive_cons m ms p h = and_from _ _ (lt-ltb 0 m p) h
 
 IsLcmOf-one : (m : ℕ) → 0 < m → IsLcmOf (m ∷ []) m
-IsLcmOf-one m p = IsLcmOf-cons m [] 1 m p IsLcmOf-nil (record { first = dvd_refl m; second = one-dvd m; least = λ x i j. i })
+IsLcmOf-one m p =
+    IsLcmOf-cons m [] 1 m p IsLcmOf-nil
+    (record { first = dvd_refl m; second = one-dvd m; least = λ x i j. i })
 
 pub lcm_of-pair : (a b l : ℕ) → 0 < a → 0 < b → IsLcm a b l → lcm_of (a ∷ b ∷ []) ≡ l
 lcm_of-pair a b l p q h =
@@ -139,7 +154,8 @@ lcm_of-pair a b l p q h =
 
 common_append : (ms ns : List ℕ) (x : ℕ) → is_common (ms ++ ns) x ≡ (is_common ms x && is_common ns x)
 common_append [] ns x = refl
-common_append (m ∷ ms) ns x = ap (λ t. (x % m == 0) && t) (common_append ms ns x) ∙ sym (and_assoc (x % m == 0) _ _)
+common_append (m ∷ ms) ns x = ap (λ t. (x % m == 0) && t) (common_append ms ns x)
+    ∙ sym (and_assoc (x % m == 0) _ _)
   where
     and_assoc : (a b c : Bool) → ((a && b) && c) ≡ (a && (b && c))
     and_assoc true b c = refl
@@ -163,20 +179,27 @@ lcm_of-front ms ns l k h i =
     le_of_dvd i.positive (h.least k a)
 
 pub IsLcm-lcm_of : (a b : ℕ) → 0 < a → 0 < b → IsLcm a b (lcm_of (a ∷ b ∷ []))
-IsLcm-lcm_of a b p q = let (l, h) = some_lcm a b p in subst (λ z. IsLcm a b z) (sym (lcm_of-pair a b l p q h)) h
+IsLcm-lcm_of a b p q = let (l, h) = some_lcm a b p in subst (λ z. IsLcm a b z)
+    (sym (lcm_of-pair a b l p q h)) h
 
 -- ---- the loop over a list
 
-pub positive_at : (ms : List ℕ) (i : ℕ) → list_all (λ m. nat_lt 0 m) ms ≡ true → i < length ms → 0 < get_or ms i 0
-positive_at ms i p l = ltb-true 0 (get_or ms i 0) (and_at (λ ns. list_all (λ m. nat_lt 0 m) ns) (λ m. nat_lt 0 m) refl (λ _ _. refl) ms i 0 l p)
+pub positive_at : (ms : List ℕ) (i : ℕ) → list_all (λ m. nat_lt 0 m) ms ≡ true → i < length ms
+    → 0 < get_or ms i 0
+positive_at ms i p l =
+    ltb-true 0 (get_or ms i 0)
+    (and_at (λ ns. list_all (λ m. nat_lt 0 m) ns) (λ m. nat_lt 0 m) refl (λ _ _. refl) ms i 0 l p)
 
-pub IsLcmOf-take_more : (ms : List ℕ) (i m l k : ℕ) → list_all (λ n. nat_lt 0 n) ms ≡ true → i < length ms → m ≡ get_or ms i 0
+pub IsLcmOf-take_more : (ms : List ℕ) (i m l k : ℕ) → list_all (λ n. nat_lt 0 n) ms ≡ true → i < length ms
+    → m ≡ get_or ms i 0
     → IsLcmOf (take i ms) l → IsLcm l m k → IsLcmOf (take (i + 1) ms) k
 IsLcmOf-take_more ms i m l k p b e h j =
     let q : 0 < m = subst (λ z. 0 < z) (sym e) (positive_at ms i p b) in
-    subst (λ ns. IsLcmOf ns k) (ap (λ z. take i ms ++ z ∷ []) e ∙ sym (take_more ms i 0 b)) (IsLcmOf-push (take i ms) m l k q h j)
+    subst (λ ns. IsLcmOf ns k) (ap (λ z. take i ms ++ z ∷ []) e ∙ sym (take_more ms i 0 b))
+    (IsLcmOf-push (take i ms) m l k q h j)
 
-pub lcm_of-take_le : (ms : List ℕ) (i k : ℕ) → list_all (λ n. nat_lt 0 n) ms ≡ true → IsLcmOf (take i ms) k → k ≤ lcm_of ms
+pub lcm_of-take_le : (ms : List ℕ) (i k : ℕ) → list_all (λ n. nat_lt 0 n) ms ≡ true → IsLcmOf (take i ms) k
+    → k ≤ lcm_of ms
 lcm_of-take_le ms i k p h =
     lcm_of-front (take i ms) (drop i ms) k (lcm_of ms) h
     (subst (λ ns. IsLcmOf ns (lcm_of ms)) (sym (take-append-drop i ms)) (IsLcmOf-lcm_of ms p))

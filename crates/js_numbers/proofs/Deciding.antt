@@ -23,11 +23,13 @@ in_first : (limit : ℕ) (g : Group) (ss : List (List ℤ)) (s : List ℤ) → 1
 in_first limit g [] s l e = absurd (omega arith)
 in_first limit g (r ∷ rs) s l e = ap (λ z. found (find (is_met g) z)) (sym e)
 
-pub outcome-sets : (limit : ℕ) (g : Group) (s : List ℤ) → is_crossed g.low g.high ≡ false → 1 ≤ length g.sets → s ≡ get_or g.sets 0 s
+pub outcome-sets : (limit : ℕ) (g : Group) (s : List ℤ) → is_crossed g.low g.high ≡ false → 1 ≤ length g.sets
+    → s ≡ get_or g.sets 0 s
     → outcome limit g ≡ found (find (is_met g) s)
 outcome-sets limit g s e l h = step limit g false e ∙ in_first limit g g.sets s l h
 
-without_sets : (limit : ℕ) (g : Group) (ss : List (List ℤ)) → length ss < 1 → answer_in limit g ss ≡ answer_of_multiples limit (lcm_of g.multiples) g
+without_sets : (limit : ℕ) (g : Group) (ss : List (List ℤ)) → length ss < 1
+    → answer_in limit g ss ≡ answer_of_multiples limit (lcm_of g.multiples) g
 without_sets limit g [] l = refl
 without_sets limit g (r ∷ rs) l = absurd (omega arith)
 

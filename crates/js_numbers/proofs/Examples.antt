@@ -6,7 +6,8 @@ use Rattle.js_numbers.specs.Group.{Group}
 use Rattle.js_numbers.specs.Outcome.{multiple_from, alternate, reached, outcome, answer_of_multiples}
 
 bounded : Option ℤ → Option ℤ → List ℕ → List ℕ → Group
-bounded low high ms bs = record { low = low; high = high; multiples = ms; not_multiples = bs; sets = []; not_sets = [] }
+bounded low high ms bs =
+    record { low = low; high = high; multiples = ms; not_multiples = bs; sets = []; not_sets = [] }
 
 listed : List ℤ → Group
 listed s = record (bounded (Some (pos 2)) None (3 ∷ []) (4 ∷ [])) { sets = s ∷ [] }
@@ -71,6 +72,7 @@ first_alternating : alternate 5 0 ∷ alternate 5 1 ∷ alternate 5 2 ∷ altern
     ≡ pos 0 ∷ pos 5 ∷ negsuc 4 ∷ pos 10 ∷ negsuc 9 ∷ []
 first_alternating = refl
 
-first_upwards : multiple_from 5 (negsuc 6) 0 ∷ multiple_from 5 (negsuc 6) 1 ∷ multiple_from 5 (pos 1) 0 ∷ multiple_from 5 (pos 5) 0 ∷ []
+first_upwards : multiple_from 5 (negsuc 6) 0 ∷ multiple_from 5 (negsuc 6) 1 ∷ multiple_from 5
+    (pos 1) 0 ∷ multiple_from 5 (pos 5) 0 ∷ []
     ≡ negsuc 4 ∷ pos 0 ∷ pos 5 ∷ pos 5 ∷ []
 first_upwards = refl

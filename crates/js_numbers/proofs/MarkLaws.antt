@@ -10,9 +10,9 @@ use Rattle.std.proofs.Math.Nat.{mul-mod_left, mul-div_cancel, div-mul_cancel}
 use Rattle.std.proofs.lemmas.List.{get_or-replicate}
 use Rattle.js_numbers.specs.Multiples.{is_multiple}
 use Rattle.js_numbers.specs.Group.{Group, has, is_struck}
-use Rattle.js_numbers.specs.Outcome.{multiple_from, place, reached}
+use Rattle.js_numbers.specs.Outcome.{multiple_from, candidate, reached}
 use Rattle.js_numbers.proofs.AnswerLaws.{reached_Ok}
-use Rattle.js_numbers.specs.Marking.{AreMarked, Marks}
+use Rattle.js_numbers.specs.Marking.{AddsMarks, AreMarked}
 
 same_bool : (a b : Bool) → (a ≡ true → b ≡ true) → (b ≡ true → a ≡ true) → a ≡ b
 same_bool true b f g = sym (f refl)
@@ -36,7 +36,8 @@ cancel a b m p e = sym (mul-div_cancel a p) ∙ ap (λ z. z / m) e ∙ mul-div_c
 
 pub steps_found : (d m k : ℕ) → 0 < m → d % m ≡ 0 → (d / m == k) ≡ (k * m == d)
 steps_found d m k p e = same_bool (d / m == k) (k * m == d)
-    (λ h. let f = eqb-true (d / m) k h in eq-eqb (k * m) d (ap (λ z. z * m) (sym f) ∙ div-mul_cancel m (dvd_of_mod-eq-zero m e)))
+    (λ h. let f = eqb-true (d / m) k h in eq-eqb (k * m) d
+    (ap (λ z. z * m) (sym f) ∙ div-mul_cancel m (dvd_of_mod-eq-zero m e)))
     (λ h. let f = eqb-true (k * m) d h in eq-eqb (d / m) k (ap (λ z. z / m) (sym f) ∙ mul-div_cancel k p))
 
 pub steps_none : (d m k limit : ℕ) → 0 < m → (d % m ≡ 0 → limit ≤ d / m) → k < limit → false ≡ (k * m == d)
@@ -48,29 +49,33 @@ steps_none d m k limit p none l = false_unless (k * m == d) (λ h.
 
 -- ---- upwards and downwards
 
-pub index_up_found : (m : ℕ) (low x first : ℤ) (k d : ℕ) → multiple_from m low 0 ≡ first → first ≤ℤ x → d ≡ unsigned_abs (x -ℤ first)
+pub index_up_found : (m : ℕ) (low x first : ℤ) (k d : ℕ) → multiple_from m low 0 ≡ first → first ≤ℤ x
+    → d ≡ unsigned_abs (x -ℤ first)
     → (k * m == d) ≡ int_eq x (multiple_from m low k)
 index_up_found m low x first k d e l f = same_bool (k * m == d) (int_eq x (multiple_from m low k))
     (λ h. let g = eqb-true (k * m) d h in to_int_eq x (multiple_from m low k) (omega (arith, ints, e, f, g)))
     (λ h. let g = int_eq_from x (multiple_from m low k) h in eq-eqb (k * m) d (omega (arith, ints, e, f, g)))
 
-pub index_down_found : (m : ℕ) (low x last : ℤ) (k d : ℕ) → neg_ℤ (multiple_from m low 0) ≡ last → x ≤ℤ last → d ≡ unsigned_abs (last -ℤ x)
+pub index_down_found : (m : ℕ) (low x last : ℤ) (k d : ℕ) → neg_ℤ (multiple_from m low 0) ≡ last → x ≤ℤ last
+    → d ≡ unsigned_abs (last -ℤ x)
     → (k * m == d) ≡ int_eq x (neg_ℤ (multiple_from m low k))
 index_down_found m low x last k d e l f = same_bool (k * m == d) (int_eq x (neg_ℤ (multiple_from m low k)))
-    (λ h. let g = eqb-true (k * m) d h in to_int_eq x (neg_ℤ (multiple_from m low k)) (omega (arith, ints, e, f, g)))
-    (λ h. let g = int_eq_from x (neg_ℤ (multiple_from m low k)) h in eq-eqb (k * m) d (omega (arith, ints, e, f, g)))
+    (λ h. let g = eqb-true (k * m) d h in to_int_eq x (neg_ℤ (multiple_from m low k))
+    (omega (arith, ints, e, f, g)))
+    (λ h. let g = int_eq_from x (neg_ℤ (multiple_from m low k)) h in
+    eq-eqb (k * m) d (omega (arith, ints, e, f, g)))
 
 -- ---- marks
 
 -- marks that stood nowhere before
-pub Marks-from_none : (limit : ℕ) (candidate : ℕ → ℤ) (test : ℤ → Bool) (new : List Bool)
-    → AreMarked limit candidate test (replicate limit false) new → Marks limit candidate test new
-Marks-from_none limit candidate test new h = λ k l small.
+pub AreMarked-from_none : (limit : ℕ) (candidate : ℕ → ℤ) (test : ℤ → Bool) (new : List Bool)
+    → AddsMarks limit candidate test (replicate limit false) new → AreMarked limit candidate test new
+AreMarked-from_none limit candidate test new h = λ k l small.
     h k l small ∙ ap (λ b. b || test (candidate k)) (get_or-replicate limit k false false l)
 
 -- what the marks and the divisors say of a candidate that is tried
 pub struck_from_marks : (limit m : ℕ) (g : Group) (k : ℕ) (x : ℤ) (marks : List Bool) (r : Bool)
-    → Marks limit (λ i. place m g.low g.high i) (λ y. list_any (λ s. has s y) g.not_sets) marks
+    → AreMarked limit (candidate m g) (λ y. list_any (λ s. has s y) g.not_sets) marks
     → k < limit → reached m g k ≡ Ok x
     → r ≡ (list_any (λ d. is_multiple d x) g.not_multiples || get_or marks k false) → r ≡ is_struck g x
 struck_from_marks limit m g k x marks r marked l e h =

@@ -14,14 +14,17 @@ pub sized-large : (x : ℤ) → 2 ^ 127 ≤ unsigned_abs x → sized x ≡ None
 sized-large x l = rw (le-leb (2 ^ 127) (unsigned_abs x) l) refl
 
 -- what a checked step answers, where the result can't be too low
-pub sized_from_checked : (r : Option ℤ) (x : ℤ) → neg_ℤ (pos (2 ^ 127)) <ℤ x → SomeIff r (FitsSigned w128 x) x → r ≡ sized x
+pub sized_from_checked : (r : Option ℤ) (x : ℤ) → neg_ℤ (pos (2 ^ 127)) <ℤ x → SomeIff r (FitsSigned w128 x) x
+    → r ≡ sized x
 sized_from_checked None (pos n) b h = elim (cases_lt n (2 ^ 127)) [
   | inl l ↦ absurd (h (record { sfits = l }))
   | inr l ↦ sym (sized-large (pos n) l)
 ]
-sized_from_checked None (negsuc n) b h = let l : n < 2 ^ 127 = omega (arith, ints, b) in absurd (h (record { sfits = l }))
+sized_from_checked None (negsuc n) b h = let l : n < 2 ^ 127 =
+    omega (arith, ints, b) in absurd (h (record { sfits = l }))
 sized_from_checked (Some y) (pos n) b h = ap Some h.1 ∙ sym (sized-small (pos n) h.0.sfits)
-sized_from_checked (Some y) (negsuc n) b h = ap Some h.1 ∙ sym (sized-small (negsuc n) (omega (arith, ints, b)))
+sized_from_checked (Some y) (negsuc n) b h = ap Some h.1
+    ∙ sym (sized-small (negsuc n) (omega (arith, ints, b)))
 
 pub int_rem_euclid-nonnegative : (z d : ℤ) → pos 0 ≤ℤ int_rem_euclid z d
 int_rem_euclid-nonnegative (pos n) d = omega (arith, ints)
@@ -43,9 +46,11 @@ pub multiple_reached : (r : Option ℤ) (x low gap : ℤ) (k m past : ℕ) → u
     → gap ≡ int_rem_euclid (neg_ℤ low) (pos m) → x ≡ low +ℤ gap → past ≡ k * m
     → SomeIff r (FitsSigned w128 (x +ℤ pos past)) (x +ℤ pos past) → r ≡ sized (multiple_from m low k)
 multiple_reached r x low gap k m past near g e p h =
-    let same : x +ℤ pos past ≡ multiple_from m low k = ap (λ z. z +ℤ pos past) (e ∙ ap (λ z. low +ℤ z) g) ∙ ap (λ n. low +ℤ int_rem_euclid (neg_ℤ low) (pos m) +ℤ pos n) p in
+    let same : x +ℤ pos past ≡ multiple_from m low k = ap (λ z. z +ℤ pos past) (e ∙ ap (λ z. low +ℤ z) g)
+    ∙ ap (λ n. low +ℤ int_rem_euclid (neg_ℤ low) (pos m) +ℤ pos n) p in
     let n : pos 0 ≤ℤ int_rem_euclid (neg_ℤ low) (pos m) = int_rem_euclid-nonnegative (neg_ℤ low) (pos m) in
-    sized_from_checked r (multiple_from m low k) (omega (arith, ints)) (subst (λ z. SomeIff r (FitsSigned w128 z) z) same h)
+    sized_from_checked r (multiple_from m low k) (omega (arith, ints))
+    (subst (λ z. SomeIff r (FitsSigned w128 z) z) same h)
 
 pub sized-Some : (x y : ℤ) → sized x ≡ Some y → (x ≡ y) × (unsigned_abs x < 2 ^ 127)
 sized-Some x y e = elim (cases_lt (unsigned_abs x) (2 ^ 127)) [
@@ -76,13 +81,16 @@ sized_neg_none x e = sized-large (neg_ℤ x) (omega (arith, abs-neg x, sized-Non
 
 pub opposite_is : (y x high : ℤ) (m k : ℕ) → x ≡ neg_ℤ high → sized (multiple_from m x k) ≡ Some y
     → sized (neg_ℤ (multiple_from m (neg_ℤ high) k)) ≡ Some (neg_ℤ y)
-opposite_is y x high m k e h = sized-neg (multiple_from m (neg_ℤ high) k) y (subst (λ z. sized (multiple_from m z k) ≡ Some y) e h)
+opposite_is y x high m k e h = sized-neg (multiple_from m (neg_ℤ high) k) y
+    (subst (λ z. sized (multiple_from m z k) ≡ Some y) e h)
 
 pub opposite_none : (x high : ℤ) (m k : ℕ) → x ≡ neg_ℤ high → sized (multiple_from m x k) ≡ None
     → sized (neg_ℤ (multiple_from m (neg_ℤ high) k)) ≡ None
-opposite_none x high m k e h = sized_neg_none (multiple_from m (neg_ℤ high) k) (subst (λ z. sized (multiple_from m z k) ≡ None) e h)
+opposite_none x high m k e h = sized_neg_none (multiple_from m (neg_ℤ high) k)
+    (subst (λ z. sized (multiple_from m z k) ≡ None) e h)
 
-in_reach_sized : (b : Bool) (p : ℤ) → unsigned_abs p < 2 ^ 127 → in_reach b p ≡ (if b then Ok p else Err Empty)
+in_reach_sized : (b : Bool) (p : ℤ) → unsigned_abs p < 2 ^ 127
+    → in_reach b p ≡ (if b then Ok p else Err Empty)
 in_reach_sized true p l = rw (lt-leb (2 ^ 127) (unsigned_abs p) l) refl
 in_reach_sized false p l = refl
 
@@ -95,7 +103,8 @@ in_reach-Some high p x b e h =
     ∙ ap (λ z. if is_below high z then Ok z else Err Empty) same
     ∙ ap (λ t. if t then Ok x else Err Empty) h
 
-pub reached-Some : (m : ℕ) (g : Group) (k : ℕ) (x : ℤ) (b : Bool) → sized (place m g.low g.high k) ≡ Some x → is_below g.high x ≡ b
+pub reached-Some : (m : ℕ) (g : Group) (k : ℕ) (x : ℤ) (b : Bool) → sized (place m g.low g.high k) ≡ Some x
+    → is_below g.high x ≡ b
     → reached m g k ≡ (if b then Ok x else Err Empty)
 unfolding reached
 reached-Some m g k x b e h = in_reach-Some g.high (place m g.low g.high k) x b e h
@@ -112,11 +121,13 @@ le_from a b h = grind (arith, ints)
 pub le_false : (a b : ℤ) → b <ℤ a → int_le a b ≡ false
 le_false a b h = grind (arith, ints)
 
-in_reach_over : (b : Bool) (p : ℤ) → 2 ^ 127 ≤ unsigned_abs p → in_reach b p ≡ (if b then Err LimitMultiples else Err Empty)
+in_reach_over : (b : Bool) (p : ℤ) → 2 ^ 127 ≤ unsigned_abs p
+    → in_reach b p ≡ (if b then Err LimitMultiples else Err Empty)
 in_reach_over true p l = rw (le-leb (2 ^ 127) (unsigned_abs p) l) refl
 in_reach_over false p l = refl
 
-none_reached : (m : ℕ) (low high : Option ℤ) (k : ℕ) → is_near low ≡ true → is_near high ≡ true → sized (place m low high k) ≡ None
+none_reached : (m : ℕ) (low high : Option ℤ) (k : ℕ) → is_near low ≡ true → is_near high ≡ true
+    → sized (place m low high k) ≡ None
     → in_reach (is_below high (place m low high k)) (place m low high k) ≡ Err (after_last low high)
 none_reached m (Some l) (Some h) k p q e =
     let x = multiple_from m l k in
@@ -126,7 +137,8 @@ none_reached m (Some l) (Some h) k p q e =
     let v : unsigned_abs h ≤ 2 ^ 64 = leb-true _ _ q in
     let b : int_le x h ≡ false = le_false x h (omega (arith, ints)) in
     in_reach_over (int_le x h) x c ∙ ap (λ t. if t then Err LimitMultiples else Err Empty) b
-none_reached m (Some l) None k p q e = in_reach_over true (multiple_from m l k) (sized-None (multiple_from m l k) e)
+none_reached m (Some l) None k p q e = in_reach_over true (multiple_from m l k)
+    (sized-None (multiple_from m l k) e)
 none_reached m None (Some h) k p q e =
     let y = multiple_from m (neg_ℤ h) k in
     let a : neg_ℤ h ≤ℤ y = above_low m (neg_ℤ h) k in

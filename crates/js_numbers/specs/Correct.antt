@@ -5,31 +5,32 @@ use Rattle.js_numbers.specs.declared.group.Cases.{Cases}
 use Rattle.js_numbers.specs.declared.group.Cases.TheVariants.{Found, Empty, LimitMultiples, LimitCandidates}
 use Rattle.js_numbers.specs.Multiples.{is_multiple, lcm_of}
 use Rattle.js_numbers.specs.Group.{Group, is_above, is_below, is_met, is_struck}
-use Rattle.js_numbers.specs.Outcome.{place, is_over}
+use Rattle.js_numbers.specs.Outcome.{candidate, is_over}
 
 -- the k-th candidate remains, but it is over 2^127-1 in size
 pub record IsTooLarge (m : ℕ) (g : Group) (k : ℕ) : Type 0 where
-  pub remains : is_below g.high (place m g.low g.high k) ≡ true
-  pub over : is_over (place m g.low g.high k) ≡ true
+  pub remains : is_below g.high (candidate m g k) ≡ true
+  pub over : is_over (candidate m g k) ≡ true
 
 -- the k-th candidate remains, and it is at most 2^127-1 in size
 pub record IsTried (m : ℕ) (g : Group) (k : ℕ) : Type 0 where
-  pub remains : is_below g.high (place m g.low g.high k) ≡ true
-  pub small : is_over (place m g.low g.high k) ≡ false
+  pub remains : is_below g.high (candidate m g k) ≡ true
+  pub small : is_over (candidate m g k) ≡ false
 
 -- the k-th candidate is tried, and it is struck
 pub record IsStruckAt (m : ℕ) (g : Group) (k : ℕ) : Type 0 where
   pub tried : IsTried m g k
-  pub struck : is_struck g (place m g.low g.high k) ≡ true
+  pub struck : is_struck g (candidate m g k) ≡ true
 
 -- x is the k-th candidate, and those before it are struck
 pub record IsFirst (limit m : ℕ) (g : Group) (x : ℤ) : Type 0 where
   pub count : ℕ
   pub within : count < limit
-  pub is : x ≡ place m g.low g.high count
+  pub is : x ≡ candidate m g count
   pub before : (j : ℕ) → j < count → IsStruckAt m g j
 
--- what an answer says, where at most the given number of candidates may be struck and m is the least common multiple
+-- what an answer says, where at most the given number of candidates may be struck and m is the least common
+-- multiple
 abbrev pub Says : ℕ → ℕ → Group → Cases → Type 0
 Says limit m g (Found x) = (is_met g x ≡ true) × (g.sets ≡ [] → IsFirst limit m g x)
 Says limit m g Empty = (x : ℤ) → is_met g x ≡ false
@@ -39,10 +40,10 @@ Says limit m g LimitCandidates = ((j : ℕ) → j < limit → IsStruckAt m g j) 
 
 -- the candidates are the multiples of m within the bounds
 pub record ArePlaces (m : ℕ) (g : Group) : Type 0 where
-  pub multiple : (k : ℕ) → is_multiple m (place m g.low g.high k) ≡ true
-  pub above : (k : ℕ) → is_above g.low (place m g.low g.high k) ≡ true
+  pub multiple : (k : ℕ) → is_multiple m (candidate m g k) ≡ true
+  pub above : (k : ℕ) → is_above g.low (candidate m g k) ≡ true
   pub all : (x : ℤ) → is_multiple m x ≡ true → is_above g.low x ≡ true → is_below g.high x ≡ true
-      → (k : ℕ) × (place m g.low g.high k ≡ x)
+      → (k : ℕ) × (candidate m g k ≡ x)
 
 -- a divisor that is ruled out divides m exactly where each multiple of m has such a divisor
 abbrev pub StrikesAll : ℕ → List ℕ → Type 0
@@ -52,7 +53,8 @@ StrikesAll m bs =
 
 -- the theorem of this crate
 pub record IsRight (limit : ℕ) (g : Group) (answer : Cases) : Type 0 where
-  -- a number that is found meets the group and is the first candidate to do so; where there is none, none meets it
+  -- a number that is found meets the group and is the first candidate to do so; where there is none, none
+  -- meets it
   pub says : Says limit (lcm_of g.multiples) g answer
   -- no multiple within the bounds is left out
   pub places : ArePlaces (lcm_of g.multiples) g

@@ -10,15 +10,16 @@ is_at (Some j) k = j == k
 
 -- r is the number of x among the first candidates that are at most 2^127-1 in size, where it is one of them
 abbrev pub IsIndex : ℕ → (ℕ → ℤ) → ℤ → Option ℕ → Type 0
-IsIndex limit candidate x r =
-    (k : ℕ) → k < limit → is_over (candidate k) ≡ false → is_at r k ≡ int_eq x (candidate k)
+IsIndex limit candidates x r =
+    (k : ℕ) → k < limit → is_over (candidates k) ≡ false → is_at r k ≡ int_eq x (candidates k)
 
 -- the first candidates that pass the test are marked, and the marks that were there stay
-abbrev pub AreMarked : ℕ → (ℕ → ℤ) → (ℤ → Bool) → List Bool → List Bool → Type 0
-AreMarked limit candidate test old new =
-    (k : ℕ) → k < limit → is_over (candidate k) ≡ false → get_or new k false ≡ (get_or old k false || test (candidate k))
+abbrev pub AddsMarks : ℕ → (ℕ → ℤ) → (ℤ → Bool) → List Bool → List Bool → Type 0
+AddsMarks limit candidates test old new =
+    (k : ℕ) → k < limit → is_over (candidates k) ≡ false
+    → get_or new k false ≡ (get_or old k false || test (candidates k))
 
 -- the first candidates are marked exactly where they pass the test
-abbrev pub Marks : ℕ → (ℕ → ℤ) → (ℤ → Bool) → List Bool → Type 0
-Marks limit candidate test marks =
-    (k : ℕ) → k < limit → is_over (candidate k) ≡ false → get_or marks k false ≡ test (candidate k)
+abbrev pub AreMarked : ℕ → (ℕ → ℤ) → (ℤ → Bool) → List Bool → Type 0
+AreMarked limit candidates test marks =
+    (k : ℕ) → k < limit → is_over (candidates k) ≡ false → get_or marks k false ≡ test (candidates k)

@@ -1,4 +1,5 @@
--- The answer that is owed for a group: which number is found first, or that there is none, or which limit was passed.
+-- The answer that is owed for a group: which number is found first, or that there is none, or which limit was
+-- passed.
 use Rattle.std.specs.Prelude.{ℕ, ◌+◌, ◌*◌, ◌/◌, ◌%◌, ◌^◌, ◌==◌, nat_le, List, [], ◌∷◌, Bool, true, not, Option, Some, None, Result, Ok, Err, ℤ, pos, neg_ℤ, ◌+ℤ◌, unsigned_abs, if◌then◌else◌}
 use Rattle.std.specs.List.{list_any, find}
 use Rattle.std.specs.Int.{int_rem_euclid}
@@ -15,12 +16,17 @@ multiple_from m low k = low +ℤ int_rem_euclid (neg_ℤ low) (pos m) +ℤ pos (
 abbrev pub alternate : ℕ → ℕ → ℤ
 alternate m k = if k % 2 == 0 then neg_ℤ (pos (k / 2 * m)) else pos ((k / 2 + 1) * m)
 
--- the k-th candidate among the multiples of m: upwards from the lower bound; without one downwards from the upper bound;
+-- the k-th candidate among the multiples of m: upwards from the lower bound; without one downwards from the
+-- upper bound;
 -- without both by size, the positive one first. The upper bound alone may end them
 abbrev pub place : ℕ → Option ℤ → Option ℤ → ℕ → ℤ
 place m (Some low) high k = multiple_from m low k
 place m None (Some high) k = neg_ℤ (multiple_from m (neg_ℤ high) k)
 place m None None k = alternate m k
+
+-- the k-th candidate of the group among the multiples of m
+abbrev pub candidate : ℕ → Group → ℕ → ℤ
+candidate m g k = place m g.low g.high k
 
 -- x is over 2^127-1 in size
 abbrev pub is_over : ℤ → Bool
@@ -35,7 +41,7 @@ in_reach remains x = if remains then (if is_over x then Err LimitMultiples else 
 
 -- the k-th candidate, or why there is none to try: none remains, or it is over 2^127-1 in size
 unfoldable pub reached : ℕ → Group → ℕ → Result ℤ Cases
-reached m g k = let x = place m g.low g.high k in in_reach (is_below g.high x) x
+reached m g k = in_reach (is_below g.high (candidate m g k)) (candidate m g k)
 
 -- what follows where a candidate is over 2^127-1 in size: upwards, it is above any upper bound
 abbrev pub after_last : Option ℤ → Option ℤ → Cases
@@ -61,7 +67,8 @@ struck_before limit m g = least_below (λ k. is_last g (reached m g k)) limit
 abbrev pub answer_among : ℕ → ℕ → Group → Cases
 answer_among limit m g = answer_at limit (struck_before limit m g) (reached m g (struck_before limit m g))
 
--- the answer among the multiples of m, or without a look at them: they are too large, or all of them are struck
+-- the answer among the multiples of m, or without a look at them: they are too large, or all of them are
+-- struck
 abbrev pub answer_of_multiples : ℕ → ℕ → Group → Cases
 answer_of_multiples limit m g =
     if nat_le (2 ^ 127) m then LimitMultiples

@@ -7,8 +7,8 @@ ghost use Rattle.std.specs.Int.{int_rem_euclid};
 ghost use Rattle.std.specs.List.{list_any};
 ghost use Rattle.js_numbers.specs.Multiples.{is_multiple};
 ghost use Rattle.js_numbers.specs.Group.{group_of, has, is_ready};
-ghost use Rattle.js_numbers.specs.Outcome.{sized, multiple_from, alternate, place, after_last, reached, answer_among};
-ghost use Rattle.js_numbers.specs.Marking.{Marks};
+ghost use Rattle.js_numbers.specs.Outcome.{after_last, alternate, answer_among, candidate, multiple_from, reached, sized};
+ghost use Rattle.js_numbers.specs.Marking.{AreMarked};
 
 use crate::group::{Cases, NumGroup};
 use crate::marks::mark_sets;
@@ -60,10 +60,10 @@ fn alternate(m: u128, k: usize) -> Option<i128>
 }
 
 /// The `k`-th candidate; `None` where its size is over 2^127-1.
-fn place(group: &NumGroup, m: u128, k: usize) -> Option<i128>
+fn candidate(group: &NumGroup, m: u128, k: usize) -> Option<i128>
     requires ready { is_ready (group_of group.now) ≡ true }
     requires step { (0 < m) × (m < 2 ^ 127) }
-    ensures { result ≡ sized (place m group.now.lo group.now.hi k) }
+    ensures { result ≡ sized (candidate m (group_of group.now) k) }
 {
     match (group.lo, group.hi) {
         (Some(low), _) => multiple_from(low, m, k),
@@ -88,7 +88,7 @@ fn reach(group: &NumGroup, m: u128, k: usize) -> Result<i128, Cases>
     requires step { (0 < m) × (m < 2 ^ 127) }
     ensures { result ≡ reached m (group_of group.now) k }
 {
-    match place(group, m, k) {
+    match candidate(group, m, k) {
         Some(x) if is_below(group.hi, x) => Ok(x),
         Some(_) => Err(Cases::Empty),
         None => Err(after_last(group.lo, group.hi)),
@@ -118,7 +118,7 @@ fn search_unlisted(group: &NumGroup, m: u128, listed: &[bool]) -> Cases
     requires ready { is_ready (group_of group.now) ≡ true }
     requires step { (0 < m) × (m < 2 ^ 127) }
     requires size { length listed.now ≡ MOST_STRUCK }
-    requires marks { Marks MOST_STRUCK (λ k. place m group.now.lo group.now.hi k) (λ x. list_any (λ s. has s x) group.now.not_sets.now) listed.now }
+    requires marks { AreMarked MOST_STRUCK (candidate m (group_of group.now)) (λ x. list_any (λ s. has s x) group.now.not_sets.now) listed.now }
     ensures { result ≡ answer_among MOST_STRUCK m (group_of group.now) }
 {
     for k in 0..MOST_STRUCK {

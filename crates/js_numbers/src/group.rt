@@ -46,13 +46,13 @@ impl NumGroup<'_> {
     }
 
     /// Whether `x` is ruled out, by a divisor or by a set.
-    pub fn is_struck(&self, x: i128) -> bool
+    pub(crate) fn is_struck(&self, x: i128) -> bool
         ensures { result ≡ is_struck (group_of self.now) x }
     {
         divides_any(self.not_multiples, x) || any_has(self.not_sets, x)
     }
 
-    pub fn is_crossed(&self) -> bool
+    pub(crate) fn is_crossed(&self) -> bool
         ensures { result ≡ is_crossed self.now.lo self.now.hi }
     {
         match (self.lo, self.hi) {

@@ -6,8 +6,8 @@
 ghost use Rattle.std.specs.Prelude.{◌≡◌, ℕ, ◌*◌, ◌<◌, ◌^◌, ◌==◌, true, false, ◌||◌, get_or, IfSome, length, neg_ℤ, unsigned_abs, ◌≤◌};
 ghost use Rattle.std.specs.List.{list_any};
 ghost use Rattle.js_numbers.specs.Group.{group_of, has, is_ready};
-ghost use Rattle.js_numbers.specs.Outcome.{alternate, multiple_from, place};
-ghost use Rattle.js_numbers.specs.Marking.{is_at, IsIndex, AreMarked};
+ghost use Rattle.js_numbers.specs.Outcome.{alternate, candidate, multiple_from};
+ghost use Rattle.js_numbers.specs.Marking.{is_at, IsIndex, AddsMarks};
 
 use crate::candidates::{MOST_STRUCK, multiple_down, multiple_from};
 use crate::group::NumGroup;
@@ -79,7 +79,7 @@ fn index_by_size(m: u128, x: i128) -> Option<usize>
 fn index_of(group: &NumGroup, m: u128, x: i128) -> Option<usize>
     requires ready { is_ready (group_of group.now) ≡ true }
     requires step { (0 < m) × (m < 2 ^ 127) }
-    ensures value { IsIndex MOST_STRUCK (λ k. place m group.now.lo group.now.hi k) x result }
+    ensures value { IsIndex MOST_STRUCK (candidate m (group_of group.now)) x result }
     ensures within { IfSome result (λ k. k < MOST_STRUCK) }
 {
     match (group.lo, group.hi) {
@@ -89,7 +89,7 @@ fn index_of(group: &NumGroup, m: u128, x: i128) -> Option<usize>
     }
 }
 
-/// Marks the number, where there is one.
+/// AreMarked the number, where there is one.
 fn mark(listed: &mut [bool], index: Option<usize>)
     requires { IfSome index (λ k. k < length listed.old) }
     ensures { (k : ℕ) → get_or listed.new k false ≡ (get_or listed.old k false || is_at index k) }
@@ -99,24 +99,24 @@ fn mark(listed: &mut [bool], index: Option<usize>)
     }
 }
 
-/// Marks the candidates that are among the values.
+/// AreMarked the candidates that are among the values.
 fn mark_values(group: &NumGroup, m: u128, values: &[i128], listed: &mut [bool])
     requires ready { is_ready (group_of group.now) ≡ true }
     requires step { (0 < m) × (m < 2 ^ 127) }
     requires size { length listed.old ≡ MOST_STRUCK }
-    ensures { AreMarked MOST_STRUCK (λ k. place m group.now.lo group.now.hi k) (λ x. has values.now x) listed.old listed.new }
+    ensures { AddsMarks MOST_STRUCK (candidate m (group_of group.now)) (λ x. has values.now x) listed.old listed.new }
 {
     for x in values {
         mark(listed, index_of(group, m, *x));
     }
 }
 
-/// Marks the candidates that a set that is ruled out has.
+/// AreMarked the candidates that a set that is ruled out has.
 pub fn mark_sets(group: &NumGroup, m: u128, listed: &mut [bool])
     requires ready { is_ready (group_of group.now) ≡ true }
     requires step { (0 < m) × (m < 2 ^ 127) }
     requires size { length listed.old ≡ MOST_STRUCK }
-    ensures { AreMarked MOST_STRUCK (λ k. place m group.now.lo group.now.hi k) (λ x. list_any (λ s. has s x) group.now.not_sets.now) listed.old listed.new }
+    ensures { AddsMarks MOST_STRUCK (candidate m (group_of group.now)) (λ x. list_any (λ s. has s x) group.now.not_sets.now) listed.old listed.new }
 {
     let sets: &[NumList] = group.not_sets;
     for values in sets {

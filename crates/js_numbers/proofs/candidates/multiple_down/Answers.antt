@@ -7,7 +7,8 @@ use Rattle.js_numbers.proofs.candidates.multiple_down.Goals as goal
 
 pub returns : goal.returns
 returns c =
-    let arg : to_z w128 (of_z w128 (pos 0 -ℤ to_z w128 (of_z w128 c.args.high))) ≡ neg_ℤ c.args.high = omega (arith, ints) in
+    let arg : to_z w128 (of_z w128 (pos 0 -ℤ to_z w128 (of_z w128 c.args.high))) ≡ neg_ℤ c.args.high =
+    omega (arith, ints) in
     let y = c.in_ok-opposite.opposite in
     let (same, small) = sized-Some (multiple_from c.args.m _ c.args.k) y (sym c.in_ok-opposite.ensures) in
     let fits : unsigned_abs y < 2 ^ 127 = subst (λ z. unsigned_abs z < 2 ^ 127) same small in

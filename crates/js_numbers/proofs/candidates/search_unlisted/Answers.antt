@@ -9,7 +9,8 @@ use Rattle.js_numbers.proofs.candidates.search_unlisted.Goals.{After-loop-k}
 
 pub returns-in-Err : goal.returns-in-Err
 returns-in-Err c =
-    sym (answer_among-Err MOST_STRUCK c.args.m (group_of c.args.group.now) c.loop-k.k c.in-Err.why c.loop-k-test.true
+    sym (answer_among-Err MOST_STRUCK c.args.m (group_of c.args.group.now) c.loop-k.k c.in-Err.why
+    c.loop-k-test.true
     c.loop-k.invariant (sym c.reach.ensures ∙ c.in-Err.is))
 
 pub returns-then-not-is_ruled_out : goal.returns-then-not-is_ruled_out
@@ -17,17 +18,24 @@ returns-then-not-is_ruled_out c =
     let g = group_of c.args.group.now in
     let fits : FitsSigned w128 c.in-Ok.x = search rules in
     let here = sym c.reach.ensures ∙ c.in-Ok.is ∙ ap Ok (sym (to_z-of_z fits)) in
-    let spared = sym (struck_from_marks MOST_STRUCK c.args.m g c.loop-k.k (to_z w128 (of_z w128 c.in-Ok.x)) c.args.listed.now
-    c.is_ruled_out.result c.requires.marks c.loop-k-test.true here c.is_ruled_out.ensures) ∙ c.if-not-is_ruled_out.true in
-    sym (answer_among-Ok MOST_STRUCK c.args.m g c.loop-k.k (to_z w128 (of_z w128 c.in-Ok.x)) c.loop-k-test.true c.loop-k.invariant here spared)
+    let spared =
+    sym (struck_from_marks MOST_STRUCK c.args.m g c.loop-k.k
+    (to_z w128 (of_z w128 c.in-Ok.x)) c.args.listed.now
+    c.is_ruled_out.result c.requires.marks c.loop-k-test.true here c.is_ruled_out.ensures)
+    ∙ c.if-not-is_ruled_out.true in
+    sym (answer_among-Ok MOST_STRUCK c.args.m g c.loop-k.k
+    (to_z w128 (of_z w128 c.in-Ok.x)) c.loop-k-test.true c.loop-k.invariant here spared)
 
 pub loop-k-preserved : goal.loop-k-preserved
 loop-k-preserved c =
     let g = group_of c.args.group.now in
     let fits : FitsSigned w128 c.in-Ok.x = search rules in
     let here = sym c.reach.ensures ∙ c.in-Ok.is ∙ ap Ok (sym (to_z-of_z fits)) in
-    let struck = sym (struck_from_marks MOST_STRUCK c.args.m g c.loop-k.k (to_z w128 (of_z w128 c.in-Ok.x)) c.args.listed.now
-    c.is_ruled_out.result c.requires.marks c.loop-k-test.true here c.is_ruled_out.ensures) ∙ c.if-not-is_ruled_out.false in
+    let struck =
+    sym (struck_from_marks MOST_STRUCK c.args.m g c.loop-k.k
+    (to_z w128 (of_z w128 c.in-Ok.x)) c.args.listed.now
+    c.is_ruled_out.result c.requires.marks c.loop-k-test.true here c.is_ruled_out.ensures)
+    ∙ c.if-not-is_ruled_out.false in
     struck_more c.args.m g c.loop-k.k (to_z w128 (of_z w128 c.in-Ok.x)) c.loop-k.invariant here struck
 
 -- all of them are struck where the loop ends

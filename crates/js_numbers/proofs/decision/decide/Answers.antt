@@ -9,7 +9,9 @@ use Rattle.js_numbers.proofs.decision.decide.Goals as goal
 
 pub returns-then-is_crossed : goal.returns-then-is_crossed
 returns-then-is_crossed c =
-    let e = sym (outcome-crossed MOST_STRUCK (group_of c.args.group.now) (sym c.is_crossed.ensures ∙ c.if-is_crossed.true)) in
+    let e = sym
+    (outcome-crossed MOST_STRUCK (group_of c.args.group.now)
+    (sym c.is_crossed.ensures ∙ c.if-is_crossed.true)) in
     record { answer = e; right = is_right MOST_STRUCK (group_of c.args.group.now) _ c.requires e }
 
 pub returns-in-len1-up : goal.returns-in-len1-up
@@ -24,5 +26,6 @@ pub returns-in-empty : goal.returns-in-empty
 returns-in-empty c =
     let none : length c.args.group.now.sets.now < 1 = omega arith in
     let e = c.decide_multiples.ensures
-    ∙ sym (outcome-no_sets MOST_STRUCK (group_of c.args.group.now) (sym c.is_crossed.ensures ∙ c.if-is_crossed.false) none) in
+    ∙ sym (outcome-no_sets MOST_STRUCK (group_of c.args.group.now)
+    (sym c.is_crossed.ensures ∙ c.if-is_crossed.false) none) in
     record { answer = e; right = is_right MOST_STRUCK (group_of c.args.group.now) _ c.requires e }

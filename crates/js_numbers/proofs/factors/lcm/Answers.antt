@@ -8,7 +8,9 @@ the_lcm : (c : After-gcd) → IsLcm c.args.a c.args.b (c.args.a / c.gcd.result *
 the_lcm c = IsLcm-from_gcd c.args.a c.args.b c.gcd.result c.requires.first.0 c.gcd.ensures
 
 the_value : (c : After-gcd) → lcm_of (c.args.a ∷ c.args.b ∷ []) ≡ c.args.a / c.gcd.result * c.args.b
-the_value c = lcm_of-pair c.args.a c.args.b (c.args.a / c.gcd.result * c.args.b) c.requires.first.0 c.requires.second.0 (the_lcm c)
+the_value c =
+    lcm_of-pair c.args.a c.args.b (c.args.a / c.gcd.result * c.args.b) c.requires.first.0 c.requires.second.0
+    (the_lcm c)
 
 pub nonzero_div-a : goal.nonzero_div-a
 nonzero_div-a c = gcd_positive c.args.a c.args.b c.gcd.result c.requires.first.0 c.gcd.ensures

@@ -12,7 +12,9 @@ returns-else-last-x-clause-value c = λ k l small.
     let low = neg_ℤ c.args.high in
     let last = c.in_ok-last.last in
     let fits : FitsSigned w128 last = search rules in
-    let is = (sized-Some (neg_ℤ (multiple_from c.args.m low 0)) last (sym (rw (to_z-of_z c.ranges.high) at c.in_ok-last.ensures))).0 in
+    let is =
+    (sized-Some (neg_ℤ (multiple_from c.args.m low 0)) last
+    (sym (rw (to_z-of_z c.ranges.high) at c.in_ok-last.ensures))).0 in
     let below : x ≤ℤ last = omega (arith, ints) in
     let same : to_z w128 (of_z w128 last) -ℤ to_z w128 (of_z w128 x) ≡ last -ℤ x = omega (arith, ints) in
     let gap : c.abs_diff.result ≡ unsigned_abs (last -ℤ x) = c.abs_diff.ensures ∙ ap unsigned_abs same in

@@ -11,7 +11,9 @@ returns-else-x-first-clause-value c = λ k l small.
     let x = c.args.x in
     let first = c.in_ok-first.first in
     let fits : FitsSigned w128 first = search rules in
-    let is = (sized-Some (multiple_from c.args.m c.args.low 0) first (sym (rw (to_z-of_z c.ranges.low) at c.in_ok-first.ensures))).0 in
+    let is =
+    (sized-Some (multiple_from c.args.m c.args.low 0) first
+    (sym (rw (to_z-of_z c.ranges.low) at c.in_ok-first.ensures))).0 in
     let above : first ≤ℤ x = omega (arith, ints) in
     let same : to_z w128 (of_z w128 x) -ℤ to_z w128 (of_z w128 first) ≡ x -ℤ first = omega (arith, ints) in
     let gap : c.abs_diff.result ≡ unsigned_abs (x -ℤ first) = c.abs_diff.ensures ∙ ap unsigned_abs same in
