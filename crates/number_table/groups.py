@@ -1,8 +1,8 @@
 """Writes `stdin`, a table of number groups, and `stdout`, their answers by plain integer arithmetic.
 
 Run in this folder: python3 groups.py
-A line of `stdin` is six words: the lower and the upper bound, the divisors that are asked for and those that are ruled
-out, the sets that are asked for and those that are ruled out. `src/lines.rt` says how they are written.
+A line of `stdin` is six words: the lower and the upper bound, the divisors that are asked for and those that are
+ruled out, the sets that are asked for and those that are ruled out. `src/lines.rt` says how they are written.
 """
 
 import itertools

@@ -37,9 +37,13 @@ is_below (Some high) x = int_le x high
 abbrev pub has : List ℤ → ℤ → Bool
 has values x = list_any (λ y. int_eq y x) values
 
+-- x is in one of the sets
+abbrev pub is_listed : List (List ℤ) → ℤ → Bool
+is_listed sets x = list_any (λ s. has s x) sets
+
 -- a divisor that is ruled out divides x, or a set that is ruled out has it
 abbrev pub is_struck : Group → ℤ → Bool
-is_struck g x = list_any (λ m. is_multiple m x) g.not_multiples || list_any (λ s. has s x) g.not_sets
+is_struck g x = list_any (λ m. is_multiple m x) g.not_multiples || is_listed g.not_sets x
 
 -- x meets the group
 abbrev pub is_met : Group → ℤ → Bool

@@ -1,7 +1,8 @@
 -- Which candidates a list of values has, by their numbers.
 use Rattle.std.specs.Prelude.{◌≡◌, ℕ, ◌<◌, ◌==◌, List, get_or, Bool, false, ◌||◌, Option, Some, None, ℤ}
 use Rattle.std.specs.Ordering.{int_eq}
-use Rattle.js_numbers.specs.Outcome.{is_over}
+use Rattle.js_numbers.specs.Group.{Group, is_listed}
+use Rattle.js_numbers.specs.Outcome.{candidate, is_over}
 
 -- k is the number that was found
 abbrev pub is_at : Option ℕ → ℕ → Bool
@@ -23,3 +24,11 @@ AddsMarks limit candidates test old new =
 abbrev pub AreMarked : ℕ → (ℕ → ℤ) → (ℤ → Bool) → List Bool → Type 0
 AreMarked limit candidates test marks =
     (k : ℕ) → k < limit → is_over (candidates k) ≡ false → get_or marks k false ≡ test (candidates k)
+
+-- the candidates that a set that is ruled out has are marked, and the marks that were there stay
+abbrev pub AddsRuledOut : ℕ → ℕ → Group → List Bool → List Bool → Type 0
+AddsRuledOut limit m g old new = AddsMarks limit (candidate m g) (is_listed g.not_sets) old new
+
+-- the candidates that a set that is ruled out has are marked, and no others
+abbrev pub AreRuledOut : ℕ → ℕ → Group → List Bool → Type 0
+AreRuledOut limit m g marks = AreMarked limit (candidate m g) (is_listed g.not_sets) marks

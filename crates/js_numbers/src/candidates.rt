@@ -2,17 +2,13 @@
 //!
 //! A candidate is compared with 2^127-1 before it is made, so no step overflows.
 
-ghost use Rattle.std.specs.Prelude.{◌≡◌, ◌<◌, ◌≤◌, ◌^◌, true, ◌||◌, length, unsigned_abs, pos, neg_ℤ};
+ghost use Rattle.std.specs.Prelude.{◌≡◌, ◌<◌, ◌≤◌, ◌^◌, true, unsigned_abs, pos, neg_ℤ};
 ghost use Rattle.std.specs.Int.{int_rem_euclid};
-ghost use Rattle.std.specs.List.{list_any};
-ghost use Rattle.js_numbers.specs.Multiples.{is_multiple};
-ghost use Rattle.js_numbers.specs.Group.{group_of, has, is_ready};
-ghost use Rattle.js_numbers.specs.Outcome.{after_last, alternate, answer_among, candidate, multiple_from, reached, sized};
-ghost use Rattle.js_numbers.specs.Marking.{AreMarked};
+ghost use Rattle.js_numbers.specs.Group.{group_of, is_ready};
+ghost use Rattle.js_numbers.specs.Outcome.{after_last, alternate, candidate, multiple_from, reached, sized};
 
 use crate::group::{Cases, NumGroup};
-use crate::marks::mark_sets;
-use crate::number::{divides_any, is_below};
+use crate::number::is_below;
 
 /// As many candidates may be struck before the search gives up.
 pub const MOST_STRUCK: usize = 65_536;
@@ -37,7 +33,7 @@ pub(crate) fn multiple_from(low: i128, m: u128, k: usize) -> Option<i128>
     first.checked_add_unsigned(past)
 }
 
-/// The `k`-th multiple of `m` that isn't above `high`, counted downwards; `None` where its size is over 2^127-1.
+/// The `k`-th multiple of `m` that isn't above `high`, downwards from 0; `None` where its size is over 2^127-1.
 pub(crate) fn multiple_down(high: i128, m: u128, k: usize) -> Option<i128>
     requires near { unsigned_abs high ≤ 2 ^ 64 }
     requires step { (0 < m) × (m < 2 ^ 127) }
@@ -83,7 +79,7 @@ fn after_last(low: Option<i128>, high: Option<i128>) -> Cases
 }
 
 /// The `k`-th candidate, or why there is none to try.
-fn reach(group: &NumGroup, m: u128, k: usize) -> Result<i128, Cases>
+pub(crate) fn reach(group: &NumGroup, m: u128, k: usize) -> Result<i128, Cases>
     requires ready { is_ready (group_of group.now) ≡ true }
     requires step { (0 < m) × (m < 2 ^ 127) }
     ensures { result ≡ reached m (group_of group.now) k }
@@ -92,46 +88,5 @@ fn reach(group: &NumGroup, m: u128, k: usize) -> Result<i128, Cases>
         Some(x) if is_below(group.hi, x) => Ok(x),
         Some(_) => Err(Cases::Empty),
         None => Err(after_last(group.lo, group.hi)),
-    }
-}
-
-/// Whether a set that is ruled out has `x`, or a divisor that is ruled out divides it.
-fn is_ruled_out(group: &NumGroup, is_listed: bool, x: i128) -> bool
-    ensures { result ≡ (list_any (λ m. is_multiple m x) group.now.not_multiples.now || is_listed) }
-{
-    is_listed || divides_any(group.not_multiples, x)
-}
-
-/// The answer among the multiples of `m`.
-pub(crate) fn search(group: &NumGroup, m: u128) -> Cases
-    requires ready { is_ready (group_of group.now) ≡ true }
-    requires step { (0 < m) × (m < 2 ^ 127) }
-    ensures { result ≡ answer_among MOST_STRUCK m (group_of group.now) }
-{
-    let mut listed = [false; MOST_STRUCK];
-    mark_sets(group, m, &mut listed);
-    search_unlisted(group, m, &listed)
-}
-
-/// The answer among the multiples of `m`, where the candidates are marked that a set that is ruled out has.
-fn search_unlisted(group: &NumGroup, m: u128, listed: &[bool]) -> Cases
-    requires ready { is_ready (group_of group.now) ≡ true }
-    requires step { (0 < m) × (m < 2 ^ 127) }
-    requires size { length listed.now ≡ MOST_STRUCK }
-    requires marks { AreMarked MOST_STRUCK (candidate m (group_of group.now)) (λ x. list_any (λ s. has s x) group.now.not_sets.now) listed.now }
-    ensures { result ≡ answer_among MOST_STRUCK m (group_of group.now) }
-{
-    for k in 0..MOST_STRUCK {
-        let x = match reach(group, m, k) {
-            Ok(x) => x,
-            Err(why) => return why,
-        };
-        if !is_ruled_out(group, listed[k], x) {
-            return Cases::Found(x);
-        }
-    }
-    match reach(group, m, MOST_STRUCK) {
-        Ok(_) => Cases::LimitCandidates,
-        Err(why) => why,
     }
 }

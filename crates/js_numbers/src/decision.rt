@@ -7,9 +7,10 @@ ghost use Rattle.js_numbers.specs.Group.{group_of, is_ready, is_met};
 ghost use Rattle.js_numbers.specs.Correct.{IsRight};
 ghost use Rattle.js_numbers.specs.Outcome.{answer_of_multiples, found, outcome};
 
-use crate::candidates::{MOST_STRUCK, search};
+use crate::candidates::MOST_STRUCK;
 use crate::factors::lcm_of;
 use crate::group::{Cases, NumGroup};
+use crate::search::search;
 
 /// The first number that meets the group, or that there is none, or which limit was passed on the way.
 pub fn decide(group: &NumGroup) -> Cases

@@ -1,6 +1,6 @@
 //! What a number group asks of one whole number.
 //!
-//! Each test equals its definition in `specs/Group.antt` and costs a look at each divisor and each listed value.
+//! Each test equals its definition in `specs/Group.antt`, and looks at each divisor and each listed value at most once.
 
 ghost use Rattle.std.specs.Prelude.{◌≡◌};
 

@@ -1,17 +1,15 @@
 //! Which candidates the sets that are ruled out have, found in one pass over their values.
 //!
-//! A value's number among the candidates is computed, so the cost is that of the values and not of the values times
+//! A value's number among the candidates is computed, so the cost is that of the values, and not of the values times
 //! the candidates. The marks take 64 KiB of the stack.
 
 ghost use Rattle.std.specs.Prelude.{◌≡◌, ℕ, ◌*◌, ◌<◌, ◌^◌, ◌==◌, true, false, ◌||◌, get_or, IfSome, length, neg_ℤ, unsigned_abs, ◌≤◌};
-ghost use Rattle.std.specs.List.{list_any};
 ghost use Rattle.js_numbers.specs.Group.{group_of, has, is_ready};
 ghost use Rattle.js_numbers.specs.Outcome.{alternate, candidate, multiple_from};
-ghost use Rattle.js_numbers.specs.Marking.{is_at, IsIndex, AddsMarks};
+ghost use Rattle.js_numbers.specs.Marking.{is_at, IsIndex, AddsMarks, AddsRuledOut};
 
 use crate::candidates::{MOST_STRUCK, multiple_down, multiple_from};
 use crate::group::NumGroup;
-use js_doc::NumList;
 
 /// How many steps of `m` make up the distance, where a whole number below [`MOST_STRUCK`] does.
 fn steps(distance: u128, m: u128) -> Option<usize>
@@ -89,7 +87,7 @@ fn index_of(group: &NumGroup, m: u128, x: i128) -> Option<usize>
     }
 }
 
-/// AreMarked the number, where there is one.
+/// Marks the number, where there is one.
 fn mark(listed: &mut [bool], index: Option<usize>)
     requires { IfSome index (λ k. k < length listed.old) }
     ensures { (k : ℕ) → get_or listed.new k false ≡ (get_or listed.old k false || is_at index k) }
@@ -99,27 +97,26 @@ fn mark(listed: &mut [bool], index: Option<usize>)
     }
 }
 
-/// AreMarked the candidates that are among the values.
+/// Marks the candidates that are among the values.
 fn mark_values(group: &NumGroup, m: u128, values: &[i128], listed: &mut [bool])
     requires ready { is_ready (group_of group.now) ≡ true }
     requires step { (0 < m) × (m < 2 ^ 127) }
     requires size { length listed.old ≡ MOST_STRUCK }
-    ensures { AddsMarks MOST_STRUCK (candidate m (group_of group.now)) (λ x. has values.now x) listed.old listed.new }
+    ensures { AddsMarks MOST_STRUCK (candidate m (group_of group.now)) (has values.now) listed.old listed.new }
 {
     for x in values {
         mark(listed, index_of(group, m, *x));
     }
 }
 
-/// AreMarked the candidates that a set that is ruled out has.
+/// Marks the candidates that a set that is ruled out has.
 pub fn mark_sets(group: &NumGroup, m: u128, listed: &mut [bool])
     requires ready { is_ready (group_of group.now) ≡ true }
     requires step { (0 < m) × (m < 2 ^ 127) }
     requires size { length listed.old ≡ MOST_STRUCK }
-    ensures { AddsMarks MOST_STRUCK (candidate m (group_of group.now)) (λ x. list_any (λ s. has s x) group.now.not_sets.now) listed.old listed.new }
+    ensures { AddsRuledOut MOST_STRUCK m (group_of group.now) listed.old listed.new }
 {
-    let sets: &[NumList] = group.not_sets;
-    for values in sets {
+    for values in group.not_sets {
         mark_values(group, m, values.as_slice(), listed);
     }
 }

@@ -1,7 +1,7 @@
 //! Decides the number groups of its input, one a line, and prints the answers.
 //!
-//! Its input is the table of worked examples and of groups at the edges. `groups.py` wrote it, with the answers that are
-//! wanted, by plain integer arithmetic.
+//! Its input is a table of worked examples and of groups at the edges. `groups.py` wrote it, with the answers that
+//! are wanted, by plain integer arithmetic.
 #![tactic(auto)]
 
 mod lines;

@@ -8,4 +8,4 @@ use Rattle.js_numbers.proofs.marks.mark_values.Given as goal
 abbrev pub invariant-loop-x : goal.invariant-loop-x
 invariant-loop-x l =
     AddsMarks MOST_STRUCK (candidate l.m (group_of l.group))
-    (λ x. has (take l.x-index l.values) x) l.fn.listed l.listed
+    (has (take l.x-index l.values)) l.fn.listed l.listed

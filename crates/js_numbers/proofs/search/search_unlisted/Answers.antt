@@ -4,8 +4,8 @@ use Rattle.js_numbers.specs.declared.candidates.TheConstants.{MOST_STRUCK}
 use Rattle.js_numbers.specs.Group.{group_of}
 use Rattle.js_numbers.proofs.Searching.{StruckBefore, answer_among-Err, answer_among-Ok, answer_among-limit_Ok, answer_among-limit_Err, struck_more}
 use Rattle.js_numbers.proofs.MarkLaws.{struck_from_marks}
-use Rattle.js_numbers.proofs.candidates.search_unlisted.Goals as goal
-use Rattle.js_numbers.proofs.candidates.search_unlisted.Goals.{After-loop-k}
+use Rattle.js_numbers.proofs.search.search_unlisted.Goals as goal
+use Rattle.js_numbers.proofs.search.search_unlisted.Goals.{After-loop-k}
 
 pub returns-in-Err : goal.returns-in-Err
 returns-in-Err c =

@@ -3,7 +3,7 @@ use Rattle.js_numbers.specs.declared.candidates.TheConstants.{MOST_STRUCK}
 use Rattle.js_numbers.specs.Group.{group_of, has}
 use Rattle.js_numbers.specs.Outcome.{candidate}
 use Rattle.js_numbers.proofs.MarkLaws.{AreMarked-from_none}
-use Rattle.js_numbers.proofs.candidates.search.Goals as goal
+use Rattle.js_numbers.proofs.search.search.Goals as goal
 
 pub search_unlisted-requires-clause-marks : goal.search_unlisted-requires-clause-marks
 search_unlisted-requires-clause-marks c =
