@@ -19,7 +19,7 @@ use Rattle.js_numbers.proofs.CommonMultiples.{IsLcmOf-lcm_of, common_along}
 use Rattle.js_numbers.proofs.Sizes.{le_from, le_true}
 use Rattle.js_numbers.proofs.Searching.{StruckBefore}
 use Rattle.js_numbers.proofs.Deciding.{step}
-use Rattle.js_numbers.proofs.PlaceLaws.{divides, is_multiple_from, divides_place, place_above, place_below, some_place, are_places}
+use Rattle.js_numbers.proofs.PlaceLaws.{divides, is_multiple_from, divides_place, place_above, place_below, some_place, are_candidates}
 
 false_unless : (b : Bool) → (b ≡ true → ⊥) → b ≡ false
 false_unless false h = refl
@@ -94,8 +94,11 @@ find_None p (y ∷ ys) x e h = go (p y) refl (find_None p ys x)
 
 says_found : (limit m : ℕ) (g : Group) (s : List ℤ) (ss : List (List ℤ)) → g.sets ≡ s ∷ ss
     → (r : Option ℤ) → find (is_met g) s ≡ r → Says limit m g (found r)
-says_found limit m g s ss e (Some x) h =
-    (find_Some (is_met g) s x h, λ none. let wrong : s ∷ ss ≡ [] = sym e ∙ none in cc)
+says_found limit m g s ss e (Some x) h = record {
+  meets = find_Some (is_met g) s x h;
+  first = λ none. let wrong : s ∷ ss ≡ [] = sym e ∙ none in cc;
+  listed = λ t ts f. let same : s ∷ ss ≡ t ∷ ts = sym e ∙ f in let front : s ≡ t = cc in sym (ap (find (is_met g)) front) ∙ h;
+}
 says_found limit m g s ss e None h = λ x. false_unless (is_met g x) (λ met.
     let all : list_all (λ t. has t x) (s ∷ ss) ≡ true =
     subst (λ ts. list_all (λ t. has t x) ts ≡ true) e (meets_from g x met).listed in
@@ -220,15 +223,11 @@ says_at limit m g k l none within before last = elim (reach m g k) [
         let x = candidate m g k in
         let spared = not-true (is_struck g x) (sym (ap (is_last g) w.1) ∙ last) in
         let other : (k == limit) ≡ false = ne_eqb k limit (λ e. omega arith) in
-        let says : Says limit m g (Found x) = (
-          meets m g k l none w.0 spared,
-          λ e. record {
-            count = k;
-            within = within;
-            is = refl;
-            before = λ j h. struck_at m g j (before j h);
-          },
-        ) in
+        let says : Says limit m g (Found x) = record {
+          meets = meets m g k l none w.0 spared;
+          first = λ e. record { count = k; within = within; is = refl; before = λ j h. struck_at m g j (before j h) };
+          listed = λ s ss f. let wrong : [] ≡ s ∷ ss = sym none ∙ f in cc;
+        } in
         subst (λ a. Says limit m g a)
         (sym (ap (answer_at limit k) w.1 ∙ ap (λ t. if t then LimitCandidates else Found x) other)) says
   ]
@@ -294,10 +293,11 @@ pub is_right : (limit : ℕ) (g : Group) (answer : Cases) → is_ready g ≡ tru
 is_right limit g answer r e =
     let l = IsLcmOf-lcm_of g.multiples (positive_multiples g r) in
     record {
+      common = l;
       says = subst (λ a. Says limit (lcm_of g.multiples) g a)
           (sym (e ∙ step limit g (is_crossed g.low g.high) refl))
           (says limit g (is_crossed g.low g.high) refl l);
-      places = are_places (lcm_of g.multiples) g l.positive;
+      candidates = are_candidates (lcm_of g.multiples) g l.positive;
       divisors = strikes_all (lcm_of g.multiples) g.not_multiples;
     }
 

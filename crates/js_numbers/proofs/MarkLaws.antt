@@ -29,9 +29,6 @@ int_eq_from x y = (Decides-int_eq x y).0
 to_int_eq : (x y : ℤ) → x ≡ y → int_eq x y ≡ true
 to_int_eq x y = (Decides-int_eq x y).1
 
-cancel : (a b m : ℕ) → 0 < m → a * m ≡ b * m → a ≡ b
-cancel a b m p e = sym (mul-div_cancel a p) ∙ ap (λ z. z / m) e ∙ mul-div_cancel b p
-
 -- ---- steps of one size
 
 pub steps_found : (d m k : ℕ) → 0 < m → d % m ≡ 0 → (d / m == k) ≡ (k * m == d)

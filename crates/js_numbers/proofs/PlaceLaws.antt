@@ -9,19 +9,14 @@ use Prim.Native.Nat.{◌∣◌}
 use Rattle.js_numbers.specs.Multiples.{is_multiple}
 use Rattle.js_numbers.specs.Group.{Group, is_above, is_below}
 use Rattle.js_numbers.specs.Outcome.{multiple_from, alternate, place}
-use Rattle.js_numbers.specs.Correct.{ArePlaces}
-use Rattle.js_numbers.proofs.Sizes.{le_true, le_from, above_low}
+use Rattle.js_numbers.specs.Correct.{AreCandidates}
+use Rattle.js_numbers.proofs.Sizes.{abs-neg, le_true, le_from, above_low}
 
 pub divides : (m : ℕ) (x : ℤ) → is_multiple m x ≡ true → m ∣ unsigned_abs x
 divides m x h = dvd_of_mod-eq-zero m (eqb-true _ _ h)
 
 pub is_multiple_from : (m : ℕ) (x : ℤ) → m ∣ unsigned_abs x → is_multiple m x ≡ true
 is_multiple_from m x d = eq-eqb _ _ (mod-eq-zero_of_dvd m d)
-
-abs_neg : (x : ℤ) → unsigned_abs (neg_ℤ x) ≡ unsigned_abs x
-abs_neg (pos zero) = refl
-abs_neg (pos (suc n)) = refl
-abs_neg (negsuc n) = refl
 
 -- a multiple plus a multiple
 divides_sum : (m : ℕ) (a : ℤ) (d : ℕ) → m ∣ unsigned_abs a → m ∣ d → m ∣ unsigned_abs (a +ℤ pos d)
@@ -94,7 +89,7 @@ divides_alternate : (m k : ℕ) → m ∣ unsigned_abs (alternate m k)
 divides_alternate m k = go (k % 2 == 0)
   where
     go : (b : Bool) → m ∣ unsigned_abs (if b then neg_ℤ (pos (k / 2 * m)) else pos ((k / 2 + 1) * m))
-    go true = subst (λ z. m ∣ z) (sym (abs_neg (pos (k / 2 * m)))) (dvd-mul_left m (k / 2))
+    go true = subst (λ z. m ∣ z) (sym (abs-neg (pos (k / 2 * m)))) (dvd-mul_left m (k / 2))
     go false = dvd-mul_left m (k / 2 + 1)
 
 pub alternate_even : (m r : ℕ) → alternate m (2 * r) ≡ neg_ℤ (pos (r * m))
@@ -125,7 +120,7 @@ some_alternate m (negsuc n) h =
 pub divides_place : (m : ℕ) (low high : Option ℤ) (k : ℕ) → 0 < m → m ∣ unsigned_abs (place m low high k)
 divides_place m (Some low) high k p = divides_multiple_from m low k p
 divides_place m None (Some high) k p =
-    subst (λ z. m ∣ z) (sym (abs_neg (multiple_from m (neg_ℤ high) k)))
+    subst (λ z. m ∣ z) (sym (abs-neg (multiple_from m (neg_ℤ high) k)))
     (divides_multiple_from m (neg_ℤ high) k p)
 divides_place m None None k p = divides_alternate m k
 
@@ -147,13 +142,13 @@ pub some_place : (m : ℕ) (low high : Option ℤ) (x : ℤ) → 0 < m → m ∣
 some_place m (Some low) high x p h a b = some_multiple_from m low x p h (le_from low x a)
 some_place m None (Some high) x p h a b =
     let l : x ≤ℤ high = le_from x high b in
-    let (k, e) = some_multiple_from m (neg_ℤ high) (neg_ℤ x) p (subst (λ z. m ∣ z) (sym (abs_neg x)) h)
+    let (k, e) = some_multiple_from m (neg_ℤ high) (neg_ℤ x) p (subst (λ z. m ∣ z) (sym (abs-neg x)) h)
     (omega (arith, ints)) in
     (k, ap neg_ℤ e ∙ (let back : neg_ℤ (neg_ℤ x) ≡ x = omega (arith, ints) in back))
 some_place m None None x p h a b = some_alternate m x h
 
-pub are_places : (m : ℕ) (g : Group) → 0 < m → ArePlaces m g
-are_places m g p = record {
+pub are_candidates : (m : ℕ) (g : Group) → 0 < m → AreCandidates m g
+are_candidates m g p = record {
   multiple = λ k. is_multiple_from m (place m g.low g.high k) (divides_place m g.low g.high k p);
   above = λ k. place_above m g.low g.high k;
   all = λ x h a b. some_place m g.low g.high x p (divides m x h) a b;

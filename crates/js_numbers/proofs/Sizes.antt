@@ -64,7 +64,7 @@ sized-None x e = elim (cases_lt (unsigned_abs x) (2 ^ 127)) [
   | inr l ↦ l
 ]
 
-abs-neg : (x : ℤ) → unsigned_abs (neg_ℤ x) ≡ unsigned_abs x
+pub abs-neg : (x : ℤ) → unsigned_abs (neg_ℤ x) ≡ unsigned_abs x
 abs-neg (pos zero) = refl
 abs-neg (pos (suc n)) = refl
 abs-neg (negsuc n) = refl
@@ -74,20 +74,13 @@ sized-neg x y e =
     let f = sized-Some x y e in
     sized-small (neg_ℤ x) (omega (arith, abs-neg x, f.1)) ∙ ap (λ z. Some (neg_ℤ z)) f.0
 
-pub sized_neg_none : (x : ℤ) → sized x ≡ None → sized (neg_ℤ x) ≡ None
-sized_neg_none x e = sized-large (neg_ℤ x) (omega (arith, abs-neg x, sized-None x e))
-
 -- ---- candidates
 
+-- the code finds a multiple downwards as the opposite of one upwards
 pub opposite_is : (y x high : ℤ) (m k : ℕ) → x ≡ neg_ℤ high → sized (multiple_from m x k) ≡ Some y
     → sized (neg_ℤ (multiple_from m (neg_ℤ high) k)) ≡ Some (neg_ℤ y)
 opposite_is y x high m k e h = sized-neg (multiple_from m (neg_ℤ high) k) y
     (subst (λ z. sized (multiple_from m z k) ≡ Some y) e h)
-
-pub opposite_none : (x high : ℤ) (m k : ℕ) → x ≡ neg_ℤ high → sized (multiple_from m x k) ≡ None
-    → sized (neg_ℤ (multiple_from m (neg_ℤ high) k)) ≡ None
-opposite_none x high m k e h = sized_neg_none (multiple_from m (neg_ℤ high) k)
-    (subst (λ z. sized (multiple_from m z k) ≡ None) e h)
 
 in_reach_sized : (b : Bool) (p : ℤ) → unsigned_abs p < 2 ^ 127
     → in_reach b p ≡ (if b then Ok p else Err Empty)

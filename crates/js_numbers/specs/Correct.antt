@@ -1,9 +1,9 @@
 -- What the answers say of whole numbers of any size: the theorem of this crate.
-use Rattle.std.specs.Prelude.{◌≡◌, ℕ, ◌%◌, ◌^◌, ◌<◌, ◌≤◌, ◌==◌, ◌⊎◌, ◌↔◌, List, [], true, false, ℤ}
-use Rattle.std.specs.List.{list_any}
+use Rattle.std.specs.Prelude.{◌≡◌, ℕ, ◌%◌, ◌^◌, ◌<◌, ◌≤◌, ◌==◌, ◌⊎◌, ◌↔◌, List, [], ◌∷◌, Some, true, false, ℤ}
+use Rattle.std.specs.List.{find, list_any}
 use Rattle.js_numbers.specs.declared.group.Cases.{Cases}
 use Rattle.js_numbers.specs.declared.group.Cases.TheVariants.{Found, Empty, LimitMultiples, LimitCandidates}
-use Rattle.js_numbers.specs.Multiples.{is_multiple, lcm_of}
+use Rattle.js_numbers.specs.Multiples.{is_multiple, lcm_of, IsLcmOf}
 use Rattle.js_numbers.specs.Group.{Group, is_above, is_below, is_met, is_struck}
 use Rattle.js_numbers.specs.Outcome.{candidate, is_over}
 
@@ -29,17 +29,22 @@ pub record IsFirst (limit m : ℕ) (g : Group) (x : ℤ) : Type 0 where
   pub is : x ≡ candidate m g count
   pub before : (j : ℕ) → j < count → IsStruckAt m g j
 
--- what an answer says, where at most the given number of candidates may be struck and m is the least common
--- multiple
+-- x meets the group; it is the first candidate to do so, or the first value of the first set that is asked for
+pub record IsFound (limit m : ℕ) (g : Group) (x : ℤ) : Type 0 where
+  pub meets : is_met g x ≡ true
+  pub first : g.sets ≡ [] → IsFirst limit m g x
+  pub listed : (s : List ℤ) (ss : List (List ℤ)) → g.sets ≡ s ∷ ss → find (is_met g) s ≡ Some x
+
+-- what an answer says, where at most so many candidates may be struck and m is the least common multiple
 abbrev pub Says : ℕ → ℕ → Group → Cases → Type 0
-Says limit m g (Found x) = (is_met g x ≡ true) × (g.sets ≡ [] → IsFirst limit m g x)
+Says limit m g (Found x) = IsFound limit m g x
 Says limit m g Empty = (x : ℤ) → is_met g x ≡ false
 Says limit m g LimitMultiples =
     (2 ^ 127 ≤ m) ⊎ ((k : ℕ) × (k ≤ limit) × ((j : ℕ) → j < k → IsStruckAt m g j) × IsTooLarge m g k)
 Says limit m g LimitCandidates = ((j : ℕ) → j < limit → IsStruckAt m g j) × IsTried m g limit
 
 -- the candidates are the multiples of m within the bounds
-pub record ArePlaces (m : ℕ) (g : Group) : Type 0 where
+pub record AreCandidates (m : ℕ) (g : Group) : Type 0 where
   pub multiple : (k : ℕ) → is_multiple m (candidate m g k) ≡ true
   pub above : (k : ℕ) → is_above g.low (candidate m g k) ≡ true
   pub all : (x : ℤ) → is_multiple m x ≡ true → is_above g.low x ≡ true → is_below g.high x ≡ true
@@ -53,10 +58,11 @@ StrikesAll m bs =
 
 -- the theorem of this crate
 pub record IsRight (limit : ℕ) (g : Group) (answer : Cases) : Type 0 where
-  -- a number that is found meets the group and is the first candidate to do so; where there is none, none
-  -- meets it
+  -- the definition of the least common multiple, by a search, has the meaning by divisors
+  pub common : IsLcmOf g.multiples (lcm_of g.multiples)
+  -- a number that is found is the first to meet the group; where there is none to find, no whole number meets it
   pub says : Says limit (lcm_of g.multiples) g answer
   -- no multiple within the bounds is left out
-  pub places : ArePlaces (lcm_of g.multiples) g
+  pub candidates : AreCandidates (lcm_of g.multiples) g
   -- groups without an end are empty where a divisor strikes them all
   pub divisors : StrikesAll (lcm_of g.multiples) g.not_multiples

@@ -25,10 +25,12 @@ group_of g = record {
   not_sets = g.not_sets.now;
 }
 
+-- x isn't below the lower bound, where there is one
 abbrev pub is_above : Option ℤ → ℤ → Bool
 is_above None x = true
 is_above (Some low) x = int_le low x
 
+-- x isn't above the upper bound, where there is one
 abbrev pub is_below : Option ℤ → ℤ → Bool
 is_below None x = true
 is_below (Some high) x = int_le x high
@@ -57,6 +59,7 @@ is_crossed (Some low) (Some high) = int_lt high low
 is_crossed (Some low) None = false
 is_crossed None high = false
 
+-- a bound is at most 2^64 in size
 abbrev pub is_near : Option ℤ → Bool
 is_near None = true
 is_near (Some n) = nat_le (unsigned_abs n) (2 ^ 64)

@@ -16,6 +16,7 @@ unfoldable pub least_below : (ℕ → Bool) → ℕ → ℕ
 least_below test zero = 0
 least_below test (suc n) = elim (test 0) [ true ↦ 0 | false ↦ suc (least_below (λ k. test (suc k)) n) ]
 
+-- the product of all the numbers, 1 without any
 abbrev pub product_of : List ℕ → ℕ
 product_of [] = 1
 product_of (m ∷ ms) = m * product_of ms

@@ -1,5 +1,5 @@
--- The answer that is owed for a group: which number is found first, or that there is none, or which limit was
--- passed.
+-- The answer that is owed for a group: the number that is found first, that there is none, or the limit that
+-- was passed.
 use Rattle.std.specs.Prelude.{ℕ, ◌+◌, ◌*◌, ◌/◌, ◌%◌, ◌^◌, ◌==◌, nat_le, List, [], ◌∷◌, Bool, true, not, Option, Some, None, Result, Ok, Err, ℤ, pos, neg_ℤ, ◌+ℤ◌, unsigned_abs, if◌then◌else◌}
 use Rattle.std.specs.List.{list_any, find}
 use Rattle.std.specs.Int.{int_rem_euclid}
@@ -17,8 +17,7 @@ abbrev pub alternate : ℕ → ℕ → ℤ
 alternate m k = if k % 2 == 0 then neg_ℤ (pos (k / 2 * m)) else pos ((k / 2 + 1) * m)
 
 -- the k-th candidate among the multiples of m: upwards from the lower bound; without one downwards from the
--- upper bound;
--- without both by size, the positive one first. The upper bound alone may end them
+-- upper bound; without both by size, the positive one first. The upper bound alone may end them
 abbrev pub place : ℕ → Option ℤ → Option ℤ → ℕ → ℤ
 place m (Some low) high k = multiple_from m low k
 place m None (Some high) k = neg_ℤ (multiple_from m (neg_ℤ high) k)
@@ -36,6 +35,7 @@ is_over x = nat_le (2 ^ 127) (unsigned_abs x)
 abbrev pub sized : ℤ → Option ℤ
 sized x = if is_over x then None else Some x
 
+-- a candidate x, or why there is none to try
 abbrev pub in_reach : Bool → ℤ → Result ℤ Cases
 in_reach remains x = if remains then (if is_over x then Err LimitMultiples else Ok x) else Err Empty
 
@@ -67,13 +67,13 @@ struck_before limit m g = least_below (λ k. is_last g (reached m g k)) limit
 abbrev pub answer_among : ℕ → ℕ → Group → Cases
 answer_among limit m g = answer_at limit (struck_before limit m g) (reached m g (struck_before limit m g))
 
--- the answer among the multiples of m, or without a look at them: they are too large, or all of them are
--- struck
+-- the answer among the multiples of m, or without a look at them: where they are too large, or all are struck
 abbrev pub answer_of_multiples : ℕ → ℕ → Group → Cases
 answer_of_multiples limit m g =
     if nat_le (2 ^ 127) m then LimitMultiples
     else (if list_any (λ b. m % b == 0) g.not_multiples then Empty else answer_among limit m g)
 
+-- the first value that meets the group, where there is one
 abbrev pub found : Option ℤ → Cases
 found (Some x) = Found x
 found None = Empty
