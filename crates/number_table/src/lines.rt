@@ -14,6 +14,9 @@ use std::alloc::{AllocError, AllocFailed, Global};
 use std::num::ParseIntError;
 use std::str::SplitWhitespace;
 
+/// The greatest size of a bound.
+const FARTHEST: u128 = 0x1_0000_0000_0000_0000;
+
 /// Why a line has no answer.
 #[derive(Debug, Drop)]
 pub enum LineFault {
@@ -79,7 +82,7 @@ fn is_near(bound: Option<i128>) -> bool
     ensures { result ≡ is_near bound }
 {
     match bound {
-        Some(n) => n.unsigned_abs() <= 1 << 64,
+        Some(n) => n.unsigned_abs() <= FARTHEST,
         None => true,
     }
 }
@@ -124,10 +127,20 @@ fn read_sets(alloc: Global, word: &str) -> Result<Vec<NumList>, LineFault> {
 fn read_values(alloc: Global, word: &str) -> Result<Vec<i128>, LineFault> {
     let mut values = Vec::new(alloc);
     for part in word.split(',') {
-        let (first, last) = part.split_once("..").unwrap_or((part, part));
-        for value in first.parse::<i128>()?..=last.parse::<i128>()? {
+        let (first, last) = read_range(part)?;
+        for value in first..=last {
             values.push(value)?;
         }
     }
     Ok(values)
+}
+
+fn read_range(part: &str) -> Result<(i128, i128), LineFault> {
+    match part.split_once("..") {
+        Some((first, last)) => Ok((first.parse::<i128>()?, last.parse::<i128>()?)),
+        None => {
+            let value = part.parse::<i128>()?;
+            Ok((value, value))
+        }
+    }
 }

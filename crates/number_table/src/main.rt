@@ -9,10 +9,9 @@ mod lines;
 use js_numbers::Cases;
 use lines::answer;
 use std::io;
-use std::io::{BufRead, BufReader};
 
 fn main(rt: HostRuntime) -> io::Result<()> {
-    for line in BufReader::new(rt.alloc(), rt.reader())?.lines(rt.alloc()) {
+    for line in rt.lines(rt.alloc()) {
         match answer(rt.alloc(), line?.as_str()) {
             Ok(Cases::Found(x)) => println!(rt; "found {x}")?,
             Ok(Cases::Empty) => println!(rt; "empty")?,
