@@ -1,5 +1,5 @@
 -- The lines of a certificate, and the text that each is written as.
-use Rattle.std.specs.Prelude.{◌≡◌, ℕ, ◌<◌, ◌^◌, List, [], ◌∷◌, ◌++◌, flat_map, Bool, true, ◌&&◌, nat_lt, codes}
+use Rattle.std.specs.Prelude.{◌≡◌, ℕ, ◌<◌, ◌^◌, List, [], ◌∷◌, ◌++◌, flat_map, Bool, true, ◌&&◌, nat_lt, nat_le, length, codes}
 use Rattle.std.specs.Fmt.{decimal}
 use Rattle.documents.specs.Tests.{every}
 use Rattle.documents.specs.Kind.{Kind, Null, Boolean, Number, Text, Array, Object}
@@ -65,7 +65,12 @@ is_line (Clash p) = is_small p
 is_line (OfKind x) = is_small (position_of x)
 is_line _ = true
 
+-- without its line feed a line has at most 1048576 bytes
+abbrev pub is_short : Line → Bool
+is_short l = nat_le (length (words_text l)) 1048576
+
 -- the bytes are in the grammar, as the text of these lines: each line has one spelling
 pub record IsText (bytes : List ℕ) (ls : List Line) : Type 0 where
   pub small : every is_line ls ≡ true
+  pub short : every is_short ls ≡ true
   pub text : lines_text ls ≡ bytes

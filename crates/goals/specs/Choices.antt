@@ -12,7 +12,7 @@ plus_choices t False = Some []
 plus_choices t (Not q) = Some ((Minus q ∷ []) ∷ [])
 plus_choices t (All qs) = Some (map Plus qs ∷ [])
 plus_choices t (Any qs) = Some (map (λ q. Plus q ∷ []) qs)
-plus_choices t _ = None
+plus_choices t (Types ts) = None
 
 -- the same of a position that is not to hold
 abbrev pub minus_choices : Kind → Position → Option (List (List Signed))
@@ -21,7 +21,7 @@ minus_choices t False = Some ([] ∷ [])
 minus_choices t (Not q) = Some ((Plus q ∷ []) ∷ [])
 minus_choices t (All qs) = Some (map (λ q. Minus q ∷ []) qs)
 minus_choices t (Any qs) = Some (map Minus qs ∷ [])
-minus_choices t _ = None
+minus_choices t (Types ts) = None
 
 abbrev pub choices : List Position → Kind → Signed → Option (List (List Signed))
 choices T t (Plus p) = plus_choices t (position_at T p)
@@ -29,12 +29,20 @@ choices T t (Minus p) = minus_choices t (position_at T p)
 
 -- a literal that no document of the kind meets
 abbrev pub plus_wrong : Kind → Position → Bool
+plus_wrong t True = false
+plus_wrong t False = false
+plus_wrong t (Not q) = false
+plus_wrong t (All qs) = false
+plus_wrong t (Any qs) = false
 plus_wrong t (Types ts) = not (some (same_kind t) ts)
-plus_wrong t _ = false
 
 abbrev pub minus_wrong : Kind → Position → Bool
+minus_wrong t True = false
+minus_wrong t False = false
+minus_wrong t (Not q) = false
+minus_wrong t (All qs) = false
+minus_wrong t (Any qs) = false
 minus_wrong t (Types ts) = some (same_kind t) ts
-minus_wrong t _ = false
 
 abbrev pub is_wrong : List Position → Kind → Signed → Bool
 is_wrong T t (Plus p) = plus_wrong t (position_at T p)

@@ -48,7 +48,8 @@ abbrev pub steps_within : List Position → Kind → ℕ → List Signed → Lis
 steps_within T t zero S = []
 steps_within T t (suc n) S = steps_from (steps_within T t n) S (next T t S)
 
--- the steps of the tree of a set, in pre-order. Each rule adds a signed position, so no path is longer than twice the table
+-- the steps of the tree of a set, in pre-order. In a table each rule adds a signed position that the set lacks, so no
+-- path is longer than twice the table
 unfoldable pub steps : List Position → Kind → List Signed → List Step
 steps T t S = steps_within T t (suc (2 * length T)) S
 

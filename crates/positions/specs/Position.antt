@@ -11,7 +11,7 @@ pub data Position : Type 0 where
   Any : List ℕ → Position
   Types : List Kind → Position
 
--- the position at a place; a place past the end is never named
+-- the position at a place; a table names no place past its end
 abbrev pub position_at : List Position → ℕ → Position
 position_at [] k = False
 position_at (x ∷ xs) zero = x
@@ -19,10 +19,12 @@ position_at (x ∷ xs) (suc k) = position_at xs k
 
 -- the positions that speak of the same document
 abbrev pub in_place : Position → List ℕ
+in_place True = []
+in_place False = []
 in_place (Not q) = q ∷ []
 in_place (All qs) = qs
 in_place (Any qs) = qs
-in_place _ = []
+in_place (Types ts) = []
 
 -- each position that is named is in a table of n positions
 abbrev pub names_below : ℕ → Position → Bool

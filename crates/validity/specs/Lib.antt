@@ -1,2 +1,2 @@
--- What a reader must believe: validity by draft-06, keyword by keyword, and inclusion.
+-- What a reader must believe: validity by the keywords type, allOf, anyOf and not of draft-06, and inclusion.
 pub mod Validity

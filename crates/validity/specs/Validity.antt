@@ -1,4 +1,6 @@
 -- When a document is valid for a schema, read off the schema's JSON value (JSON Schema validation, draft-06).
+-- The keywords type, allOf, anyOf and not are here, and every other member asks nothing; so a program has to refuse a
+-- schema with a further keyword of draft-06, or with a reference.
 use Rattle.std.specs.Prelude.{◌≡◌, ℕ, suc, List, [], ◌∷◌, Bool, true, false, ◌&&◌, ◌||◌, not, Option, Some, None, codes}
 use Rattle.documents.specs.Tests.{every, some, same_word}
 use Rattle.documents.specs.Kind.{Kind, Null, Boolean, Number, Text, Array, Object}
@@ -38,10 +40,10 @@ where_there (Some v) p = p v
 abbrev pub asks : (root : Json) (here : Json → Bool) (below : Json → Document → Bool) → Json → Document → Bool
 asks root here below (boolean b) J = b
 asks root here below (object ms) J =
-    where_there (lookup (codes "type") ms) (type_names (kind_of J))         -- section 6.25
-    && where_there (lookup (codes "allOf") ms) (λ v. every here (listed v)) -- section 6.26
+    where_there (lookup (codes "type") ms) (type_names (kind_of J))  -- section 6.25
+    && where_there (lookup (codes "allOf") ms) (λ v. every here (listed v))  -- section 6.26
     && where_there (lookup (codes "anyOf") ms) (λ v. some here (listed v))  -- section 6.27
-    && where_there (lookup (codes "not") ms) (λ v. not (here v))            -- section 6.29
+    && where_there (lookup (codes "not") ms) (λ v. not (here v))  -- section 6.29
 asks root here below _ J = false
 
 -- the document is valid for the schema that the file's value is. As many steps in place as the file has values are

@@ -1,0 +1,3 @@
+pub mod GoodSound
+pub mod Written
+mod Examples

@@ -1,0 +1,6 @@
+pub mod Tables
+pub mod Orders
+pub mod Sets
+pub mod Sorting
+pub mod Closeness
+pub mod Contained

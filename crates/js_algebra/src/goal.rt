@@ -1,0 +1,173 @@
+//! Goals: rising lists of signed positions without a clash, formed from any list.
+//!
+//! A goal stands for its list; that it rises holds of every value. Forming one follows each signed position along its
+//! references, sorts, and looks for a clash at neighbours, so its cost is that of the sort.
+
+ghost use Rattle.std.specs.Prelude.{◌≡◌, map, length, IfOk, IfSome, true, List, [], option_map};
+ghost use Rattle.goals.specs.Signed.{is_rising, add_all};
+ghost use Rattle.goals.specs.Goal as G;
+ghost use Rattle.js_algebra.specs.View.{signed_view, is_in_table, are_in_table};
+ghost use Rattle.js_algebra.specs.Close.{clashes_nearby, begins_with};
+
+use crate::node::Node;
+use crate::signed::Signed;
+use crate::table::Core;
+use js_doc::Memory;
+use std::alloc::Global;
+use std::marker::Model;
+
+/// A set of signed positions, strictly rising by position with plus before minus.
+#[derive(Drop)]
+pub struct Goal {
+    items: Vec<Signed>,
+}
+
+impl Model for Goal {
+    ghost use Rattle.std.specs.Prelude.{◌≡◌, List, map, true};
+    ghost use Rattle.goals.specs.Signed.{Signed, is_rising};
+
+    ghost Value = { List Signed };
+
+    ghost use Rattle.js_algebra.specs.View.{signed_view};
+
+    ghost view = { λ g. map signed_view g.items.items };
+
+    ghost invariant = { λ g. is_rising (map signed_view g.items.items) ≡ true };
+}
+
+impl Goal {
+    pub fn as_slice(&self) -> &[Signed]
+        ensures list { map signed_view result.now ≡ self.now }
+        ensures rising { is_rising self.now ≡ true }
+    {
+        self.items.as_slice()
+    }
+}
+
+/// The goal of a list: each signed position followed along its references, sorted, without repeats and without what
+/// every document meets. None exactly where no document meets one of them, or two are opposite.
+pub fn form(alloc: Global, core: &Core, list: &[Signed]) -> Result<Option<Goal>, Memory>
+    requires { are_in_table core.now.positions (map signed_view list.now) ≡ true }
+    ensures goal { IfOk result (λ o. o ≡ G.form core.now.positions (map signed_view list.now)) }
+    ensures in_table { IfOk result (λ o. IfSome o (λ g. are_in_table core.now.positions g ≡ true)) }
+{
+    let found = core.followed(alloc, list)?;
+    let items = sorted(found);
+    if core.clashes_nearby(items.as_slice()) {
+        return Ok(None);
+    }
+    Ok(Some(Goal { items }))
+}
+
+/// The list in rising order, each signed position once.
+fn sorted(mut items: Vec<Signed>) -> Vec<Signed>
+    ensures { map signed_view result.items ≡ add_all (map signed_view items.items) [] }
+{
+    items.sort_unstable_by_key(|x| x.order());
+    items.dedup();
+    items
+}
+
+impl Core {
+    /// Whether every document meets `x`.
+    fn is_always(&self, x: Signed) -> bool
+        requires { is_in_table self.now.positions (signed_view x) ≡ true }
+        ensures { result ≡ G.is_always self.now.positions (signed_view x) }
+    {
+        match self.node(x.pos) {
+            Node::True => x.plus,
+            Node::False => !x.plus,
+            _ => false,
+        }
+    }
+
+    /// The signed position that `x` stands for, where it is a reference.
+    fn reference(&self, x: Signed) -> Option<Signed>
+        requires { is_in_table self.now.positions (signed_view x) ≡ true }
+        ensures value { option_map signed_view result ≡ G.reference self.now.positions (signed_view x) }
+        ensures in_table { IfSome result (λ y. is_in_table self.now.positions (signed_view y) ≡ true) }
+    {
+        match self.node(x.pos) {
+            Node::Not(q) => Some(Signed {
+                pos: *q,
+                plus: !x.plus,
+            }),
+            _ => None,
+        }
+    }
+
+    /// The end of the references that start at `x`: ranks fall along them, so there are fewer than positions.
+    fn follow(&self, x: Signed) -> Signed
+        requires { is_in_table self.now.positions (signed_view x) ≡ true }
+        ensures value { signed_view result ≡ G.follow self.now.positions (signed_view x) }
+        ensures in_table { is_in_table self.now.positions (signed_view result) ≡ true }
+    {
+        let mut at = x;
+        for _ in 0..self.len() {
+            match self.reference(at) {
+                Some(next) => at = next,
+                None => return at,
+            }
+        }
+        at
+    }
+
+    fn followed(&self, alloc: Global, list: &[Signed]) -> Result<Vec<Signed>, Memory>
+        requires { are_in_table self.now.positions (map signed_view list.now) ≡ true }
+        ensures value { IfOk result (λ v. map signed_view v.items ≡ G.followed self.now.positions (map signed_view list.now)) }
+        ensures in_table { IfOk result (λ v. are_in_table self.now.positions (map signed_view v.items) ≡ true) }
+    {
+        let mut found = Vec::with_capacity(alloc, list.len())?;
+        for x in list {
+            let y = self.follow(*x);
+            if !self.is_always(y) {
+                found.push(y)?;
+            }
+        }
+        Ok(found)
+    }
+
+    /// Whether a rising list clashes: opposites stand side by side in it.
+    fn clashes_nearby(&self, items: &[Signed]) -> bool
+        requires { are_in_table self.now.positions (map signed_view items.now) ≡ true }
+        ensures { result ≡ clashes_nearby self.now.positions (map signed_view items.now) }
+    {
+        for (i, x) in items.iter().enumerate() {
+            let opposite = x.opposite();
+            if self.is_always(opposite) || begins_with(&items[i + 1..], opposite) {
+                return true;
+            }
+        }
+        false
+    }
+}
+
+fn begins_with(items: &[Signed], x: Signed) -> bool
+    ensures { result ≡ begins_with (signed_view x) (map signed_view items.now) }
+{
+    match items.first() {
+        Some(y) => *y == x,
+        None => false,
+    }
+}
+
+/// Whether each signed position of the small goal is one of the big goal: one pass over both, without memory.
+pub fn contains(big: &Goal, small: &Goal) -> bool
+    ensures { result ≡ G.contains big.now small.now }
+{
+    let mut left = small.as_slice();
+    let all = big.as_slice();
+    for x in all {
+        match left {
+            [] => return true,
+            [y, rest @ ..] => {
+                if *x == *y {
+                    left = rest;
+                } else if y.order() < x.order() {
+                    return false;
+                }
+            }
+        }
+    }
+    left.is_empty()
+}

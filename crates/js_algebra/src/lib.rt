@@ -1,0 +1,23 @@
+//! Tables of core positions, goals over them, and the choices of a signed position.
+//!
+//! Contracts see a [`Core`] as its positions with their ranks, a [`Goal`] as its rising list of signed positions, and
+//! every other list as a list. Forming a goal costs what sorting its list costs; the other calls are linear in what
+//! they read. The search, the trees and the certificates stand on this crate.
+#![tactic(auto)]
+
+mod goal;
+mod lists;
+mod node;
+mod rules;
+mod signed;
+mod table;
+
+pub use goal::{Goal, contains, form};
+pub use lists::{Choices, KindList, NodeList, PosList, RankList, SignedList};
+pub use node::{JsonKind, Node, Pos};
+pub use rules::{Rule, rule_choices};
+pub use signed::Signed;
+pub use table::Core;
+
+#[cfg(test)]
+mod tests;

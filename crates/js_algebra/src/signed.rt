@@ -1,0 +1,47 @@
+//! Signed positions: conditions that are to hold, or not to hold.
+
+ghost use Rattle.std.specs.Prelude.{◌≡◌, ◌<◌, ◌^◌};
+
+use crate::node::Pos;
+
+/// A position that is to hold (`plus`), or not to hold.
+#[derive(Clone, Copy, PartialEq, Eq, Debug)]
+pub struct Signed {
+    pub pos: Pos,
+    pub plus: bool,
+}
+
+impl Signed {
+    ghost use Rattle.goals.specs.Signed as S;
+    ghost use Rattle.js_algebra.specs.View.{signed_view};
+    ghost use Rattle.js_algebra.specs.Order.{order_of};
+
+    pub fn plus(pos: Pos) -> Signed
+        ensures { signed_view result ≡ S.Plus pos.0 }
+    {
+        Signed { pos, plus: true }
+    }
+
+    pub fn minus(pos: Pos) -> Signed
+        ensures { signed_view result ≡ S.Minus pos.0 }
+    {
+        Signed { pos, plus: false }
+    }
+
+    pub fn opposite(self) -> Signed
+        ensures { signed_view result ≡ S.opposite (signed_view self) }
+    {
+        Signed {
+            pos: self.pos,
+            plus: !self.plus,
+        }
+    }
+
+    /// Its number where all signed positions are counted in their order, plus before minus: `+0`, `-0`, `+1`, ...
+    pub fn order(self) -> u64
+        ensures value { result ≡ order_of (signed_view self) }
+        ensures bound { result < 2 ^ 33 }
+    {
+        2 * u64::from(self.pos.0) + u64::from(!self.plus)
+    }
+}

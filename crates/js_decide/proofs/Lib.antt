@@ -1,0 +1,3 @@
+pub mod VerdictLaws
+pub mod KnownSoFar
+pub mod KindByKind

@@ -1,0 +1,11 @@
+pub mod OnTexts
+mod Examples
+pub mod WordOrder
+pub mod StringTexts
+pub mod TokenTexts
+pub mod TreeTexts
+pub mod DataTexts
+pub mod ValueLemmas
+pub mod Conversion
+pub mod MembersLemmas
+pub mod PointerLemmas

@@ -1,0 +1,19 @@
+//! JSON texts as values, and places in them.
+//!
+//! `specs/Lib.antt` lists what a reader must believe: which value a text has, that it is well formed, and how
+//! a pointer is printed. Each call answers exactly that, or that memory was refused. What reads schemas and
+//! documents stands on this crate.
+#![tactic(auto)]
+
+mod convert;
+mod fault;
+mod members;
+mod pointer;
+mod read;
+#[cfg(test)]
+mod tests;
+
+pub use fault::JsonFault;
+pub use members::member;
+pub use pointer::Pointer;
+pub use read::read_json;

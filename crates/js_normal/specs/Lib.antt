@@ -1,0 +1,2 @@
+-- Used inside: which positions can be moved up.
+pub mod Room

@@ -1,0 +1,41 @@
+//! A shelf: where files are read from, one at a time.
+
+ghost use Rattle.std.specs.Prelude.{◌≡◌, ℕ, List, Option, OnOk, OnErr, is_some};
+ghost use Rattle.std.specs.Io.{ReadsAtMost};
+ghost use Rattle.std.specs.Io.KnownBytes.{ReadConsumes};
+ghost use Rattle.js_outside.specs.Counts.{Rose, CountsBegin};
+ghost use Rattle.js_outside.specs.Told.{Files, FileIsLeft, NothingIsLeft};
+
+use crate::faults::{BeginFault, Failed};
+
+/// A source of files. It may tell its files, and then clauses say what a read gives; the real file system tells
+/// nothing. A file is begun by its name and read from its front.
+pub trait Shelf {
+    // The files, by the UTF-8 bytes of their names, where they are told.
+    ghost told: { Self → Option Files };
+
+    // What is left of the file that was begun, where files are told.
+    ghost left: { Self → Option (List ℕ) };
+
+    // How many faults there were. The count stands still at its last value.
+    ghost faults: { Self → ℕ };
+
+    /// Begins a file. After a fault no file is begun.
+    fn begin(&mut self, name: &str) -> Result<(), BeginFault>
+        ensures told { told self.new ≡ told self.old }
+        ensures begun { OnOk result (FileIsLeft (told self.old) name.now (left self.new)) }
+        ensures unbegun { OnErr result (NothingIsLeft (told self.old) (left self.new)) }
+        ensures counted { CountsBegin result (faults self.old) (faults self.new) };
+
+    /// Reads bytes of the file that was begun into the front of `into`, and answers how many. The answer 0 for a
+    /// buffer that isn't empty means the end. With no file begun there is nothing to read.
+    fn read(&mut self, into: &mut [u8]) -> Result<usize, Failed>
+        ensures told { told self.new ≡ told self.old }
+        ensures within { ReadsAtMost result into.new }
+        ensures taken { ReadConsumes (left self.old) (left self.new) result into.new }
+        ensures counted { OnOk result (faults self.new ≡ faults self.old) }
+        ensures failed { OnErr result (Rose (faults self.old) (faults self.new)) };
+
+    // What is left is told exactly where the files are.
+    ghost both_told: { (s : Self) → is_some (left s) ≡ is_some (told s) };
+}

@@ -1,0 +1,3 @@
+pub mod CommandWords
+pub mod Includes
+pub mod MeaningLaws

@@ -1,0 +1,40 @@
+-- What a report that was prepared says of the shelf's files and of its count of faults.
+use Rattle.std.specs.Prelude.{◌≡◌, ℕ, List, [], ◌∷◌, ◌++◌, Bool, true, false, codes, Option, Some, None}
+use Rattle.js_outside.specs.Counts.{Rose}
+use Rattle.js_outside.specs.Told.{Files}
+use Rattle.js_top.specs.Command.{command}
+use Rattle.js_top.specs.Report.{Report, printed, of_command, IsReport}
+use Rattle.js_top.specs.declared.status.Status.{Status}
+use Rattle.js_top.specs.declared.status.Status.TheVariants as S
+use Rattle.js_top.specs.declared.prepare.Prepared.{Prepared}
+use Rattle.js_top.specs.declared.prepare.Prepared.TheVariants as P
+
+abbrev pub report_of : Prepared → Report
+report_of P.Usage = printed (codes "usage") S.Usage
+report_of P.Unread = printed (codes "readfault") S.ReadFault
+report_of (P.Made bytes status) = record { text = bytes.items; status = status }
+
+-- the statuses of words that are a command and of files that could be read
+abbrev pub is_answer : Status → Bool
+is_answer S.Done = true
+is_answer S.Other = true
+is_answer S.Refused = true
+is_answer S.Limit = true
+is_answer _ = false
+
+abbrev pub PreparedSays : Option Files → List (List ℕ) → ℕ → ℕ → Prepared → Type 0
+PreparedSays told words before after P.Usage = (after ≡ before) × (command words ≡ None)
+PreparedSays told words before after P.Unread = Rose before after
+PreparedSays told words before after (P.Made bytes status) =
+    (after ≡ before) × (is_answer status ≡ true) × IsReport told words (record { text = bytes.items; status = status })
+
+-- the same of `include` with two names
+abbrev pub IsReportOf : Option Files → List ℕ → List ℕ → Report → Type 0
+IsReportOf None a b r = Unit {0}
+IsReportOf (Some files) a b r = of_command files (Some (a, b)) ≡ r
+
+abbrev pub IncludeSays : Option Files → List ℕ → List ℕ → ℕ → ℕ → Prepared → Type 0
+IncludeSays told a b before after P.Usage = ⊥
+IncludeSays told a b before after P.Unread = Rose before after
+IncludeSays told a b before after (P.Made bytes status) =
+    (after ≡ before) × (is_answer status ≡ true) × IsReportOf told a b (record { text = bytes.items; status = status })

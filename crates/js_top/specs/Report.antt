@@ -1,0 +1,63 @@
+-- The report of a command over files: what is printed, and the status.
+use Rattle.std.specs.Prelude.{◌≡◌, ℕ, List, [], ◌∷◌, ◌++◌, length, Option, Some, None, codes, encode_utf8_all}
+use Rattle.documents.specs.Kind.{Kind, Null, Boolean, Number, Text, Array, Object}
+use Rattle.documents.specs.Json.{Json}
+use Rattle.position_laws.specs.Join.{joined}
+use Rattle.certificates.specs.Line.{signed_list_text, lines_text}
+use Rattle.js_forms.specs.Table.{table_of}
+use Rattle.js_decide.specs.Verdict.{Verdict, Document, Limit, Certificate, verdict}
+use Rattle.js_top.specs.Command.{command}
+use Rattle.js_top.specs.Reading.{Reading, Refused, Read, reading}
+use Rattle.js_top.specs.declared.status.Status.{Status}
+use Rattle.js_top.specs.declared.status.Status.TheVariants as S
+
+pub record Report : Type 0 where
+  pub text : List ℕ
+  pub status : Status
+
+abbrev pub line : List ℕ → List ℕ
+line words = words ++ 10 ∷ []
+
+abbrev pub printed : List ℕ → Status → Report
+printed words status = record { text = line words; status = status }
+
+-- the shortest document of a kind
+abbrev pub sample_text : Kind → List ℕ
+sample_text Null = codes "null"
+sample_text Boolean = codes "false"
+sample_text Number = codes "0"
+sample_text Text = codes "\"\""
+sample_text Array = codes "[]"
+sample_text Object = codes "{}"
+
+abbrev pub verdict_report : Verdict → Report
+verdict_report (Document t) = record { text = line (codes "document") ++ line (sample_text t); status = S.Other }
+verdict_report (Limit g) = printed (codes "limit branches" ++ signed_list_text g) S.Limit
+verdict_report (Certificate ls) = record { text = lines_text ls; status = S.Done }
+
+-- position 0 of each table is its schema; the second table stands after the first
+abbrev pub include_report : Json → Json → Report
+include_report a b = verdict_report (verdict (joined (table_of a) (table_of b)) 0 (length (table_of a)))
+
+abbrev pub of_reading : List ℕ → Reading → (Json → Report) → Report
+of_reading role (Refused words) more = printed (codes "refused " ++ role ++ 32 ∷ words) S.Refused
+of_reading role (Read j) more = more j
+
+-- a file that isn't there can't be read
+abbrev pub of_file : List ℕ → Option (List ℕ) → (Json → Report) → Report
+of_file role None more = printed (codes "readfault") S.ReadFault
+of_file role (Some bytes) more = of_reading role (reading bytes) more
+
+-- the second file is looked at only where the first is read
+abbrev pub of_command : (List ℕ → Option (List ℕ)) → Option (List ℕ × List ℕ) → Report
+of_command files None = printed (codes "usage") S.Usage
+of_command files (Some (a, b)) =
+    of_file (codes "first") (files (encode_utf8_all a)) (λ x. of_file (codes "second") (files (encode_utf8_all b)) (λ y. include_report x y))
+
+abbrev pub report : (List ℕ → Option (List ℕ)) → List (List ℕ) → Report
+report files words = of_command files (command words)
+
+-- what is printed and the status are the report, where the files are told
+abbrev pub IsReport : Option (List ℕ → Option (List ℕ)) → List (List ℕ) → Report → Type 0
+IsReport None words r = Unit {0}
+IsReport (Some files) words r = report files words ≡ r

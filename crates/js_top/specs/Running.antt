@@ -1,0 +1,27 @@
+-- What a run writes.
+use Rattle.std.specs.Prelude.{◌≡◌, ◌⊎◌, ℕ, List, Option, codes}
+use Rattle.std.specs.Io.KnownBytes.{Appends}
+use Rattle.documents.specs.Json.{Json}
+use Rattle.js_outside.specs.Counts.{Rose}
+use Rattle.js_outside.specs.Told.{Files}
+use Rattle.js_report.specs.Written.{AppendsPrefix}
+use Rattle.js_top.specs.Report.{Report, printed, IsReport}
+use Rattle.js_top.specs.Meaning.{OfSchemas}
+use Rattle.js_top.specs.declared.status.Status.{Status}
+use Rattle.js_top.specs.declared.status.Status.TheVariants.{ReadFault}
+
+-- a prefix of the report: the one of a failed read where the shelf's count rose, and else the one of the files
+abbrev pub WritesPart : Option Files → List (List ℕ) → ℕ → ℕ → Option (List ℕ) → Option (List ℕ) → Type 0
+WritesPart told words before after old new =
+    (r : Report) × AppendsPrefix old new r.text
+    × ((Rose before after × (r ≡ printed (codes "readfault") ReadFault)) ⊎ ((after ≡ before) × IsReport told words r))
+
+-- the whole report, with its status
+abbrev pub WritesReport : Option Files → List (List ℕ) → Option (List ℕ) → Option (List ℕ) → Status → Type 0
+WritesReport told words old new status =
+    (text : List ℕ) × Appends old new text × IsReport told words (record { text = text; status = status })
+
+-- a text of which a fact holds for the two schemas that the words name, where the files are told and both are read
+abbrev pub WritesMeaning : Option Files → List (List ℕ) → Option (List ℕ) → Option (List ℕ) → (Json → Json → List ℕ → Type 0) → Type 0
+WritesMeaning told words old new P =
+    (text : List ℕ) × Appends old new text × OfSchemas told words (λ a b. P a b text)

@@ -1,0 +1,19 @@
+//! The top call: from the command words and the bytes of files to a report in a sink.
+//!
+//! `run` does all that the program does. It reads the words, then each file in their order, decides, makes the whole
+//! report, and only then writes. Its clauses say when each status comes, and that what is written is the report of the
+//! files' bytes; `specs/Report.antt` says what that is, and `specs/Meaning.antt` what its documents and certificates mean.
+#![tactic(auto)]
+
+mod load;
+mod prepare;
+mod top;
+
+
+mod status;
+mod text;
+mod words;
+
+
+pub use top::run;
+pub use status::Status;

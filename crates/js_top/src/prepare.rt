@@ -1,0 +1,115 @@
+//! The report of a command, made whole before anything is written.
+
+ghost use Rattle.std.specs.Prelude.{◌≡◌, ◌<◌, ◌≤◌, IfOk, OnErr, length};
+ghost use Rattle.position_laws.specs.Join.{joined};
+ghost use Rattle.js_decide.specs.Verdict.{verdict};
+ghost use Rattle.js_top.specs.Report.{verdict_report};
+ghost use Rattle.js_top.specs.Preparing.{PreparedSays, report_of};
+
+use crate::load::{Loaded, load};
+use crate::status::Status;
+use crate::text::{limit, refusal, sample};
+use crate::words::include_names;
+use js_algebra::Core;
+use js_cert::cert_text;
+use js_decide::{Verdict, make_verdict};
+use js_doc::{Memory, Str};
+use js_normal::join_tables;
+use js_outside::Shelf;
+use std::alloc::Global;
+
+/// What is to be written, and the status that it comes with. The first two take no memory.
+#[derive(Drop)]
+pub(crate) enum Prepared {
+    /// The words are no command.
+    Usage,
+
+    /// A file couldn't be read.
+    Unread,
+
+    /// Any other report.
+    Made(Vec<u8>, Status),
+}
+
+impl Prepared {
+    pub(crate) fn text(&self) -> &[u8]
+        ensures { result.now ≡ (report_of self.now).text }
+    {
+        match self {
+            Prepared::Usage => b"usage\n",
+            Prepared::Unread => b"readfault\n",
+            Prepared::Made(text, _) => text.as_slice(),
+        }
+    }
+
+    pub(crate) fn status(&self) -> Status
+        ensures { result ≡ (report_of self.now).status }
+    {
+        match self {
+            Prepared::Usage => Status::Usage,
+            Prepared::Unread => Status::ReadFault,
+            Prepared::Made(_, status) => *status,
+        }
+    }
+}
+
+/// The report of the words over the shelf's files.
+pub(crate) fn prepare<H: Shelf>(alloc: Global, words: &[Str], shelf: &mut H) -> Result<Prepared, Memory>
+    ensures says { IfOk result (PreparedSays (H.told shelf.old) words.now (H.faults shelf.old) (H.faults shelf.new)) }
+    ensures memory { OnErr result (H.faults shelf.new ≡ H.faults shelf.old) }
+{
+    match include_names(words) {
+        Some((first, second)) => prepare_include(alloc, shelf, first, second),
+        None => Ok(Prepared::Usage),
+    }
+}
+
+/// The report of `include`: the second file is read only where the first was.
+fn prepare_include<H: Shelf>(alloc: Global, shelf: &mut H, first: &Str, second: &Str) -> Result<Prepared, Memory>
+    ensures says { IfOk result
+        (IncludeSays (H.told shelf.old) first.now second.now (H.faults shelf.old) (H.faults shelf.new)) }
+    ensures memory { OnErr result (H.faults shelf.new ≡ H.faults shelf.old) }
+{
+    let a = match load(alloc, shelf, first)? {
+        Loaded::Table(core) => core,
+        Loaded::Refused(words) => return refused(alloc, "first", words),
+        Loaded::Unread => return Ok(Prepared::Unread),
+    };
+    let b = match load(alloc, shelf, second)? {
+        Loaded::Table(core) => core,
+        Loaded::Refused(words) => return refused(alloc, "second", words),
+        Loaded::Unread => return Ok(Prepared::Unread),
+    };
+    compared(alloc, &a, &b)
+}
+
+ghost use Rattle.js_top.specs.Preparing.{IncludeSays};
+ghost use Rattle.js_top.specs.Report.{printed};
+ghost use Rattle.js_top.specs.declared.status.Status.TheVariants.{Refused};
+ghost use Rattle.std.specs.Prelude.{◌++◌, ◌∷◌, codes, string_bytes};
+
+fn refused(alloc: Global, role: &str, words: String) -> Result<Prepared, Memory>
+    ensures { IfOk result
+        (λ p. report_of p ≡ printed (codes "refused " ++ role.now ++ 32 ∷ string_bytes words) Refused) }
+{
+    let text = refusal(alloc, role, words.as_str())?;
+    Ok(Prepared::Made(text.into_bytes(), Status::Refused))
+}
+
+/// The report on two tables with their schemas at position 0.
+fn compared(alloc: Global, a: &Core, b: &Core) -> Result<Prepared, Memory>
+    requires a_filled { 0 < length a.now.positions }
+    requires b_filled { 0 < length b.now.positions }
+    requires a_small { length a.now.positions ≤ 2147483647 }
+    requires b_small { length b.now.positions ≤ 2147483647 }
+    ensures { IfOk result (λ p. report_of p
+        ≡ verdict_report (verdict (joined a.now.positions b.now.positions) 0 (length a.now.positions))) }
+{
+    let (core, at_a, at_b) = join_tables(alloc, a, b)?;
+    let (text, status) = match make_verdict(alloc, &core, at_a, at_b)? {
+        Verdict::Document(kind) => (sample(alloc, kind)?.into_bytes(), Status::Other),
+        Verdict::Limit(goal) => (limit(alloc, &goal)?.into_bytes(), Status::Limit),
+        Verdict::Certificate(cert) => (cert_text(alloc, &cert)?, Status::Done),
+    };
+    Ok(Prepared::Made(text, status))
+}

@@ -1,0 +1,61 @@
+//! The top call.
+
+ghost use Rattle.std.specs.Prelude.{◌≡◌, ◌≢◌, ◌<◌, None, codes};
+ghost use Rattle.std.specs.Io.KnownBytes.{Appends};
+ghost use Rattle.js_outside.specs.Counts.{Rose, Stays};
+ghost use Rattle.js_top.specs.Command.{command};
+ghost use Rattle.js_top.specs.Report.{line};
+ghost use Rattle.js_top.specs.Running.{WritesPart, WritesReport, WritesMeaning};
+ghost use Rattle.js_top.specs.Meaning.{IsCounterexample, IsCertificate, IsLimit};
+
+use crate::prepare::prepare;
+use crate::status::Status;
+use js_doc::Str;
+use js_outside::{Shelf, Sink};
+use js_report::write_report;
+use std::alloc::Global;
+
+/// Does all that the program does: takes the words, reads the files that they name, decides, and writes the report.
+///
+/// The whole report is made before the first write. `rt` is the runtime, of which nothing is used so far: all work is
+/// done on the caller's thread. Where the shelf tells its files, the clauses say which report is written; a shelf and a
+/// sink that tell nothing still keep the clauses on faults.
+pub fn run<R, H: Shelf, K: Sink>(rt: &R, alloc: Global, words: &[Str], shelf: &mut H, sink: &mut K) -> Status
+    // A status tells of a fault only where its count rose, and of other words only for them.
+    ensures read_fault { result ≡ Status.ReadFault → Rose (H.faults shelf.old) (H.faults shelf.new) }
+    ensures write_fault { result ≡ Status.WriteFault → Rose (K.faults sink.old) (K.faults sink.new) }
+    ensures usage { result ≡ Status.Usage → command words.now ≡ None }
+
+    // A count that rose is told.
+    ensures write_noticed { K.faults sink.old < K.faults sink.new → result ≡ Status.WriteFault }
+    ensures read_noticed { H.faults shelf.old < H.faults shelf.new → Stays (K.faults sink.old) (K.faults sink.new)
+        → result ≡ Status.ReadFault }
+
+    // What was written then.
+    ensures read_text { result ≡ Status.ReadFault → Appends (K.written sink.old) (K.written sink.new) (line (codes "readfault")) }
+    ensures write_text { result ≡ Status.WriteFault
+        → WritesPart (H.told shelf.old) words.now (H.faults shelf.old) (H.faults shelf.new) (K.written sink.old) (K.written sink.new) }
+    ensures memory_text { result ≡ Status.Memory → K.written sink.new ≡ K.written sink.old }
+
+    // Where no count rose, what is written and the status are the report.
+    ensures report { Stays (H.faults shelf.old) (H.faults shelf.new) → Stays (K.faults sink.old) (K.faults sink.new)
+        → result ≢ Status.Memory
+        → WritesReport (H.told shelf.old) words.now (K.written sink.old) (K.written sink.new) result }
+
+    // And for two schemas that are read this means:
+    ensures document { result ≡ Status.Other
+        → WritesMeaning (H.told shelf.old) words.now (K.written sink.old) (K.written sink.new) IsCounterexample }
+    ensures certificate { result ≡ Status.Done
+        → WritesMeaning (H.told shelf.old) words.now (K.written sink.old) (K.written sink.new) IsCertificate }
+    ensures limit { result ≡ Status.Limit
+        → WritesMeaning (H.told shelf.old) words.now (K.written sink.old) (K.written sink.new) IsLimit }
+{
+    let _ = rt;
+    match prepare(alloc, words, shelf) {
+        Err(_) => Status::Memory,
+        Ok(prepared) => match write_report(sink, prepared.text()) {
+            Ok(()) => prepared.status(),
+            Err(_) => Status::WriteFault,
+        },
+    }
+}
