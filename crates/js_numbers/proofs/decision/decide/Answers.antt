@@ -1,0 +1,31 @@
+use Rattle.std.proofs.Common.{◌∙◌, ◌<◌, length, ap, sym, arith}
+use Rattle.std.specs.List.{find}
+use Rattle.js_numbers.specs.declared.candidates.TheConstants.{MOST_STRUCK}
+use Rattle.js_numbers.specs.Group.{group_of, is_met}
+use Rattle.js_numbers.specs.Outcome.{found}
+use Rattle.js_numbers.proofs.Deciding.{outcome-crossed, outcome-sets, outcome-no_sets}
+use Rattle.js_numbers.proofs.AnswerLaws.{is_right}
+use Rattle.js_numbers.proofs.decision.decide.Goals as goal
+
+pub returns-then-is_crossed : goal.returns-then-is_crossed
+returns-then-is_crossed c =
+    let e = sym
+    (outcome-crossed MOST_STRUCK (group_of c.args.group.now)
+    (sym c.is_crossed.ensures ∙ c.if-is_crossed.true)) in
+    record { answer = e; right = is_right MOST_STRUCK (group_of c.args.group.now) _ c.requires e }
+
+pub returns-in-len1-up : goal.returns-in-len1-up
+returns-in-len1-up c =
+    let e = c.first_met.ensures
+    ∙ ap (λ s. found (find (is_met (group_of c.args.group.now)) s)) c.as_slice.ensures
+    ∙ sym (outcome-sets MOST_STRUCK (group_of c.args.group.now) c.first-item.result
+    (sym c.is_crossed.ensures ∙ c.if-is_crossed.false) c.in-len1-up.len_at_least c.first-item.is) in
+    record { answer = e; right = is_right MOST_STRUCK (group_of c.args.group.now) _ c.requires e }
+
+pub returns-in-empty : goal.returns-in-empty
+returns-in-empty c =
+    let none : length c.args.group.now.sets.now < 1 = omega arith in
+    let e = c.decide_multiples.ensures
+    ∙ sym (outcome-no_sets MOST_STRUCK (group_of c.args.group.now)
+    (sym c.is_crossed.ensures ∙ c.if-is_crossed.false) none) in
+    record { answer = e; right = is_right MOST_STRUCK (group_of c.args.group.now) _ c.requires e }

@@ -1,0 +1,34 @@
+-- Which candidates a list of values has, by their numbers.
+use Rattle.std.specs.Prelude.{◌≡◌, ℕ, ◌<◌, ◌==◌, List, get_or, Bool, false, ◌||◌, Option, Some, None, ℤ}
+use Rattle.std.specs.Ordering.{int_eq}
+use Rattle.js_numbers.specs.Group.{Group, is_listed}
+use Rattle.js_numbers.specs.Outcome.{candidate, is_over}
+
+-- k is the number that was found
+abbrev pub is_at : Option ℕ → ℕ → Bool
+is_at None k = false
+is_at (Some j) k = j == k
+
+-- r is the number of x among the first candidates that are at most 2^127-1 in size, where it is one of them
+abbrev pub IsIndex : ℕ → (ℕ → ℤ) → ℤ → Option ℕ → Type 0
+IsIndex limit candidates x r =
+    (k : ℕ) → k < limit → is_over (candidates k) ≡ false → is_at r k ≡ int_eq x (candidates k)
+
+-- the first candidates that pass the test are marked, and the marks that were there stay
+abbrev pub AddsMarks : ℕ → (ℕ → ℤ) → (ℤ → Bool) → List Bool → List Bool → Type 0
+AddsMarks limit candidates test old new =
+    (k : ℕ) → k < limit → is_over (candidates k) ≡ false
+    → get_or new k false ≡ (get_or old k false || test (candidates k))
+
+-- the first candidates are marked exactly where they pass the test
+abbrev pub AreMarked : ℕ → (ℕ → ℤ) → (ℤ → Bool) → List Bool → Type 0
+AreMarked limit candidates test marks =
+    (k : ℕ) → k < limit → is_over (candidates k) ≡ false → get_or marks k false ≡ test (candidates k)
+
+-- the candidates that a set that is ruled out has are marked, and the marks that were there stay
+abbrev pub AddsRuledOut : ℕ → ℕ → Group → List Bool → List Bool → Type 0
+AddsRuledOut limit m g old new = AddsMarks limit (candidate m g) (is_listed g.not_sets) old new
+
+-- the candidates that a set that is ruled out has are marked, and no others
+abbrev pub AreRuledOut : ℕ → ℕ → Group → List Bool → Type 0
+AreRuledOut limit m g marks = AreMarked limit (candidate m g) (is_listed g.not_sets) marks

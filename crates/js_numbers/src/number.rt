@@ -1,0 +1,66 @@
+//! Tests of one whole number, each equal to its definition.
+
+ghost use Rattle.std.specs.Prelude.{◌≡◌};
+ghost use Rattle.js_numbers.specs.Multiples.{is_multiple};
+ghost use Rattle.js_numbers.specs.Group.{is_above, is_below, has};
+ghost use Rattle.std.specs.List.{list_all, list_any};
+
+use js_doc::NumList;
+
+fn is_multiple(x: i128, m: u64) -> bool
+    ensures { result ≡ is_multiple m x }
+{
+    x.unsigned_abs().is_multiple_of(u128::from(m))
+}
+
+pub fn is_above(low: Option<i128>, x: i128) -> bool
+    ensures { result ≡ is_above low x }
+{
+    match low {
+        Some(low) => low <= x,
+        None => true,
+    }
+}
+
+pub fn is_below(high: Option<i128>, x: i128) -> bool
+    ensures { result ≡ is_below high x }
+{
+    match high {
+        Some(high) => x <= high,
+        None => true,
+    }
+}
+
+fn has(values: &[i128], x: i128) -> bool
+    ensures { result ≡ has values.now x }
+{
+    values.iter().any(|y| *y == x)
+}
+
+/// Whether each of the divisors divides `x`.
+pub fn divides_all(divisors: &[u64], x: i128) -> bool
+    ensures { result ≡ list_all (λ m. is_multiple m x) divisors.now }
+{
+    divisors.iter().all(|m| is_multiple(x, *m))
+}
+
+/// Whether one of the divisors divides `x`.
+pub fn divides_any(divisors: &[u64], x: i128) -> bool
+    ensures { result ≡ list_any (λ m. is_multiple m x) divisors.now }
+{
+    divisors.iter().any(|m| is_multiple(x, *m))
+}
+
+/// Whether each of the sets has `x`.
+pub fn all_have(sets: &[NumList], x: i128) -> bool
+    ensures { result ≡ list_all (λ s. has s x) sets.now }
+{
+    sets.iter().all(|s| has(s.as_slice(), x))
+}
+
+/// Whether one of the sets has `x`.
+pub fn any_has(sets: &[NumList], x: i128) -> bool
+    ensures { result ≡ list_any (λ s. has s x) sets.now }
+{
+    sets.iter().any(|s| has(s.as_slice(), x))
+}

@@ -1,0 +1,198 @@
+"""Writes `stdin`, a table of number groups, and `stdout`, their answers by plain integer arithmetic.
+
+Run in this folder: python3 groups.py
+A line of `stdin` is six words: the lower and the upper bound, the divisors that are asked for and those that are
+ruled out, the sets that are asked for and those that are ruled out. `src/lines.rt` says how they are written.
+"""
+
+import itertools
+import math
+import random
+
+LARGEST = 2**127 - 1
+MOST_STRUCK = 65_536
+TOP = 2**64
+LOW = -(2**63)
+
+
+def meets(x, group):
+    low, high, multiples, not_multiples, sets, not_sets = group
+    return (
+        (low is None or low <= x)
+        and (high is None or x <= high)
+        and all(x % m == 0 for m in multiples)
+        and not any(x % m == 0 for m in not_multiples)
+        and all(x in s for s in sets)
+        and not any(x in s for s in not_sets)
+    )
+
+
+def candidates(low, high, m):
+    """All multiples of m within the bounds, in the order in which they are tried."""
+    if low is not None:
+        x = low
+        while x % m != 0:  # at most to the next multiple
+            x += m - x % m
+        while high is None or x <= high:
+            yield x
+            x += m
+    elif high is not None:
+        x = high - high % m
+        while True:
+            yield x
+            x -= m
+    else:
+        yield 0
+        for size in itertools.count(1):
+            yield size * m
+            yield -size * m
+
+
+def decide(group):
+    low, high, multiples, not_multiples, sets, not_sets = group
+    if low is not None and high is not None and low > high:
+        return "empty"
+    ruled_out = [set(expand(s)) for s in not_sets]
+    if sets:
+        asked = [set(expand(s)) for s in sets]
+        for x in expand(sets[0]):
+            if meets(x, (low, high, multiples, not_multiples, asked, ruled_out)):
+                return f"found {x}"
+        return "empty"
+    m = math.lcm(1, *multiples)
+    if m > LARGEST:
+        return "limit multiples"
+    if any(m % b == 0 for b in not_multiples):
+        return "empty"
+    struck = 0
+    for x in candidates(low, high, m):
+        if abs(x) > LARGEST:
+            return "limit multiples"
+        if struck == MOST_STRUCK:
+            return "limit candidates"
+        if meets(x, (low, high, multiples, not_multiples, [], ruled_out)):
+            return f"found {x}"
+        struck += 1
+    return "empty"
+
+
+def expand(values):
+    for v in values:
+        if isinstance(v, tuple):
+            yield from range(v[0], v[1] + 1)
+        else:
+            yield v
+
+
+def written(group):
+    low, high, multiples, not_multiples, sets, not_sets = group
+
+    def value(v):
+        return f"{v[0]}..{v[1]}" if isinstance(v, tuple) else str(v)
+
+    def listed(values, mark=","):
+        return mark.join(values) or "-"
+
+    return " ".join(
+        [
+            "-" if low is None else str(low),
+            "-" if high is None else str(high),
+            listed([str(m) for m in multiples]),
+            listed([str(m) for m in not_multiples]),
+            listed([listed([value(v) for v in s]) for s in sets], ";"),
+            listed([listed([value(v) for v in s]) for s in not_sets], ";"),
+        ]
+    )
+
+
+def group(low=None, high=None, multiples=(), not_multiples=(), sets=(), not_sets=()):
+    return (low, high, list(multiples), list(not_multiples), list(sets), list(not_sets))
+
+
+def first_examples():
+    yield group(5, None, [3])
+    yield group(8, 10, [5])
+    yield group(None, None, [6], [3])
+    yield group(1, None, [TOP - 1, TOP - 2])
+    yield group(0, not_sets=[[(0, 65_534)]])
+    yield group(0, not_sets=[[(0, 65_535)]])
+    yield group(0, 65_535, not_sets=[[(0, 65_535)]])
+
+
+def bounds_at_the_edge():
+    steps = [1, 2, 3, 7, 2**32, 2**63 - 1, 2**63, TOP - 1]
+    for m in steps:
+        for low in [LOW, LOW - 1, -TOP, -1, 0, 1, 2**63, TOP - 1, TOP]:
+            yield group(low, None, [m])
+            yield group(None, low, [m])
+        yield group(LOW, LOW + 1, [m])
+        yield group(TOP - 2, TOP, [m])
+        yield group(-TOP, -TOP, [m])
+        yield group(3, 2, [m])
+
+
+def wide_multiples():
+    for a, b in [
+        (2**63, 2**64 - 1),
+        (2**63 - 1, 2**64 - 1),
+        (2**63 + 1, 2**64 - 1),
+        (2**63, 2**63 - 1),
+        (2**64 - 1, 2**64 - 3),
+        (2**64 - 59, 2**63 - 25),
+        (2**64 - 59, 2**63 + 29),
+        (3 * 2**61, 2**62),
+    ]:
+        for low, high in [(None, None), (1, None), (None, -1), (-5, 5), (1, TOP), (-TOP, -1), (0, 0)]:
+            yield group(low, high, [a, b])
+            yield group(low, high, [a, b], not_sets=[[0, a * b // math.gcd(a, b)] if a * b < 2**127 else [0]])
+            yield group(low, high, [a, b], [2])
+
+
+def full_sets():
+    for size in [65_535, 65_536]:
+        last = size - 1
+        for low, high in [(0, None), (0, last), (0, last + 1), (None, last), (-1, None)]:
+            yield group(low, high, not_sets=[[(0, last)]])
+        yield group(None, 0, not_sets=[[(-last, 0)]])
+        yield group(None, None, not_sets=[[(-(size // 2), (size - 1) // 2)]])
+        yield group(None, None, not_sets=[[(-((size - 1) // 2), size // 2)]])
+        yield group(0, None, [2], not_sets=[[(0, 2 * last)]])
+        yield group(0, None, not_sets=[[(0, last // 2)], [(last // 2 + 1, last)]])
+        yield group(1, None, [], [2], not_sets=[[(1, last)]])
+
+
+def small_groups(count):
+    chance = random.Random(20_170_415)
+
+    def some(most, low, high):
+        return [chance.randint(low, high) for _ in range(chance.randint(0, most))]
+
+    for _ in range(count):
+        low = chance.choice([None, chance.randint(-30, 30)])
+        high = chance.choice([None, chance.randint(-30, 30)])
+        yield group(
+            low,
+            high,
+            some(2, 1, 12),
+            some(2, 1, 9),
+            [some(6, -20, 20) for _ in range(chance.choice([0, 0, 0, 1, 2]))],
+            [some(12, -20, 20) for _ in range(chance.choice([0, 1, 2]))],
+        )
+
+
+def main():
+    groups = [
+        *first_examples(),
+        *bounds_at_the_edge(),
+        *wide_multiples(),
+        *full_sets(),
+        *small_groups(150),
+    ]
+    groups = [g for g in groups if all(s for s in g[4] + g[5])]
+    with open("stdin", "w") as lines, open("stdout", "w") as answers:
+        for g in groups:
+            print(written(g), file=lines)
+            print(decide(g), file=answers)
+
+
+main()
