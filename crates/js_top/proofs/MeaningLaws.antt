@@ -1,5 +1,5 @@
 -- What the report of two schemas that are read means.
-use Rattle.std.proofs.Common.{◌≡◌, ℕ, ◌+◌, ◌<◌, List, [], ◌∷◌, ◌++◌, length, Bool, true, false, ◌||◌, cond, Option, Some, None, codes, encode_utf8_all, pos, refl, ap, ap₂, sym, ◌∙◌, subst, arith}
+use Rattle.std.proofs.Common.{◌≡◌, ◌⊎◌, inl, inr, ℕ, ◌+◌, ◌<◌, List, [], ◌∷◌, ◌++◌, length, Bool, true, false, ◌||◌, cond, Option, Some, None, codes, encode_utf8_all, pos, refl, ap, ap₂, sym, ◌∙◌, subst, arith}
 use Rattle.documents.specs.Tests.{some}
 use Rattle.documents.specs.Kind.{Kind, Null, Boolean, Number, Text, Array, Object, all_kinds}
 use Rattle.documents.specs.Document as D
@@ -24,9 +24,9 @@ use Rattle.js_forms.proofs.Meaning.{valid-holds}
 use Rattle.js_decide.specs.Verdict.{Verdict, Document as OfKind, Limit, Certificate, is_over, is_open, of_kinds, of_goal, verdict}
 use Rattle.js_decide.proofs.VerdictLaws.{verdict-document, verdict-good, verdict-certificate}
 use Rattle.js_top.specs.Command.{command}
-use Rattle.js_top.specs.Reading.{Read, reading, IsSchema}
+use Rattle.js_top.specs.Reading.{Reading, Refused, Read, reading, IsSchema}
 use Rattle.js_top.specs.Report.{Report, line, sample_text, verdict_report, include_report, of_reading, of_file, of_command, report, IsReport}
-use Rattle.js_top.specs.Meaning.{json_of, IsDocumentText, IsCounterexample, IsCertificate, IsLimit, OfSchemas}
+use Rattle.js_top.specs.Meaning.{json_of, IsDocumentText, IsCounterexample, IsCertificate, IsLimit, OfSchemas, PassesLimit, IsRefusal, IsSecondRefusal, OfRefusal}
 use Rattle.js_top.specs.Preparing.{report_of, is_answer, PreparedSays}
 use Rattle.js_top.specs.declared.prepare.Prepared.{Prepared}
 use Rattle.js_top.specs.declared.prepare.Prepared.TheVariants.{Usage, Unread, Made}
@@ -223,3 +223,77 @@ PreparedSays-report told words before after Unread text status says t e i = let 
 PreparedSays-report told words before after (Made bytes s) text status says t e i =
     subst (λ x. IsReport told words (record { text = x; status = status })) (sym t)
     (subst (λ x. IsReport told words (record { text = bytes.items; status = x })) e says.2)
+
+-- where none passes a test there is no first
+first-absent : (p : Kind → Bool) (ts : List Kind) → some p ts ≡ false → first p ts ≡ None
+first-absent p [] e = refl
+first-absent p (t ∷ ts) e = go (p t) refl e (first-absent p ts) where
+  go : (b : Bool) → p t ≡ b → (b || some p ts) ≡ false → (some p ts ≡ false → first p ts ≡ None) → cond b (Some t) (first p ts) ≡ None
+  go true h e more = cc
+  go false h e more = more e
+
+-- two schemas whose trees pass the limit have its report
+passes-report : (a b : Json) → PassesLimit a b → (include_report a b).status ≡ S.Limit
+passes-report a b x =
+    ap (λ o. (verdict_report (of_goal (joined (table_of a) (table_of b)) o)).status) x.formed
+    ∙ ap (λ o. (verdict_report (of_kinds (joined (table_of a) (table_of b)) x.goal o)).status)
+        (first-absent (is_open (joined (table_of a) (table_of b)) x.goal) all_kinds x.none_open)
+    ∙ ap (λ c. (verdict_report (cond c (Limit x.goal) (Certificate (written (joined (table_of a) (table_of b)) (Some x.goal))))).status) x.over
+
+pub report-limited : (told : Option Files) (words : List (List ℕ)) (text : List ℕ) (status : Status)
+    → IsReport told words (record { text = text; status = status }) → OfSchemas told words (λ a b. PassesLimit a b → status ≡ S.Limit)
+report-limited None words text status e = tt
+report-limited (Some files) words text status e =
+    λ first second a b c x y passes.
+    ap (λ r. r.status) (sym e ∙ report-read files words first second a b c x y) ∙ passes-report a b passes
+
+-- an answer that was prepared for two schemas that pass the limit is its report
+pub prepared-limited : (told : Option Files) (words : List (List ℕ)) (before after : ℕ) (p : Prepared) → PreparedSays told words before after p
+    → ((report_of p).status ≡ S.ReadFault → ⊥) → OfSchemas told words (λ a b. PassesLimit a b → (report_of p).status ≡ S.Limit)
+prepared-limited None words before after p says n = tt
+prepared-limited (Some files) words before after Usage says n = λ first second a b c x y passes. let wrong = sym c ∙ says.1 in cc
+prepared-limited (Some files) words before after Unread says n = λ first second a b c x y passes. absurd (n refl)
+prepared-limited (Some files) words before after (Made bytes s) says n = report-limited (Some files) words bytes.items s says.2
+
+abbrev is_refused : Status → Bool
+is_refused S.Refused = true
+is_refused _ = false
+
+unrefused : (v : Verdict) → is_refused (verdict_report v).status ≡ false
+unrefused (OfKind t) = refl
+unrefused (Limit g) = refl
+unrefused (Certificate ls) = refl
+
+refused-second : (files : List ℕ → Option (List ℕ)) (a b text : List ℕ) (x : Json) (o : Option (List ℕ)) → files (encode_utf8_all b) ≡ o
+    → IsSchema files a x
+    → of_file (codes "second") o (λ y. include_report x y) ≡ record { text = text; status = S.Refused } → IsSecondRefusal files a b text
+refused-second files a b text x None t is e = let wrong = ap (λ r. is_refused r.status) e in cc
+refused-second files a b text x (Some bytes) t is e = go (reading bytes) refl e where
+  go : (r : Reading) → reading bytes ≡ r
+      → of_reading (codes "second") r (λ y. include_report x y) ≡ record { text = text; status = S.Refused } → IsSecondRefusal files a b text
+  go (Refused ws) h e =
+      record { first = x; is_read = is; second = record { bytes = bytes; words = ws; told = t; refused = h; written = ap (λ r. r.text) e } }
+  go (Read y) h e =
+      let wrong = sym (unrefused (verdict (joined (table_of x) (table_of y)) 0 (length (table_of x)))) ∙ ap (λ r. is_refused r.status) e in cc
+
+refused-first : (files : List ℕ → Option (List ℕ)) (a b text : List ℕ) (o : Option (List ℕ)) → files (encode_utf8_all a) ≡ o
+    → of_file (codes "first") o (λ x. of_file (codes "second") (files (encode_utf8_all b)) (λ y. include_report x y)) ≡ record { text = text; status = S.Refused }
+    → IsRefusal files (codes "first") a text ⊎ IsSecondRefusal files a b text
+refused-first files a b text None t e = let wrong = ap (λ r. is_refused r.status) e in cc
+refused-first files a b text (Some bytes) t e = go (reading bytes) refl e where
+  go : (r : Reading) → reading bytes ≡ r
+      → of_reading (codes "first") r (λ x. of_file (codes "second") (files (encode_utf8_all b)) (λ y. include_report x y)) ≡ record { text = text; status = S.Refused }
+      → IsRefusal files (codes "first") a text ⊎ IsSecondRefusal files a b text
+  go (Refused ws) h e = inl (record { bytes = bytes; words = ws; told = t; refused = h; written = ap (λ r. r.text) e })
+  go (Read x) h e =
+      inr (refused-second files a b text x (files (encode_utf8_all b)) refl (record { bytes = bytes; told = t; read = h }) e)
+
+-- a report of the status of refusals is the first refusal
+pub means-refusal : (told : Option Files) (words : List (List ℕ)) (text : List ℕ) → IsReport told words (record { text = text; status = S.Refused })
+    → OfRefusal told words text
+means-refusal None words text e = tt
+means-refusal (Some files) words text e = go (command words) refl e where
+  go : (o : Option (List ℕ × List ℕ)) → command words ≡ o → of_command files o ≡ record { text = text; status = S.Refused }
+      → OfRefusal (Some files) words text
+  go None h e = let wrong = ap (λ r. is_refused r.status) e in cc
+  go (Some (a, b)) h e = (a, b, h, refused-first files a b text (files (encode_utf8_all a)) refl e)

@@ -1,5 +1,5 @@
 -- What the document or the certificate of a report means.
-use Rattle.std.specs.Prelude.{◌≡◌, ℕ, List, [], ◌∷◌, ◌++◌, length, true, false, Option, Some, None, codes}
+use Rattle.std.specs.Prelude.{◌≡◌, ◌⊎◌, ℕ, List, [], ◌∷◌, ◌++◌, length, true, false, Option, Some, None, codes, encode_utf8_all}
 use Rattle.documents.specs.Document.{Document}
 use Rattle.documents.specs.Document as D
 use Rattle.documents.specs.Json.{Json}
@@ -16,7 +16,7 @@ use Rattle.js_json.specs.Value.{value_of}
 use Rattle.js_forms.specs.Table.{table_of}
 use Rattle.js_decide.specs.Verdict.{is_over, is_open}
 use Rattle.js_top.specs.Command.{command}
-use Rattle.js_top.specs.Reading.{IsSchema}
+use Rattle.js_top.specs.Reading.{Refused, reading, IsSchema}
 use Rattle.js_top.specs.Report.{line}
 
 -- a document is a JSON value whose numbers are all whole
@@ -69,3 +69,32 @@ abbrev pub OfSchemas : Option (List ℕ → Option (List ℕ)) → List (List �
 OfSchemas None words P = Unit {0}
 OfSchemas (Some files) words P =
     (a b : List ℕ) (x y : Json) → command words ≡ Some (a, b) → IsSchema files a x → IsSchema files b y → P x y
+
+-- the trees of two schemas pass the limit: they form a goal, some kind's tree of it has more ends than are looked at, and
+-- no tree that is looked at has a branch
+pub record PassesLimit (a b : Json) : Type 0 where
+  pub goal : List Signed
+  pub formed : form (joined (table_of a) (table_of b)) (Plus 0 ∷ Minus (length (table_of a)) ∷ []) ≡ Some goal
+  pub over : some (is_over (joined (table_of a) (table_of b)) goal) all_kinds ≡ true
+  pub none_open : some (is_open (joined (table_of a) (table_of b)) goal) all_kinds ≡ false
+
+-- the file of that name is refused, with this line
+pub record IsRefusal (files : List ℕ → Option (List ℕ)) (role name text : List ℕ) : Type 0 where
+  pub bytes : List ℕ
+  pub words : List ℕ
+  pub told : files (encode_utf8_all name) ≡ Some bytes
+  pub refused : reading bytes ≡ Refused words
+  pub written : line (codes "refused " ++ role ++ 32 ∷ words) ≡ text
+
+-- the first file is read, with this value, and the second is refused
+pub record IsSecondRefusal (files : List ℕ → Option (List ℕ)) (a b text : List ℕ) : Type 0 where
+  pub first : Json
+  pub is_read : IsSchema files a first
+  pub second : IsRefusal files (codes "second") b text
+
+-- the first refusal in the order of work, where the files are told: of the first file, or of the second where the first is read
+abbrev pub OfRefusal : Option (List ℕ → Option (List ℕ)) → List (List ℕ) → List ℕ → Type 0
+OfRefusal None words text = Unit {0}
+OfRefusal (Some files) words text =
+    (a : List ℕ) × (b : List ℕ) × (command words ≡ Some (a, b))
+    × (IsRefusal files (codes "first") a text ⊎ IsSecondRefusal files a b text)

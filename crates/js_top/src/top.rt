@@ -5,8 +5,8 @@ ghost use Rattle.std.specs.Io.KnownBytes.{Appends};
 ghost use Rattle.js_outside.specs.Counts.{Rose, Stays};
 ghost use Rattle.js_top.specs.Command.{command};
 ghost use Rattle.js_top.specs.Report.{line};
-ghost use Rattle.js_top.specs.Running.{WritesPart, WritesReport, WritesMeaning};
-ghost use Rattle.js_top.specs.Meaning.{IsCounterexample, IsCertificate, IsLimit};
+ghost use Rattle.js_top.specs.Running.{WritesPart, WritesReport, WritesMeaning, WritesRefusal};
+ghost use Rattle.js_top.specs.Meaning.{IsCounterexample, IsCertificate, IsLimit, PassesLimit, OfSchemas};
 
 use crate::prepare::prepare;
 use crate::status::Status;
@@ -37,10 +37,13 @@ pub fn run<R, H: Shelf, K: Sink>(rt: &R, alloc: Global, words: &[Str], shelf: &m
         → WritesPart (H.told shelf.old) words.now (H.faults shelf.old) (H.faults shelf.new) (K.written sink.old) (K.written sink.new) }
     ensures memory_text { result ≡ Status.Memory → K.written sink.new ≡ K.written sink.old }
 
-    // Where no count rose, what is written and the status are the report.
-    ensures report { Stays (H.faults shelf.old) (H.faults shelf.new) → Stays (K.faults sink.old) (K.faults sink.new)
-        → result ≢ Status.Memory
+    // With every other status what is written and the status are the report.
+    ensures report { result ≢ Status.ReadFault → result ≢ Status.WriteFault → result ≢ Status.Memory
         → WritesReport (H.told shelf.old) words.now (K.written sink.old) (K.written sink.new) result }
+
+    // A refusal is the first in the order of work, with its role, word and pointer.
+    ensures refusal { result ≡ Status.Refused
+        → WritesRefusal (H.told shelf.old) words.now (K.written sink.old) (K.written sink.new) }
 
     // And for two schemas that are read this means:
     ensures document { result ≡ Status.Other
@@ -49,6 +52,13 @@ pub fn run<R, H: Shelf, K: Sink>(rt: &R, alloc: Global, words: &[Str], shelf: &m
         → WritesMeaning (H.told shelf.old) words.now (K.written sink.old) (K.written sink.new) IsCertificate }
     ensures limit { result ≡ Status.Limit
         → WritesMeaning (H.told shelf.old) words.now (K.written sink.old) (K.written sink.new) IsLimit }
+
+    // The limit comes wherever it is passed.
+    ensures limited { result ≢ Status.ReadFault → result ≢ Status.WriteFault → result ≢ Status.Memory
+        → OfSchemas (H.told shelf.old) words.now (λ a b. PassesLimit a b → result ≡ Status.Limit) }
+
+    // The files that the shelf tells are the same after the call.
+    ensures told { H.told shelf.new ≡ H.told shelf.old }
 {
     let _ = rt;
     match prepare(alloc, words, shelf) {
