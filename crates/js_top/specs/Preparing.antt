@@ -1,5 +1,5 @@
 -- What a report that was prepared says of the shelf's files and of its count of faults.
-use Rattle.std.specs.Prelude.{◌≡◌, ℕ, List, [], ◌∷◌, ◌++◌, Bool, true, false, codes, Option, Some, None}
+use Rattle.std.specs.Prelude.{◌≡◌, ℕ, List, [], ◌∷◌, ◌++◌, Bool, true, false, codes, Option, Some, None, IsSome}
 use Rattle.js_outside.specs.Counts.{Rose}
 use Rattle.js_outside.specs.Told.{Files}
 use Rattle.js_top.specs.Command.{command}
@@ -24,9 +24,9 @@ is_answer _ = false
 
 abbrev pub PreparedSays : Option Files → List (List ℕ) → ℕ → ℕ → Prepared → Type 0
 PreparedSays told words before after P.Usage = (after ≡ before) × (command words ≡ None)
-PreparedSays told words before after P.Unread = Rose before after
+PreparedSays told words before after P.Unread = Rose before after × IsSome (command words)
 PreparedSays told words before after (P.Made bytes status) =
-    (after ≡ before) × (is_answer status ≡ true) × IsReport told words (record { text = bytes.items; status = status })
+    (after ≡ before) × (is_answer status ≡ true) × IsReport told words (record { text = bytes.items; status = status }) × IsSome (command words)
 
 -- the same of `include` with two names
 abbrev pub IsReportOf : Option Files → List ℕ → List ℕ → Report → Type 0

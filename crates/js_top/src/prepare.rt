@@ -1,9 +1,10 @@
 //! The report of a command, made whole before anything is written.
 
-ghost use Rattle.std.specs.Prelude.{◌≡◌, ◌<◌, ◌≤◌, IfOk, OnErr, length};
+ghost use Rattle.std.specs.Prelude.{◌≡◌, ◌<◌, ◌≤◌, IfOk, OnErr, IsSome, length};
 ghost use Rattle.position_laws.specs.Join.{joined};
 ghost use Rattle.js_decide.specs.Verdict.{verdict};
 ghost use Rattle.js_top.specs.Report.{verdict_report};
+ghost use Rattle.js_top.specs.Command.{command};
 ghost use Rattle.js_top.specs.Preparing.{PreparedSays, report_of};
 
 use crate::load::{Loaded, load};
@@ -58,6 +59,7 @@ pub(crate) fn prepare<H: Shelf>(alloc: Global, words: &[Str], shelf: &mut H) -> 
     ensures told { H.told shelf.new ≡ H.told shelf.old }
     ensures says { IfOk result (PreparedSays (H.told shelf.old) words.now (H.faults shelf.old) (H.faults shelf.new)) }
     ensures memory { OnErr result (H.faults shelf.new ≡ H.faults shelf.old) }
+    ensures some_words { OnErr result (IsSome (command words.now)) }
 {
     match include_names(words) {
         Some((first, second)) => prepare_include(alloc, shelf, first, second),

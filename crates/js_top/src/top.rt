@@ -26,6 +26,10 @@ pub fn run<R, H: Shelf, K: Sink>(rt: &R, alloc: Global, words: &[Str], shelf: &m
     ensures write_fault { result ≡ Status.WriteFault → Rose (K.faults sink.old) (K.faults sink.new) }
     ensures usage { result ≡ Status.Usage → command words.now ≡ None }
 
+    // Of other words a file is never begun, and no memory is taken.
+    ensures no_file { command words.now ≡ None → H.faults shelf.new ≡ H.faults shelf.old }
+    ensures no_memory { command words.now ≡ None → result ≢ Status.Memory }
+
     // A count that rose is told.
     ensures write_noticed { K.faults sink.old < K.faults sink.new → result ≡ Status.WriteFault }
     ensures read_noticed { H.faults shelf.old < H.faults shelf.new → Stays (K.faults sink.old) (K.faults sink.new)
