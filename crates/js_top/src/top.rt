@@ -26,7 +26,7 @@ pub fn run<R, H: Shelf, K: Sink>(rt: &R, alloc: Global, words: &[Str], shelf: &m
     ensures write_fault { result ≡ Status.WriteFault → Rose (K.faults sink.old) (K.faults sink.new) }
     ensures usage { result ≡ Status.Usage → command words.now ≡ None }
 
-    // Of other words a file is never begun, and no memory is taken.
+    // For other words no fault of reading is counted, and the status is never that of refused memory.
     ensures no_file { command words.now ≡ None → H.faults shelf.new ≡ H.faults shelf.old }
     ensures no_memory { command words.now ≡ None → result ≢ Status.Memory }
 
