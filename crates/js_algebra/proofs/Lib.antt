@@ -1,4 +1,5 @@
 pub mod Tables
+pub mod Meanings
 pub mod Orders
 pub mod Sets
 pub mod Sorting

@@ -6,6 +6,9 @@
 ghost use Rattle.std.specs.Prelude.{◌≡◌, map, length, IfOk, IfSome, true, List, [], option_map};
 ghost use Rattle.goals.specs.Signed.{is_rising, add_all};
 ghost use Rattle.goals.specs.Goal as G;
+ghost use Rattle.documents.specs.Document.{Document};
+ghost use Rattle.goals.specs.Signed.{meets};
+ghost use Rattle.goal_laws.specs.Formed.{meets_goal};
 ghost use Rattle.js_algebra.specs.View.{signed_view, is_in_table, are_in_table};
 ghost use Rattle.js_algebra.specs.Close.{clashes_nearby, begins_with};
 
@@ -50,7 +53,13 @@ pub fn form(alloc: Global, core: &Core, list: &[Signed]) -> Result<Option<Goal>,
     requires { are_in_table core.now.positions (map signed_view list.now) ≡ true }
     ensures goal { IfOk result (λ o. o ≡ G.form core.now.positions (map signed_view list.now)) }
     ensures in_table { IfOk result (λ o. IfSome o (λ g. are_in_table core.now.positions g ≡ true)) }
+
+    // A document meets the list exactly where it meets the goal, and none where there is none.
+    ensures meaning { IfOk result (λ o. (J : Document)
+        → meets core.now.positions (map signed_view list.now) J ≡ meets_goal core.now.positions o J) }
 {
+    // The length comes with the fact that ranks fall, on which `meaning` rests.
+    let _length = core.len();
     let found = core.followed(alloc, list)?;
     let items = sorted(found);
     if core.clashes_nearby(items.as_slice()) {

@@ -57,8 +57,12 @@ impl Core {
 }
 
 ghost use Rattle.documents.specs.Tests.{some};
+ghost use Rattle.documents.specs.Document.{Document, kind_of};
 ghost use Rattle.documents.specs.Kind.{same_kind};
+ghost use Rattle.positions.specs.Holds.{holds};
 ghost use Rattle.goals.specs.Choices.{choices};
+ghost use Rattle.goals.specs.Signed.{met, meets};
+ghost use Rattle.std.specs.Prelude.{IfSome};
 ghost use Rattle.js_algebra.specs.View.{kind_view, signed_view, with_sign, places, is_in_table};
 ghost use Rattle.js_algebra.specs.Rules.{rule_view, rule_places, nothing_view};
 
@@ -93,9 +97,22 @@ pub fn rule_choices(
     kind: JsonKind,
 ) -> Result<Option<Choices>, Memory>
     requires { is_in_table core.now.positions (signed_view x) ≡ true }
-    ensures { IfOk result (λ o. o ≡ choices core.now.positions (kind_view kind) (signed_view x)) }
+    ensures choices { IfOk result (λ o. o ≡ choices core.now.positions (kind_view kind) (signed_view x)) }
+
+    // A document of the kind meets `x` exactly where it meets one of them.
+    ensures meaning { IfOk result (λ o. (J : Document) → kind_of J ≡ kind_view kind
+        → IfSome o (λ cs. some (λ C. meets core.now.positions C J) cs ≡ met (λ p. holds core.now.positions p J) (signed_view x))) }
 {
-    match core.rule(x, kind) {
+    // The length comes with the fact that ranks fall, on which `meaning` rests.
+    let _length = core.len();
+    listed(alloc, core.rule(x, kind))
+}
+
+/// The choices of a rule, as lists.
+fn listed(alloc: Global, rule: Rule<'_>) -> Result<Option<Choices>, Memory>
+    ensures { IfOk result (λ o. o ≡ rule_view rule.entry) }
+{
+    match rule {
         Rule::Literal => Ok(None),
         Rule::Together(ps, plus) => {
             let mut one = Vec::new(alloc);

@@ -1,7 +1,7 @@
 //! Two core tables in one.
 //!
-//! What is joined keeps the meaning of every position: the first table stands as it is, and the positions of the second
-//! are moved up by its length. The cost is that of a copy.
+//! The first table stands as it is, and the positions of the second are moved up by its length; that this keeps what
+//! every position means is a law of `position_laws`. The cost is that of a copy.
 #![tactic(auto)]
 
 ghost use Rattle.std.specs.Prelude.{true, ◌≡◌, ◌+◌, ◌^◌, ◌<◌, ◌++◌, IfOk, length, map};

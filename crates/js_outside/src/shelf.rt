@@ -27,8 +27,8 @@ pub trait Shelf {
         ensures unbegun { OnErr result (NothingIsLeft (told self.old) (left self.new)) }
         ensures counted { CountsBegin result (faults self.old) (faults self.new) };
 
-    /// Reads bytes of the file that was begun into the front of `into`, and answers how many. The answer 0 for a
-    /// buffer that isn't empty means the end. With no file begun there is nothing to read.
+    /// Reads bytes of the file that was begun into the front of `into`, and answers how many. Where `into` has room, 0
+    /// says that nothing is left. With no file begun there is nothing to read.
     fn read(&mut self, into: &mut [u8]) -> Result<usize, Failed>
         ensures told { told self.new ≡ told self.old }
         ensures within { ReadsAtMost result into.new }

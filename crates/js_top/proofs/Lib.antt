@@ -1,3 +1,4 @@
 pub mod CommandWords
 pub mod Includes
 pub mod MeaningLaws
+mod Examples

@@ -17,7 +17,7 @@ use std::alloc::Global;
 
 /// Does all that the program does: takes the words, reads the files that they name, decides, and writes the report.
 ///
-/// The whole report is made before the first write. `rt` is the runtime, of which nothing is used so far: all work is
+/// Nothing is written until the report is complete. `rt` is the runtime, of which nothing is used so far: all work is
 /// done on the caller's thread. Where the shelf tells its files, the clauses say which report is written; a shelf and a
 /// sink that tell nothing still keep the clauses on faults.
 pub fn run<R, H: Shelf, K: Sink>(rt: &R, alloc: Global, words: &[Str], shelf: &mut H, sink: &mut K) -> Status

@@ -9,6 +9,7 @@ use Rattle.js_algebra.specs.View.{signed_view, are_in_table, is_in_table}
 use Rattle.js_algebra.specs.Close.{clashes_nearby}
 use Rattle.js_algebra.proofs.Sets.{rising-add_all, every-add_all}
 use Rattle.js_algebra.proofs.Closeness.{clashes-nearby}
+use Rattle.js_algebra.proofs.Meanings.{meets-formed}
 use Rattle.js_algebra.proofs.goal.form.Goals as goal
 
 set_in_table : (T : List Position) (xs ys : List S.Signed) → ys ≡ add_all xs [] → are_in_table T xs ≡ true → are_in_table T ys ≡ true
@@ -41,3 +42,13 @@ returns-clause-goal c =
 
 pub returns-clause-in_table : goal.returns-clause-in_table
 returns-clause-in_table c = set_in_table _ (map signed_view c.in_ok-found.found.items) _ c.sorted-items.ensures c.in_ok-found.ensures.in_table
+
+pub returns-then-clashes_nearby-clause-meaning : goal.returns-then-clashes_nearby-clause-meaning
+returns-then-clashes_nearby-clause-meaning c =
+    meets-formed c.args.core.now.positions c.args.core.now.ranks c.len-length.ensures.table (map signed_view c.args.list.now) c.requires None
+      (returns-then-clashes_nearby-clause-goal c)
+
+pub returns-clause-meaning : goal.returns-clause-meaning
+returns-clause-meaning c =
+    meets-formed c.args.core.now.positions c.args.core.now.ranks c.len-length.ensures.table (map signed_view c.args.list.now) c.requires
+      (Some (map signed_view c.sorted-items.result.items)) (returns-clause-goal c)
