@@ -8,7 +8,7 @@ use crate::document::{Doc, DocList, DocMap};
 
 /// How many arrays and objects stand one in another: 0 for null, a truth value, a number or a string. An array or object
 /// is one deeper than the deepest of what it holds, so an empty one has depth 1. Depths past u32's last value are given
-/// as that value. It calls itself once a level, and takes no other memory.
+/// as that value. One call a level, and no memory but for those.
 #[cycle(depth)]
 pub fn depth(doc: &Doc) -> u32
     ensures { result ≡ capped (D.depth (view doc.now)) }
