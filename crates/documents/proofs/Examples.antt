@@ -1,7 +1,7 @@
 -- Worked examples of documents and JSON values, each computed from the definitions.
 use Rattle.std.specs.Prelude.{◌≡◌, ℕ, List, [], ◌∷◌, true, false, refl, codes, pos, Some, None}
 use Rattle.documents.specs.Document.{Document, Members, null, number, string, array, object, no_items, item}
-use Rattle.documents.specs.Document.{no_members, member, is_document, depth}
+use Rattle.documents.specs.Document.{no_members, member, is_document, depth, lookup}
 use Rattle.documents.specs.Json as J
 use Rattle.documents.specs.Tests.{comes_before}
 
@@ -77,6 +77,15 @@ deepest_depth = refl
 -- the deepest member counts
 member_depth : depth (object (member (codes "a") (array no_items) (member (codes "b") null no_members))) ≡ 2
 member_depth = refl
+
+-- every member is looked at
+lookup_last : lookup (codes "b") (member (codes "a") null (member (codes "b") (number (pos 1)) no_members))
+    ≡ Some (number (pos 1))
+lookup_last = refl
+
+-- a longer name that begins with the name is another
+lookup_longer_name : lookup (codes "a") (member (codes "ab") null no_members) ≡ None
+lookup_longer_name = refl
 
 -- in a value with a repeated name the first member of that name is taken
 lookup_first : J.lookup (codes "a")

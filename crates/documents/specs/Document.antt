@@ -1,7 +1,7 @@
 -- A document: null, a truth value, a whole number of any size, a string as its scalar values, an array, or an object.
-use Rattle.std.specs.Prelude.{ℕ, suc, max, ℤ, List, [], ◌∷◌, Bool, true, ◌&&◌}
+use Rattle.std.specs.Prelude.{ℕ, suc, max, ℤ, List, [], ◌∷◌, Bool, true, ◌&&◌, Option, Some, None, cond}
 use Rattle.documents.specs.Kind.{Kind, Null, Boolean, Number, Text, Array, Object}
-use Rattle.documents.specs.Tests.{every, comes_before, is_scalar}
+use Rattle.documents.specs.Tests.{every, same_word, comes_before, is_scalar}
 
 mutual
   pub data Document : Type 0 where
@@ -36,6 +36,11 @@ items_of (d ∷ ds) = item d (items_of ds)
 abbrev pub members_of : List (List ℕ × Document) → Members
 members_of [] = no_members
 members_of (m ∷ ms) = member m.0 m.1 (members_of ms)
+
+-- the value of that name, where there is one
+abbrev pub lookup : List ℕ → Members → Option Document
+lookup n no_members = None
+lookup n (member k d ms) = cond (same_word n k) (Some d) (lookup n ms)
 
 abbrev pub kind_of : Document → Kind
 kind_of null = Null

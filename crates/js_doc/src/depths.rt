@@ -6,8 +6,9 @@ ghost use Rattle.js_doc.specs.View.{view, list_view, map_view, capped};
 
 use crate::document::{Doc, DocList, DocMap};
 
-/// 0 for a scalar, 1 for an empty container, else one more than the deepest child. A depth over 4,294,967,295 is
-/// answered as that number. It takes no memory but the stack: one call a level.
+/// How many arrays and objects stand one in another: 0 for null, a truth value, a number or a string. An array or object
+/// is one deeper than the deepest of what it holds, so an empty one has depth 1. Depths past u32's last value are given
+/// as that value. One call a level, and no memory but for those.
 #[cycle(depth)]
 pub fn depth(doc: &Doc) -> u32
     ensures { result ≡ capped (D.depth (view doc.now)) }

@@ -1,7 +1,7 @@
 //! Documents: what JSON text stands for, with whole numbers. Members stand in ascending order of their names.
 
-ghost use Rattle.std.specs.Prelude.{◌≡◌, ◌<◌, map, length, get_or};
-ghost use Rattle.documents.specs.Document.{items_of, members_of, elements, entries};
+ghost use Rattle.std.specs.Prelude.{◌≡◌, ◌<◌, map, length, get_or, option_map, chars};
+ghost use Rattle.documents.specs.Document.{items_of, members_of, elements, entries, lookup};
 
 use crate::text::Str;
 
@@ -126,5 +126,17 @@ impl DocMap {
         ensures { member_view result.now ≡ get_or (entries (map_view self.now)) i (member_view result.now) }
     {
         &self.as_slice()[i]
+    }
+
+    /// The value of the member of that name, where there is one. It looks at one member after another.
+    pub fn get(&self, name: &str) -> Option<&Doc>
+        ensures { option_map (λ d. view d.now) result ≡ lookup (chars name.now) (map_view self.now) }
+    {
+        for member in self.as_slice() {
+            if member.name().as_text() == name {
+                return Some(member.value());
+            }
+        }
+        None
     }
 }

@@ -1,7 +1,7 @@
 //! JSON values: documents, with a leaf for a number that is not whole. Schema texts are read as these.
 
-ghost use Rattle.std.specs.Prelude.{◌≡◌, ◌<◌, map, length, get_or};
-ghost use Rattle.documents.specs.Json.{items_of, members_of, elements, entries};
+ghost use Rattle.std.specs.Prelude.{◌≡◌, ◌<◌, map, length, get_or, option_map, chars};
+ghost use Rattle.documents.specs.Json.{items_of, members_of, elements, entries, lookup};
 
 use crate::text::Str;
 
@@ -127,5 +127,17 @@ impl JsonMap {
         ensures { member_view result.now ≡ get_or (entries (map_view self.now)) i (member_view result.now) }
     {
         &self.as_slice()[i]
+    }
+
+    /// The value of the member of that name, where there is one. It looks at one member after another.
+    pub fn get(&self, name: &str) -> Option<&Json>
+        ensures { option_map (λ j. view j.now) result ≡ lookup (chars name.now) (map_view self.now) }
+    {
+        for member in self.as_slice() {
+            if member.name().as_text() == name {
+                return Some(member.value());
+            }
+        }
+        None
     }
 }

@@ -12,10 +12,5 @@ use js_doc::{Json, JsonMap};
 pub fn member<'a>(map: &'a JsonMap, name: &str) -> Option<&'a Json>
     ensures { option_map (λ j. view j.now) result ≡ lookup (chars name.now) (map_view map.now) }
 {
-    for entry in map.as_slice() {
-        if entry.name().as_text() == name {
-            return Some(entry.value());
-        }
-    }
-    None
+    map.get(name)
 }
