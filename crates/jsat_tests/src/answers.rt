@@ -1,0 +1,187 @@
+//! What is answered where nothing fails.
+
+use crate::setting::{CERTIFICATE, ROOM, STRING, STRING_OR_NULL, expect, status_of, two_files};
+use js_doc::Memory;
+use js_outside::{MemoryShelf, MemorySink};
+use std::alloc::{AllocError, Global};
+
+/// The certificate that lists no goal.
+const NOTHING_LISTED: &str = "certificate 1\ngoals 0\nend\n";
+
+#[test]
+fn other_words_are_no_command(rt: HostRuntime) -> Result<(), Memory> {
+    for line in [
+        "",
+        "frob",
+        "include",
+        "include a",
+        "include a b c",
+        "include -x b",
+        "include a -x",
+        "include -- b",
+        "Include a b",
+    ] {
+        let files = (STRING.as_bytes(), STRING.as_bytes());
+        expect(&rt, rt.alloc(), line, files, (2, "usage\n"))?;
+    }
+    Ok(())
+}
+
+#[test]
+fn two_schemas_are_compared(rt: HostRuntime) -> Result<(), Memory> {
+    for (a, b, status, report) in [
+        ("{}", "false", 1, "document\nnull\n"),
+        ("true", "true", 0, NOTHING_LISTED),
+        ("false", "false", 0, NOTHING_LISTED),
+        (STRING, STRING_OR_NULL, 0, CERTIFICATE),
+        (STRING_OR_NULL, STRING, 1, "document\nnull\n"),
+        ("{\"title\":{\"type\":5}}", "true", 0, NOTHING_LISTED),
+        ("{\"type\":\"boolean\"}", "false", 1, "document\nfalse\n"),
+        (
+            "true",
+            "{\"type\":[\"null\",\"boolean\"]}",
+            1,
+            "document\n0\n",
+        ),
+        (STRING, "{\"not\":{}}", 1, "document\n\"\"\n"),
+        (
+            "{\"allOf\":[{\"type\":[\"null\",\"array\"]},{\"not\":{\"type\":\"null\"}}]}",
+            "false",
+            1,
+            "document\n[]\n",
+        ),
+        (
+            "{\"anyOf\":[{\"type\":\"object\"},{\"type\":\"array\"}]}",
+            "{\"type\":\"array\"}",
+            1,
+            "document\n{}\n",
+        ),
+    ] {
+        let files = (a.as_bytes(), b.as_bytes());
+        expect(&rt, rt.alloc(), "include a b", files, (status, report))?;
+    }
+    Ok(())
+}
+
+#[test]
+fn a_file_that_is_no_schema_of_the_forms_is_refused(rt: HostRuntime) -> Result<(), Memory> {
+    for (a, b, report) in [
+        ("", "true", "refused first notjson\n"),
+        ("{\"type\":", "true", "refused first notjson\n"),
+        ("\u{feff}true", "true", "refused first notjson\n"),
+        ("{\"title\":\"\\ud800\"}", "true", "refused first notjson\n"),
+        ("{\"title\":1e999}", "true", "refused first notjson\n"),
+        ("5", "true", "refused first notyet \"\"\n"),
+        (
+            "{\"type\":\"frob\"}",
+            "true",
+            "refused first notyet \"/type\"\n",
+        ),
+        ("{\"type\":[]}", "true", "refused first notyet \"/type\"\n"),
+        (
+            "{\"allOf\":[]}",
+            "true",
+            "refused first notyet \"/allOf\"\n",
+        ),
+        ("{\"allOf\":5}", "true", "refused first notyet \"/allOf\"\n"),
+        (
+            "{\"allOf\":[5]}",
+            "true",
+            "refused first notyet \"/allOf/0\"\n",
+        ),
+        (
+            "{\"$ref\":\"#\"}",
+            "true",
+            "refused first notyet \"/$ref\"\n",
+        ),
+        (
+            "{\"minimum\":1}",
+            "true",
+            "refused first notyet \"/minimum\"\n",
+        ),
+        ("true", "", "refused second notjson\n"),
+        (
+            "true",
+            "{\"not\":{\"minimum\":1}}",
+            "refused second notyet \"/not/minimum\"\n",
+        ),
+        ("", "{\"minimum\":1}", "refused first notjson\n"),
+        ("{\"minimum\":1}", "", "refused first notyet \"/minimum\"\n"),
+    ] {
+        let files = (a.as_bytes(), b.as_bytes());
+        expect(&rt, rt.alloc(), "include a b", files, (3, report))?;
+    }
+    let files = (b"{\"title\":\"\xff\"}".as_slice(), b"true".as_slice());
+    expect(
+        &rt,
+        rt.alloc(),
+        "include a b",
+        files,
+        (3, "refused first notjson\n"),
+    )
+}
+
+/// `inner` between `count` copies of `open` and of `close`.
+fn nested(
+    alloc: Global,
+    count: usize,
+    open: &str,
+    inner: &str,
+    close: &str,
+) -> Result<String, AllocError> {
+    let mut text = open.repeat(alloc, count)?;
+    text.push_str(inner)?;
+    text.push_str(close.repeat(alloc, count)?.as_str())?;
+    Ok(text)
+}
+
+#[test]
+fn a_file_may_have_16777216_bytes(rt: HostRuntime) -> Result<(), Memory> {
+    for (blanks, answer) in [
+        (16_777_212, (0, NOTHING_LISTED)),
+        (16_777_213, (3, "refused first toolong\n")),
+    ] {
+        let a = nested(rt.alloc(), blanks, " ", "true", "")?;
+        let files = (a.as_bytes(), b"true".as_slice());
+        expect(&rt, rt.alloc(), "include a b", files, answer)?;
+    }
+    Ok(())
+}
+
+#[test]
+fn lists_may_nest_127_deep(rt: HostRuntime) -> Result<(), Memory> {
+    for (count, report) in [
+        (127, "refused first notyet \"\"\n"),
+        (128, "refused first notjson\n"),
+    ] {
+        let a = nested(rt.alloc(), count, "[", "", "]")?;
+        let files = (a.as_bytes(), b"true".as_slice());
+        expect(&rt, rt.alloc(), "include a b", files, (3, report))?;
+    }
+    Ok(())
+}
+
+#[test]
+fn negations_may_nest_127_deep(rt: HostRuntime) -> Result<(), Memory> {
+    let alloc = rt.alloc();
+    for (count, status) in [(126, 1), (127, 0), (128, 3)] {
+        let a = nested(alloc, count, "{\"not\":", "true", "}")?;
+        let mut shelf = MemoryShelf::new(two_files(alloc, a.as_bytes(), b"false")?);
+        let mut sink = MemorySink::new(alloc, ROOM)?;
+        let found = status_of(alloc, "include a b", &mut shelf, &mut sink)?;
+        assert_eq!(rt; found, status, "{count} negations");
+    }
+    Ok(())
+}
+
+#[test]
+fn a_tree_may_have_16384_ends(rt: HostRuntime) -> Result<(), Memory> {
+    for (count, status, report) in [(13, 1, "document\nnull\n"), (14, 4, "limit branches +0\n")] {
+        let choice = "{\"anyOf\":[true,true]}";
+        let choices = nested(rt.alloc(), count, "{\"anyOf\":[true,true]},", choice, "")?;
+        let a = nested(rt.alloc(), 1, "{\"allOf\":[", choices.as_str(), "]}")?;
+        let files = (a.as_bytes(), b"false".as_slice());
+        expect(&rt, rt.alloc(), "include a b", files, (status, report))?;
+    }
+    Ok(())
+}

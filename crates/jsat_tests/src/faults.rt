@@ -1,0 +1,99 @@
+//! What is answered where a read or a write fails.
+
+use crate::setting::{
+    CERTIFICATE, ROOM, STRING, STRING_OR_NULL, expect, expect_written, status_of, two_files,
+};
+use js_doc::Memory;
+use js_outside::{
+    CallList, CutShelf, CutSink, FailingShelf, FailingSink, FileMap, MemoryShelf, MemorySink,
+};
+use std::alloc::Global;
+
+/// No run makes as many calls.
+const NEVER: u64 = 1_000_000;
+
+fn strings(alloc: Global) -> Result<FileMap, Memory> {
+    two_files(alloc, STRING.as_bytes(), STRING_OR_NULL.as_bytes())
+}
+
+fn one_call(alloc: Global, call: u64) -> Result<CallList, Memory> {
+    Ok(CallList::from_vec(vec![in alloc; call]?))
+}
+
+#[test]
+fn a_file_that_is_not_there_is_a_read_fault(rt: HostRuntime) -> Result<(), Memory> {
+    let fault = (5, "readfault\n");
+    for (line, a, answer) in [
+        ("include c b", "true", fault),
+        ("include a c", "true", fault),
+        ("include - b", "true", fault),
+        ("include c a", "5", fault),
+        ("include a c", "5", (3, "refused first notyet \"\"\n")),
+    ] {
+        expect(&rt, rt.alloc(), line, (a.as_bytes(), b"true"), answer)?;
+    }
+    Ok(())
+}
+
+/// Each file is begun, read, and read once more to see its end.
+#[test]
+fn each_call_of_the_shelf_may_fail(rt: HostRuntime) -> Result<(), Memory> {
+    let alloc = rt.alloc();
+    for call in 0..=6u64 {
+        let mut shelf = FailingShelf::new(strings(alloc)?, one_call(alloc, call)?);
+        let mut sink = MemorySink::new(alloc, ROOM)?;
+        let status = status_of(alloc, "include a b", &mut shelf, &mut sink)?;
+        let wanted = if call < 6 {
+            (5, "readfault\n")
+        } else {
+            (0, CERTIFICATE)
+        };
+        expect_written(&rt, (status, sink.written()), wanted);
+    }
+    Ok(())
+}
+
+#[test]
+fn the_first_write_may_fail(rt: HostRuntime) -> Result<(), Memory> {
+    let alloc = rt.alloc();
+    for (read, write, wanted) in [
+        (NEVER, NEVER, (0, CERTIFICATE)),
+        (NEVER, 0, (6, "")),
+        (0, NEVER, (5, "readfault\n")),
+        (0, 0, (6, "")),
+    ] {
+        let mut shelf = FailingShelf::new(strings(alloc)?, one_call(alloc, read)?);
+        let mut sink = FailingSink::new(alloc, ROOM, one_call(alloc, write)?)?;
+        let status = status_of(alloc, "include a b", &mut shelf, &mut sink)?;
+        expect_written(&rt, (status, sink.written()), wanted);
+    }
+    Ok(())
+}
+
+#[test]
+fn a_small_sink_keeps_a_front_of_the_report(rt: HostRuntime) -> Result<(), Memory> {
+    let alloc = rt.alloc();
+    for (room, wanted) in [
+        (0, (6, "")),
+        (13, (6, "certificate 1")),
+        (206, (6, CERTIFICATE.trim_end())),
+        (207, (0, CERTIFICATE)),
+    ] {
+        let mut shelf = CutShelf::new(strings(alloc)?, 1);
+        let mut sink = CutSink::new(alloc, room, 1)?;
+        let status = status_of(alloc, "include a b", &mut shelf, &mut sink)?;
+        expect_written(&rt, (status, sink.written()), wanted);
+    }
+    Ok(())
+}
+
+#[test]
+fn a_sink_that_takes_whole_pieces_may_keep_none(rt: HostRuntime) -> Result<(), Memory> {
+    let alloc = rt.alloc();
+    let mut shelf = MemoryShelf::new(strings(alloc)?);
+    let mut sink = MemorySink::new(alloc, 206)?;
+    let status = status_of(alloc, "include a b", &mut shelf, &mut sink)?;
+    assert_eq!(rt; status, 6);
+    assert!(rt; CERTIFICATE.as_bytes().starts_with(sink.written()));
+    Ok(())
+}

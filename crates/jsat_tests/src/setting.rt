@@ -1,0 +1,78 @@
+//! Commands over two files in memory, `a` and `b`.
+
+use js_doc::{Memory, Str};
+use js_outside::{FileMap, MemoryShelf, MemorySink, Shelf, Sink};
+use js_top::run;
+use std::alloc::{AllocError, Global};
+use std::process::Abort;
+use std::str;
+
+/// More bytes than any report here has.
+pub(crate) const ROOM: u64 = 100_000;
+
+pub(crate) const STRING: &str = r#"{"type":"string"}"#;
+
+pub(crate) const STRING_OR_NULL: &str = r#"{"type":["string","null"]}"#;
+
+/// That each string is a string or null.
+pub(crate) const CERTIFICATE: &str = "certificate 1\ngoals 1\ngoal +0 -2\nentry 0\n\
+    at null\nrule +0\nkind +1\n\
+    at boolean\nrule +0\nkind +1\n\
+    at number\nrule +0\nkind +1\n\
+    at string\nrule +0\nrule -2\nkind -3\n\
+    at array\nrule +0\nkind +1\n\
+    at object\nrule +0\nkind +1\n\
+    end\n";
+
+fn add(alloc: Global, files: &mut FileMap, name: &str, bytes: &[u8]) -> Result<(), Memory> {
+    files.insert(Str::from_text(alloc, name)?, Vec::from_slice(alloc, bytes)?)
+}
+
+pub(crate) fn two_files(alloc: Global, a: &[u8], b: &[u8]) -> Result<FileMap, Memory> {
+    let mut files = FileMap::new(alloc);
+    add(alloc, &mut files, "a", a)?;
+    add(alloc, &mut files, "b", b)?;
+    Ok(files)
+}
+
+/// The words of a command line.
+fn words_of(alloc: Global, line: &str) -> Result<Vec<Str>, Memory> {
+    let mut words = Vec::new(alloc);
+    for word in line.split_whitespace() {
+        words.push(Str::from_text(alloc, word)?)?;
+    }
+    Ok(words)
+}
+
+/// The exit status of a command line over a shelf, with its report in a sink.
+pub(crate) fn status_of<H: Shelf, K: Sink>(
+    alloc: Global,
+    line: &str,
+    shelf: &mut H,
+    sink: &mut K,
+) -> Result<u8, Memory> {
+    let words = words_of(alloc, line)?;
+    Ok(run(&(), alloc, words.as_slice(), shelf, sink).code())
+}
+
+/// Fails unless a command line over two files has this status and report.
+pub(crate) fn expect(
+    rt: &impl Abort,
+    alloc: Global,
+    line: &str,
+    (a, b): (&[u8], &[u8]),
+    (status, report): (u8, &str),
+) -> Result<(), Memory> {
+    let mut shelf = MemoryShelf::new(two_files(alloc, a, b)?);
+    let mut sink = MemorySink::new(alloc, ROOM)?;
+    let answer = status_of(alloc, line, &mut shelf, &mut sink)?;
+    expect_written(rt, (answer, sink.written()), (status, report));
+    Ok(())
+}
+
+/// Fails unless a status and what was written are the wanted ones.
+pub(crate) fn expect_written(rt: &impl Abort, found: (u8, &[u8]), wanted: (u8, &str)) {
+    let report = str::from_utf8(found.1).unwrap_or("no text");
+    assert_eq!(rt; report, wanted.1);
+    assert_eq!(rt; found.0, wanted.0, "the status with {report}");
+}
