@@ -84,6 +84,7 @@ over_before_limit = refl
 
 -- a set that is asked for is looked at before the least common multiple
 listed_before_multiples : outcome 2 (record (bounded None None (18446744073709551615 ∷ 18446744073709551614 ∷ []) []) {
-  sets = (pos 1 ∷ pos 0 ∷ []) ∷ [] }) ≡ Found (pos 0)
+  sets = (pos 1 ∷ pos 0 ∷ []) ∷ [];
+}) ≡ Found (pos 0)
 unfolding outcome bounded
 listed_before_multiples = refl
