@@ -146,6 +146,7 @@ def wide_multiples():
             yield group(low, high, [a, b])
             yield group(low, high, [a, b], not_sets=[[0, a * b // math.gcd(a, b)] if a * b < 2**127 else [0]])
             yield group(low, high, [a, b], [2])
+    yield group(None, None, [TOP - 1, TOP - 2], sets=[[1, 0]])  # a set is searched first
 
 
 def full_sets():

@@ -13,6 +13,9 @@ use crate::group::{Cases, NumGroup};
 use crate::search::search;
 
 /// The first number that meets the group, or that there is none, or which limit was passed on the way.
+///
+/// Bounds are at most 2^64 in size, divisors above 0. With sets that are asked for, each value of the first is looked
+/// up in every list by a scan; without, each of at most 65,537 candidates is tried by each divisor that is ruled out.
 pub fn decide(group: &NumGroup) -> Cases
     requires { is_ready (group_of group.now) ≡ true }
     ensures answer { result ≡ outcome MOST_STRUCK (group_of group.now) }

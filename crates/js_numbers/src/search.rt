@@ -1,7 +1,7 @@
 //! The first candidate that nothing rules out.
 //!
 //! At most [`MOST_STRUCK`] candidates are struck, so a search takes a pass over the sets that are ruled out and at most
-//! 65,537 steps.
+//! 65,537 steps, each with a look at each divisor that is ruled out.
 
 ghost use Rattle.std.specs.Prelude.{◌≡◌, ◌<◌, ◌^◌, true, ◌||◌, length};
 ghost use Rattle.std.specs.List.{list_any};
