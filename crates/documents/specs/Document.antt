@@ -1,4 +1,4 @@
--- A document: null, a truth value, a whole number of any size, a string as its scalar values, an array, or an object.
+-- Documents: the values that JSON has, where every number is whole, of any size, and a string is its scalar values.
 use Rattle.std.specs.Prelude.{ℕ, suc, max, ℤ, List, [], ◌∷◌, Bool, true, ◌&&◌, Option, Some, None, cond}
 use Rattle.documents.specs.Kind.{Kind, Null, Boolean, Number, Text, Array, Object}
 use Rattle.documents.specs.Tests.{every, same_word, comes_before, is_scalar}

@@ -48,7 +48,7 @@ module _ (T : List Position) (g : List Signed) (t : Kind) where
   tree_of-closed ls e = go (is_over T g t) refl e where
     go : (b : Bool) → is_over T g t ≡ b → cond b Over (by_branches (branches (steps T t g)) (steps T t g)) ≡ Closed ls
         → (is_over T g t ≡ false) × ((not (is_over T g t) && is_some_branch (branches (steps T t g))) ≡ false)
-          × (map line_of (steps T t g) ≡ ls)
+        × (map line_of (steps T t g) ≡ ls)
     go true h e = cc
     go false h e =
         let (none, lines) = by_branches-closed (branches (steps T t g)) (steps T t g) ls e in
@@ -87,9 +87,9 @@ module _ (T : List Position) (g : List Signed) where
         first_open = known.first_open ∙ ap (λ b. cond b (Some k) (first (is_open T g) ks)) o;
         some_over = known.some_over ∙ ap (λ b. over || (b || some (is_over T g) ks)) h;
         closed = λ none.
-          ap (λ xs. xs ++ tree_lines T g ks) (m ∙ ap (λ xs. lines ++ At k ∷ xs) (sym same))
-          ∙ append_assoc lines (At k ∷ map line_of (steps T k g)) (tree_lines T g ks)
-          ∙ known.closed none;
+            ap (λ xs. xs ++ tree_lines T g ks) (m ∙ ap (λ xs. lines ++ At k ∷ xs) (sym same))
+            ∙ append_assoc lines (At k ∷ map line_of (steps T k g)) (tree_lines T g ks)
+            ∙ known.closed none;
       }
 
   pub known-open : (k : Kind) (ks : List Kind) (over : Bool) (lines : List Line) → tree_of T k g ≡ Open
@@ -110,6 +110,7 @@ module _ (T : List Position) (g : List Signed) where
       nothing : (xs : List Line) → xs ++ [] ≡ xs
       nothing [] = refl
       nothing (x ∷ xs) = ap (λ ys. x ∷ ys) (nothing xs)
+
       ends_as : written T (Some g) ≡ lines ++ End ∷ []
       ends_as =
           sym (append_assoc (heading g) (tree_lines T g all_kinds) (End ∷ []))

@@ -85,6 +85,7 @@ module _ (T : List Position) (ok : IsTable T) (a b : ℕ) where
         let opened = first-passes (is_open T g) all_kinds u h in
         let (B, Bs, some_branch) = is_some_branch-true _ (and_parts (not (is_over T g u)) _ opened).1 in
         branches-some_met T ok J u (k ∙ sym same) g B Bs some_branch
+
     go : (o : Option (List Signed)) → of_goal T o ≡ OfKind t → meets_goal T o J ≡ true
     go None e = cc
     go (Some g) e = at_kind g (first (is_open T g) all_kinds) refl e
@@ -102,10 +103,12 @@ module _ (T : List Position) (ok : IsTable T) (a b : ℕ) where
         of_cond : (c : Bool) → some (is_over T g) all_kinds ≡ c → cond c (Limit g) (Certificate (written T (Some g))) ≡ Certificate ls
             → (written T (Some g) ≡ ls) × ((t : Kind) → branches (steps T t g) ≡ [])
         of_cond true i e = cc
-        of_cond false i e =
-            ( cc
-            , (λ t. closed T g t (each_kind (λ u. is_open T g u ≡ false) (first-fails (is_open T g) all_kinds h) t)
-                (each_kind (λ u. is_over T g u ≡ false) (some-fails (is_over T g) all_kinds i) t)) )
+        of_cond false i e = (
+          cc,
+          (λ t. closed T g t (each_kind (λ u. is_open T g u ≡ false) (first-fails (is_open T g) all_kinds h) t)
+              (each_kind (λ u. is_over T g u ≡ false) (some-fails (is_over T g) all_kinds i) t)),
+        )
+
       go : (o : Option (List Signed)) → of_goal T o ≡ Certificate ls
           → (written T o ≡ ls) × IfSome o (λ g. (t : Kind) → branches (steps T t g) ≡ [])
       go None e = (cc, tt)

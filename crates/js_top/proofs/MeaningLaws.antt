@@ -83,6 +83,7 @@ limit_goal T h g e = go (first (is_open T h) all_kinds) refl e where
       → (h ≡ g) × (some (is_over T h) all_kinds ≡ true) × (some (is_open T h) all_kinds ≡ false)
   at true i e f = (cc, i, first-none (is_open T h) all_kinds f)
   at false i e f = cc
+
   go : (o : Option Kind) → first (is_open T h) all_kinds ≡ o → of_kinds T h o ≡ Limit g
       → (h ≡ g) × (some (is_over T h) all_kinds ≡ true) × (some (is_open T h) all_kinds ≡ false)
   go (Some t) f e = cc
@@ -143,27 +144,29 @@ module _ (a b : Json) where
         written = is;
         good = verdict-good (joined (table_of a) (table_of b)) both_table 0 (length (table_of a)) ls in_first in_second e;
         included = λ J document h.
-          valid-second J
-          ∙ verdict-certificate (joined (table_of a) (table_of b)) both_table 0 (length (table_of a)) ls in_first in_second e J
+            valid-second J
+            ∙ verdict-certificate (joined (table_of a) (table_of b)) both_table 0 (length (table_of a)) ls in_first in_second e J
             (sym (valid-first J) ∙ h);
       }
 
   -- a limit's report
   limit_parts : (g : List Signed) → verdict (joined (table_of a) (table_of b)) 0 (length (table_of a)) ≡ Limit g
       → (form (joined (table_of a) (table_of b)) (Plus 0 ∷ Minus (length (table_of a)) ∷ []) ≡ Some g)
-        × (some (is_over (joined (table_of a) (table_of b)) g) all_kinds ≡ true)
-        × (some (is_open (joined (table_of a) (table_of b)) g) all_kinds ≡ false)
+      × (some (is_over (joined (table_of a) (table_of b)) g) all_kinds ≡ true)
+      × (some (is_open (joined (table_of a) (table_of b)) g) all_kinds ≡ false)
   limit_parts g e = go (form (joined (table_of a) (table_of b)) (Plus 0 ∷ Minus (length (table_of a)) ∷ [])) refl e where
     go : (o : Option (List Signed)) → form (joined (table_of a) (table_of b)) (Plus 0 ∷ Minus (length (table_of a)) ∷ []) ≡ o
         → of_goal (joined (table_of a) (table_of b)) o ≡ Limit g
         → (form (joined (table_of a) (table_of b)) (Plus 0 ∷ Minus (length (table_of a)) ∷ []) ≡ Some g)
-          × (some (is_over (joined (table_of a) (table_of b)) g) all_kinds ≡ true)
-          × (some (is_open (joined (table_of a) (table_of b)) g) all_kinds ≡ false)
+        × (some (is_over (joined (table_of a) (table_of b)) g) all_kinds ≡ true)
+        × (some (is_open (joined (table_of a) (table_of b)) g) all_kinds ≡ false)
     go None f e = cc
     go (Some h) f e =
-        let (same, over, none) = limit_goal (joined (table_of a) (table_of b)) h g e in
-        (f ∙ ap Some same, subst (λ k. some (is_over (joined (table_of a) (table_of b)) k) all_kinds ≡ true) same over
-        , subst (λ k. some (is_open (joined (table_of a) (table_of b)) k) all_kinds ≡ false) same none)
+        let (same, over, none) = limit_goal (joined (table_of a) (table_of b)) h g e in (
+          f ∙ ap Some same,
+          subst (λ k. some (is_over (joined (table_of a) (table_of b)) k) all_kinds ≡ true) same over,
+          subst (λ k. some (is_open (joined (table_of a) (table_of b)) k) all_kinds ≡ false) same none,
+        )
 
   limited : (g : List Signed) (text : List ℕ) → verdict (joined (table_of a) (table_of b)) 0 (length (table_of a)) ≡ Limit g
       → line (codes "limit branches" ++ signed_list_text g) ≡ text → IsLimit a b text
@@ -237,7 +240,7 @@ passes-report : (a b : Json) → PassesLimit a b → (include_report a b).status
 passes-report a b x =
     ap (λ o. (verdict_report (of_goal (joined (table_of a) (table_of b)) o)).status) x.formed
     ∙ ap (λ o. (verdict_report (of_kinds (joined (table_of a) (table_of b)) x.goal o)).status)
-        (first-absent (is_open (joined (table_of a) (table_of b)) x.goal) all_kinds x.none_open)
+    (first-absent (is_open (joined (table_of a) (table_of b)) x.goal) all_kinds x.none_open)
     ∙ ap (λ c. (verdict_report (cond c (Limit x.goal) (Certificate (written (joined (table_of a) (table_of b)) (Some x.goal))))).status) x.over
 
 pub report-limited : (told : Option Files) (words : List (List ℕ)) (text : List ℕ) (status : Status)

@@ -7,13 +7,10 @@
 
 mod load;
 mod prepare;
-mod top;
-
-
 mod status;
 mod text;
+mod top;
 mod words;
 
-
-pub use top::run;
 pub use status::Status;
+pub use top::run;

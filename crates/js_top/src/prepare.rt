@@ -55,7 +55,11 @@ impl Prepared {
 }
 
 /// The report of the words over the shelf's files.
-pub(crate) fn prepare<H: Shelf>(alloc: Global, words: &[Str], shelf: &mut H) -> Result<Prepared, Memory>
+pub(crate) fn prepare<H: Shelf>(
+    alloc: Global,
+    words: &[Str],
+    shelf: &mut H,
+) -> Result<Prepared, Memory>
     ensures told { H.told shelf.new ≡ H.told shelf.old }
     ensures says { IfOk result (PreparedSays (H.told shelf.old) words.now (H.faults shelf.old) (H.faults shelf.new)) }
     ensures memory { OnErr result (H.faults shelf.new ≡ H.faults shelf.old) }
@@ -68,7 +72,12 @@ pub(crate) fn prepare<H: Shelf>(alloc: Global, words: &[Str], shelf: &mut H) -> 
 }
 
 /// The report of `include`: the second file is read only where the first was.
-fn prepare_include<H: Shelf>(alloc: Global, shelf: &mut H, first: &Str, second: &Str) -> Result<Prepared, Memory>
+fn prepare_include<H: Shelf>(
+    alloc: Global,
+    shelf: &mut H,
+    first: &Str,
+    second: &Str,
+) -> Result<Prepared, Memory>
     ensures told { H.told shelf.new ≡ H.told shelf.old }
     ensures says { IfOk result
         (IncludeSays (H.told shelf.old) first.now second.now (H.faults shelf.old) (H.faults shelf.new)) }

@@ -20,7 +20,13 @@ use std::alloc::Global;
 /// Nothing is written until the report is complete. `rt` is the runtime, of which nothing is used so far: all work is
 /// done on the caller's thread. Where the shelf tells its files, the clauses say which report is written; a shelf and a
 /// sink that tell nothing still keep the clauses on faults.
-pub fn run<R, H: Shelf, K: Sink>(rt: &R, alloc: Global, words: &[Str], shelf: &mut H, sink: &mut K) -> Status
+pub fn run<R, H: Shelf, K: Sink>(
+    rt: &R,
+    alloc: Global,
+    words: &[Str],
+    shelf: &mut H,
+    sink: &mut K,
+) -> Status
     // A status tells of a fault only where its count rose, and of other words only for them.
     ensures read_fault { result ≡ Status.ReadFault → Rose (H.faults shelf.old) (H.faults shelf.new) }
     ensures write_fault { result ≡ Status.WriteFault → Rose (K.faults sink.old) (K.faults sink.new) }

@@ -18,13 +18,13 @@ loop-i-preserved c =
     let in_ranks : c.loop-i.i < length c.args.core.now.ranks = omega arith in
     record {
       nodes =
-        ap (map node_view) c.in_ok-push.ensures.items
-        ∙ map-append node_view c.loop-i.nodes.items _
-        ∙ take-moved c.args.core.now.positions (moved c.args.by) c.loop-i.i (map node_view c.loop-i.nodes.items)
+          ap (map node_view) c.in_ok-push.ensures.items
+          ∙ map-append node_view c.loop-i.nodes.items _
+          ∙ take-moved c.args.core.now.positions (moved c.args.by) c.loop-i.i (map node_view c.loop-i.nodes.items)
           (map node_view c.args.nodes.now.items) (node_view c.in_ok-moved_node.field-0) (node_view c.node.result.now)
           in_nodes c.node.ensures.value c.in_ok-moved_node.ensures c.loop-i.invariant.nodes;
       ranks =
-        c.in_ok-push-2.ensures.items
-        ∙ take-ranks c.args.core.now.ranks c.loop-i.i c.rank.result c.loop-i.ranks.items c.args.ranks.now.items
+          c.in_ok-push-2.ensures.items
+          ∙ take-ranks c.args.core.now.ranks c.loop-i.i c.rank.result c.loop-i.ranks.items c.args.ranks.now.items
           in_ranks c.rank.ensures c.loop-i.invariant.ranks;
     }

@@ -46,9 +46,9 @@ returns-clause-in_table c = set_in_table _ (map signed_view c.in_ok-found.found.
 pub returns-then-clashes_nearby-clause-meaning : goal.returns-then-clashes_nearby-clause-meaning
 returns-then-clashes_nearby-clause-meaning c =
     meets-formed c.args.core.now.positions c.args.core.now.ranks c.len-length.ensures.table (map signed_view c.args.list.now) c.requires None
-      (returns-then-clashes_nearby-clause-goal c)
+    (returns-then-clashes_nearby-clause-goal c)
 
 pub returns-clause-meaning : goal.returns-clause-meaning
 returns-clause-meaning c =
     meets-formed c.args.core.now.positions c.args.core.now.ranks c.len-length.ensures.table (map signed_view c.args.list.now) c.requires
-      (Some (map signed_view c.sorted-items.result.items)) (returns-clause-goal c)
+    (Some (map signed_view c.sorted-items.result.items)) (returns-clause-goal c)

@@ -9,24 +9,24 @@ use Rattle.js_top.proofs.prepare.prepare_include.Goals as goal
 pub compared-requires-clause-a_filled : goal.compared-requires-clause-a_filled
 compared-requires-clause-a_filled g c =
     let (same, (j, is, more)) = subst (LoadSays (g.H.Shelf.told c.args.shelf.now) c.args.first.now
-        (g.H.Shelf.faults c.args.shelf.now) (g.H.Shelf.faults c.load.new.shelf)) c.in-Table.is c.in_ok-core.ensures.says in
+    (g.H.Shelf.faults c.args.shelf.now) (g.H.Shelf.faults c.load.new.shelf)) c.in-Table.is c.in_ok-core.ensures.says in
     table_of-filled c.in-Table.core j is
 
 pub compared-requires-clause-b_filled : goal.compared-requires-clause-b_filled
 compared-requires-clause-b_filled g c =
     let (same, (j, is, more)) = subst (LoadSays (g.H.Shelf.told c.load.new.shelf) c.args.second.now
-        (g.H.Shelf.faults c.load.new.shelf) (g.H.Shelf.faults c.load-2.new.shelf)) c.in-Table-2.is c.in_ok-core-2.ensures.says in
+    (g.H.Shelf.faults c.load.new.shelf) (g.H.Shelf.faults c.load-2.new.shelf)) c.in-Table-2.is c.in_ok-core-2.ensures.says in
     table_of-filled c.in-Table-2.core j is
 
 pub returns-clause-says : goal.returns-clause-says
 returns-clause-says g c =
     let (same, (x, is_x, (bytes, has, read))) = subst (LoadSays (g.H.Shelf.told c.args.shelf.now) c.args.first.now
-        (g.H.Shelf.faults c.args.shelf.now) (g.H.Shelf.faults c.load.new.shelf)) c.in-Table.is c.in_ok-core.ensures.says in
+    (g.H.Shelf.faults c.args.shelf.now) (g.H.Shelf.faults c.load.new.shelf)) c.in-Table.is c.in_ok-core.ensures.says in
     let (again, (y, is_y, (others, has_others, read_others))) = subst (LoadSays (g.H.Shelf.told c.load.new.shelf) c.args.second.now
-        (g.H.Shelf.faults c.load.new.shelf) (g.H.Shelf.faults c.load-2.new.shelf)) c.in-Table-2.is c.in_ok-core-2.ensures.says in
+    (g.H.Shelf.faults c.load.new.shelf) (g.H.Shelf.faults c.load-2.new.shelf)) c.in-Table-2.is c.in_ok-core-2.ensures.says in
     IfOk-weaker c.compared.result _ _ c.compared.ensures (λ p e.
-      IncludeSays-answer (g.H.Shelf.told c.args.shelf.now) c.args.first.now c.args.second.now _ _ _ p _ same again e
-      (is_answer-verdict (verdict (joined c.in-Table.core.positions c.in-Table-2.core.positions) 0 (length c.in-Table.core.positions)))
-      (IsReportOf-read (g.H.Shelf.told c.args.shelf.now) c.args.first.now c.args.second.now bytes others x y c.in-Table.core
-        c.in-Table-2.core is_x is_y has read
-        (subst (λ t. HasBytes t (encode_utf8_all c.args.second.now) others) c.in_ok-core.ensures.told has_others) read_others))
+    IncludeSays-answer (g.H.Shelf.told c.args.shelf.now) c.args.first.now c.args.second.now _ _ _ p _ same again e
+    (is_answer-verdict (verdict (joined c.in-Table.core.positions c.in-Table-2.core.positions) 0 (length c.in-Table.core.positions)))
+    (IsReportOf-read (g.H.Shelf.told c.args.shelf.now) c.args.first.now c.args.second.now bytes others x y c.in-Table.core
+    c.in-Table-2.core is_x is_y has read
+    (subst (λ t. HasBytes t (encode_utf8_all c.args.second.now) others) c.in_ok-core.ensures.told has_others) read_others))
