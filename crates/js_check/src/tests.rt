@@ -1,7 +1,11 @@
 //! The certificate of a small inclusion, texts that are nearly one, and what reading each gives.
 
-use crate::read_lines;
+ghost use Rattle.std.specs.Prelude.{◌≡◌, IfOk, length};
+
+use crate::{judge, read_lines};
+use js_algebra::{Core, JsonKind, KindList, Node, NodeList, Pos, PosList, RankList};
 use js_cert::cert_text;
+use std::alloc::Global;
 use std::test::Fail;
 
 /// That what is valid for `{"type":"string"}` is valid for `{"type":["string","null"]}`.
@@ -61,5 +65,33 @@ fn texts_and_their_lines(rt: HostRuntime) -> Result<(), Fail> {
     }
     let cut = &WHOLE.as_bytes()[..40];
     assert!(rt; read_lines(alloc, cut)?.is_none());
+    Ok(())
+}
+
+/// `{"type":"string"}` at 0 and `{"type":["string","null"]}` at 2.
+fn table(alloc: Global) -> Result<Core, Fail>
+    ensures { IfOk result (λ core. length core.positions ≡ 4) }
+{
+    let one = PosList::from_vec(vec![in alloc; Pos(1)]?);
+    let text = KindList::from_vec(vec![in alloc; JsonKind::Text]?);
+    let other = PosList::from_vec(vec![in alloc; Pos(3)]?);
+    let both = KindList::from_vec(vec![in alloc; JsonKind::Text, JsonKind::Null]?);
+    let nodes = vec![in alloc;
+        Node::All(one),
+        Node::Types(text),
+        Node::All(other),
+        Node::Types(both),
+    ]?;
+    let ranks = vec![in alloc; 1, 0, 1, 0]?;
+    Ok(Core::make(NodeList::from_vec(nodes), RankList::from_vec(ranks)))
+}
+
+#[test]
+fn verdicts_on_a_certificate(rt: HostRuntime) -> Result<(), Fail> {
+    let alloc = rt.alloc();
+    let core = table(alloc)?;
+    let lines = read_lines(alloc, WHOLE.as_bytes())?.ok_or("no lines")?;
+    assert!(rt; judge(alloc, &core, Pos(0), Pos(2), &lines)?);
+    assert!(rt; !judge(alloc, &core, Pos(2), Pos(0), &lines)?);
     Ok(())
 }
