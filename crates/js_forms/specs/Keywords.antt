@@ -1,4 +1,4 @@
--- The keywords of draft-06, and the shape of the four that are read so far.
+-- The constraining keywords of draft-06, and the shape of the four that are read so far.
 use Rattle.std.specs.Prelude.{ℕ, List, [], ◌∷◌, Bool, true, false, ◌&&◌, ◌||◌, not, codes}
 use Rattle.documents.specs.Tests.{every, some, same_word}
 use Rattle.documents.specs.Kind.{all_kinds}

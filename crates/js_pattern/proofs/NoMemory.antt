@@ -13,7 +13,7 @@ use Rattle.js_pattern.specs.declared.quantifier.Bounds.{Bounds}
 use Rattle.js_pattern.specs.Reading.{Reading, and_then, after, ◌∈◌, stands_at, digits}
 use Rattle.js_pattern.specs.Escapes.{numbered, byte_of, hexadecimal, unicode_of, in_braces, low_surrogate, is_high_surrogate, letter_of, letter_escape, escape_of, class_escape, unsupported_escape, escape}
 use Rattle.js_pattern.specs.Classes.{class_atom, span, range_to, range_from, item_of, item, items_at, items, class}
-use Rattle.js_pattern.specs.Quantifiers.{judged_by, judged, repeated_by, quantified_by, quantifier, quantified}
+use Rattle.js_pattern.specs.Quantifiers.{widest_repeat, judged_by, judged, repeated_by, quantified_by, quantifier, quantified}
 use Rattle.js_pattern.specs.Grammar.{Body, empty_body, tree_of, add_term, add_alternative, dot_set, set_of_escape, atom, term, opening, Sign, closes, divides, opens, begins_term, sign_of, term_and_more, group_end, group_of, body_at, alternatives, whole, pattern}
 
 -- the reading has no such fault
@@ -118,9 +118,9 @@ class_no at t =
     (after_no 0 set_of (items 0 (at + 1) t) (items_no 0 (at + 1) t))
 
 judged_no : (at low : ℕ) (high : Option ℕ) → NoMemory (judged_by at low high)
-judged_no at low None = if_no (nat_lt 16384 low) _ _ (λ e. cc) (ok_no tt)
+judged_no at low None = if_no (nat_lt widest_repeat low) _ _ (λ e. cc) (ok_no tt)
 judged_no at low (Some high) =
-    if_no (nat_lt 16384 low || nat_lt 16384 high) _ _ (λ e. cc)
+    if_no (nat_lt widest_repeat low || nat_lt widest_repeat high) _ _ (λ e. cc)
     (if_no (nat_lt high low) _ _ (λ e. cc) (ok_no tt))
 
 repeated_no : (tree : Tree) (t : List ℕ) (b : Bounds) (r : Result (Unit {0}) PatternFault) → NoMemory r

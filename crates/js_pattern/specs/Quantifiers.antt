@@ -31,11 +31,15 @@ quantifier c t =
     else if c ∈ "{" then braces t
     else None
 
--- numbers over 16,384, and a least number above the greatest, are faults at the quantifier, in this order
+-- the greatest number that a quantifier may have
+abbrev pub widest_repeat : ℕ
+widest_repeat = 16384
+
+-- greater numbers, and a least number above the greatest, are faults at the quantifier, in this order
 abbrev pub judged_by : ℕ → ℕ → Option ℕ → Result (Unit {0}) PatternFault
-judged_by at low None = if nat_lt 16384 low then Err (RepeatTooWide at) else Ok tt
+judged_by at low None = if nat_lt widest_repeat low then Err (RepeatTooWide at) else Ok tt
 judged_by at low (Some high) =
-    if nat_lt 16384 low || nat_lt 16384 high then Err (RepeatTooWide at)
+    if nat_lt widest_repeat low || nat_lt widest_repeat high then Err (RepeatTooWide at)
     else if nat_lt high low then Err (QuantifierOrder at)
     else Ok tt
 
