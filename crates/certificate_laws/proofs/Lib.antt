@@ -1,3 +1,4 @@
 pub mod GoodSound
 pub mod Written
+pub mod Grammar
 mod Examples

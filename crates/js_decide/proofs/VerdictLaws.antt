@@ -1,5 +1,5 @@
 -- What a verdict means: each document of its kind settles the question, or its certificate is good and no document does.
-use Rattle.std.proofs.Common.{◌≡◌, ℕ, ◌<◌, List, [], ◌∷◌, length, Bool, true, false, ◌&&◌, ◌||◌, not, cond, nat_lt, Option, Some, None, IfSome, refl, ap, sym, ◌∙◌, subst}
+use Rattle.std.proofs.Common.{◌≡◌, ℕ, ◌<◌, ◌≤◌, List, [], ◌∷◌, length, Bool, true, false, ◌&&◌, ◌||◌, not, cond, nat_lt, Option, Some, None, IfSome, refl, ap, sym, ◌∙◌, subst}
 use Rattle.std.specs.List.{AllByRecursion}
 use Rattle.std.proofs.lemmas.Bool.{and_parts}
 use Rattle.documents.specs.Tests.{every, some}
@@ -14,8 +14,9 @@ use Rattle.goal_laws.specs.Formed.{meets_goal}
 use Rattle.goal_laws.proofs.Forms.{meets-form}
 use Rattle.goal_laws.proofs.Saturated.{branches-some_met}
 use Rattle.certificate_laws.proofs.Written.{is_good-written}
+use Rattle.certificate_laws.proofs.Grammar.{IsText-written}
 use Rattle.certificate_laws.proofs.GoodSound.{is_good-holds}
-use Rattle.certificates.specs.Line.{Line}
+use Rattle.certificates.specs.Line.{Line, lines_text, IsText}
 use Rattle.certificates.specs.TreeLines.{written}
 use Rattle.certificates.specs.Good.{is_good}
 use Rattle.js_decide.specs.Verdict.{Verdict, Document as OfKind, Limit, Certificate, is_over, is_open, is_some_branch, of_kinds, of_goal, verdict}
@@ -90,29 +91,40 @@ module _ (T : List Position) (ok : IsTable T) (a b : ℕ) where
     go None e = cc
     go (Some g) e = at_kind g (first (is_open T g) all_kinds) refl e
 
-  -- the lines of a verdict are a good certificate
+  -- the lines of a verdict are those written from the goal's trees, which are all closed
+  verdict-written : (ls : List Line) → verdict T a b ≡ Certificate ls
+      → (written T (form T (Plus a ∷ Minus b ∷ [])) ≡ ls)
+      × IfSome (form T (Plus a ∷ Minus b ∷ [])) (λ g. (t : Kind) → branches (steps T t g) ≡ [])
+  verdict-written ls e = go (form T (Plus a ∷ Minus b ∷ [])) e where
+    at_kind : (g : List Signed) (o : Option Kind) → first (is_open T g) all_kinds ≡ o → of_kinds T g o ≡ Certificate ls
+        → (written T (Some g) ≡ ls) × ((t : Kind) → branches (steps T t g) ≡ [])
+    at_kind g (Some u) h e = cc
+    at_kind g None h e = of_cond (some (is_over T g) all_kinds) refl e where
+      of_cond : (c : Bool) → some (is_over T g) all_kinds ≡ c → cond c (Limit g) (Certificate (written T (Some g))) ≡ Certificate ls
+          → (written T (Some g) ≡ ls) × ((t : Kind) → branches (steps T t g) ≡ [])
+      of_cond true i e = cc
+      of_cond false i e = (
+        cc,
+        (λ t. closed T g t (each_kind (λ u. is_open T g u ≡ false) (first-fails (is_open T g) all_kinds h) t)
+            (each_kind (λ u. is_over T g u ≡ false) (some-fails (is_over T g) all_kinds i) t)),
+      )
+
+    go : (o : Option (List Signed)) → of_goal T o ≡ Certificate ls
+        → (written T o ≡ ls) × IfSome o (λ g. (t : Kind) → branches (steps T t g) ≡ [])
+    go None e = (cc, tt)
+    go (Some g) e = at_kind g (first (is_open T g) all_kinds) refl e
+
+  -- they are a good certificate
   pub verdict-good : (ls : List Line) → a < length T → b < length T → verdict T a b ≡ Certificate ls → is_good T a b ls ≡ true
   verdict-good ls in_a in_b e =
-      let (lines, all_closed) = go (form T (Plus a ∷ Minus b ∷ [])) e in
+      let (lines, all_closed) = verdict-written ls e in
       subst (λ ks. is_good T a b ks ≡ true) lines (is_good-written T ok a b in_a in_b all_closed)
-    where
-      at_kind : (g : List Signed) (o : Option Kind) → first (is_open T g) all_kinds ≡ o → of_kinds T g o ≡ Certificate ls
-          → (written T (Some g) ≡ ls) × ((t : Kind) → branches (steps T t g) ≡ [])
-      at_kind g (Some u) h e = cc
-      at_kind g None h e = of_cond (some (is_over T g) all_kinds) refl e where
-        of_cond : (c : Bool) → some (is_over T g) all_kinds ≡ c → cond c (Limit g) (Certificate (written T (Some g))) ≡ Certificate ls
-            → (written T (Some g) ≡ ls) × ((t : Kind) → branches (steps T t g) ≡ [])
-        of_cond true i e = cc
-        of_cond false i e = (
-          cc,
-          (λ t. closed T g t (each_kind (λ u. is_open T g u ≡ false) (first-fails (is_open T g) all_kinds h) t)
-              (each_kind (λ u. is_over T g u ≡ false) (some-fails (is_over T g) all_kinds i) t)),
-        )
 
-      go : (o : Option (List Signed)) → of_goal T o ≡ Certificate ls
-          → (written T o ≡ ls) × IfSome o (λ g. (t : Kind) → branches (steps T t g) ≡ [])
-      go None e = (cc, tt)
-      go (Some g) e = at_kind g (first (is_open T g) all_kinds) refl e
+  -- and in the grammar, where positions are within its numbers
+  pub verdict-text : (ls : List Line) → length T ≤ 4294967296 → a < length T → b < length T → verdict T a b ≡ Certificate ls
+      → IsText (lines_text ls) ls
+  verdict-text ls few in_a in_b e =
+      subst (λ ks. IsText (lines_text ks) ks) (verdict-written ls e).0 (IsText-written T ok few a b in_a in_b)
 
   -- so every document that meets the first position meets the second
   pub verdict-certificate : (ls : List Line) → a < length T → b < length T → verdict T a b ≡ Certificate ls

@@ -9,6 +9,7 @@ use Rattle.goals.specs.Goal.{form}
 use Rattle.goals.specs.Tree.{steps, ends, branches, first}
 use Rattle.certificates.specs.Line.{Line}
 use Rattle.certificates.specs.TreeLines.{written}
+use Rattle.js_trees.specs.Outcomes.{most_ends}
 
 pub data Verdict : Type 0 where
   -- a document of this kind settles the question, whichever it is
@@ -19,9 +20,6 @@ pub data Verdict : Type 0 where
   Certificate : List Line → Verdict
 
 -- a tree with more ends is not looked at; closed ends count too
-abbrev pub most_ends : ℕ
-most_ends = 16384
-
 abbrev pub is_over : List Position → List Signed → Kind → Bool
 is_over T g t = nat_lt most_ends (ends (steps T t g))
 
