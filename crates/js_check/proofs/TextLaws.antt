@@ -79,6 +79,14 @@ open-says : (bytes p : List ℕ) (ps : List (List ℕ)) → pieces 10 bytes ≡ 
 open-says bytes p ps cut some ls t =
     some (same_but_last ps (map words_text ls) p [] (sym cut ∙ pieces-text bytes ls t)).1
 
+-- a text has one list of lines
+pub one-text : (bytes : List ℕ) (ls ks : List Line) → IsText bytes ls → IsText bytes ks → ls ≡ ks
+one-text bytes ls ks t u =
+    let cut = pieces-text bytes ks u in
+    let some : Some ls ≡ Some ks =
+        sym (lines-read bytes (map words_text ks) ls cut t) ∙ lines-read bytes (map words_text ks) ks cut u in
+    cc
+
 -- the pieces as the program holds them
 
 pub pieces-held : (bytes : List ℕ) (parts held rest : List (Bor (List ℕ))) (last : Bor (List ℕ))

@@ -1,4 +1,5 @@
 pub mod CommandWords
 pub mod Includes
 pub mod MeaningLaws
+pub mod FileLaws
 mod Examples

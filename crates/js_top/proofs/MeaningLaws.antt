@@ -1,5 +1,5 @@
 -- What the report of two schemas that are read means.
-use Rattle.std.proofs.Common.{◌≡◌, ◌⊎◌, inl, inr, ℕ, ◌+◌, ◌<◌, List, [], ◌∷◌, ◌++◌, length, Bool, true, false, ◌||◌, cond, Option, Some, None, codes, encode_utf8_all, pos, refl, ap, ap₂, sym, ◌∙◌, subst, arith}
+use Rattle.std.proofs.Common.{◌≡◌, ◌⊎◌, inl, inr, ℕ, ◌+◌, ◌<◌, ◌≤◌, List, [], ◌∷◌, ◌++◌, length, Bool, true, false, ◌||◌, cond, Option, Some, None, codes, encode_utf8_all, pos, refl, ap, ap₂, sym, ◌∙◌, subst, arith}
 use Rattle.documents.specs.Tests.{some}
 use Rattle.documents.specs.Kind.{Kind, Null, Boolean, Number, Text, Array, Object, all_kinds}
 use Rattle.documents.specs.Document as D
@@ -13,7 +13,7 @@ use Rattle.position_laws.proofs.Joined.{length-joined, joined-IsTable, holds-joi
 use Rattle.goals.specs.Signed.{Signed, Plus, Minus}
 use Rattle.goals.specs.Goal.{form}
 use Rattle.goals.specs.Tree.{first}
-use Rattle.certificates.specs.Line.{Line, lines_text, signed_list_text}
+use Rattle.certificates.specs.Line.{Line, lines_text, signed_list_text, IsText}
 use Rattle.certificates.specs.TreeLines.{written}
 use Rattle.js_json.specs.Value.{value_of}
 use Rattle.js_json.proofs.OnTexts.{json_on_texts}
@@ -21,12 +21,14 @@ use Rattle.js_outside.specs.Told.{Files}
 use Rattle.js_forms.specs.Table.{table_of, ranks_of}
 use Rattle.js_forms.proofs.Ranks.{IsTable-table_of, is_table-table_of}
 use Rattle.js_forms.proofs.Meaning.{valid-holds}
+use Rattle.js_forms.proofs.Small.{length-table_of}
+use Rattle.js_forms.specs.Places.{first_fault}
 use Rattle.js_decide.specs.Verdict.{Verdict, Document as OfKind, Limit, Certificate, is_over, is_open, of_kinds, of_goal, verdict}
-use Rattle.js_decide.proofs.VerdictLaws.{verdict-document, verdict-good, verdict-certificate}
+use Rattle.js_decide.proofs.VerdictLaws.{verdict-document, verdict-good, verdict-text, verdict-certificate}
 use Rattle.js_top.specs.Command.{command}
 use Rattle.js_top.specs.Reading.{Reading, Refused, Read, reading, IsSchema}
-use Rattle.js_top.specs.Report.{Report, line, sample_text, verdict_report, include_report, of_reading, of_file, of_command, report, IsReport}
-use Rattle.js_top.specs.Meaning.{json_of, IsDocumentText, IsCounterexample, IsCertificate, IsLimit, OfSchemas, PassesLimit, IsRefusal, IsSecondRefusal, OfRefusal}
+use Rattle.js_top.specs.Report.{Report, line, sample_text, verdict_report, include_report}
+use Rattle.js_top.specs.Meaning.{json_of, IsDocumentText, IsCounterexample, IsCertificate, IsLimit, PassesLimit}
 use Rattle.js_top.specs.Preparing.{report_of, is_answer, PreparedSays}
 use Rattle.js_top.specs.declared.prepare.Prepared.{Prepared}
 use Rattle.js_top.specs.declared.prepare.Prepared.TheVariants.{Usage, Unread, Made}
@@ -120,6 +122,11 @@ module _ (a b : Json) where
   in_second : length (table_of a) < length (joined (table_of a) (table_of b))
   in_second = omega (arith, length-joined (table_of a) (table_of b), filled b)
 
+  -- its positions are within the numbers of a certificate
+  few : first_fault a ≡ None → first_fault b ≡ None → length (joined (table_of a) (table_of b)) ≤ 4294967296
+  few sound_a sound_b =
+      omega (arith, length-joined (table_of a) (table_of b), length-table_of a sound_a, length-table_of b sound_b)
+
   -- a document's report
   counterexample : (t : Kind) (text : List ℕ) → verdict (joined (table_of a) (table_of b)) 0 (length (table_of a)) ≡ OfKind t
       → line (codes "document") ++ line (sample_text t) ≡ text → IsCounterexample a b text
@@ -137,16 +144,15 @@ module _ (a b : Json) where
 
   -- a certificate's report
   certificate : (ls : List Line) (text : List ℕ) → verdict (joined (table_of a) (table_of b)) 0 (length (table_of a)) ≡ Certificate ls
-      → lines_text ls ≡ text → IsCertificate a b text
-  certificate ls text e is =
+      → first_fault a ≡ None → first_fault b ≡ None → lines_text ls ≡ text → IsCertificate a b text
+  certificate ls text e sound_a sound_b is =
+      let good = verdict-good both both_table 0 (length (table_of a)) ls in_first in_second e in
+      let in_grammar = verdict-text both both_table 0 (length (table_of a)) ls (few sound_a sound_b) in_first in_second e in
       record {
-        lines = ls;
-        written = is;
-        good = verdict-good (joined (table_of a) (table_of b)) both_table 0 (length (table_of a)) ls in_first in_second e;
+        good = record { lines = ls; is_text = subst (λ t. IsText t ls) is in_grammar; good = good };
         included = λ J document h.
             valid-second J
-            ∙ verdict-certificate (joined (table_of a) (table_of b)) both_table 0 (length (table_of a)) ls in_first in_second e J
-            (sym (valid-first J) ∙ h);
+            ∙ verdict-certificate both both_table 0 (length (table_of a)) ls in_first in_second e J (sym (valid-first J) ∙ h);
       }
 
   -- a limit's report
@@ -175,57 +181,24 @@ module _ (a b : Json) where
       record { goal = g; formed = formed; written = is; over = over; none_open = none }
 
   -- what the status of a report and its text mean
-  abbrev OfStatus : Status → List ℕ → Type 0
+  abbrev pub OfStatus : Status → List ℕ → Type 0
   OfStatus S.Other text = IsCounterexample a b text
   OfStatus S.Done text = IsCertificate a b text
   OfStatus S.Limit text = IsLimit a b text
   OfStatus _ text = Unit {0}
 
-  include_report-means : (text : List ℕ) (status : Status) → include_report a b ≡ record { text = text; status = status } → OfStatus status text
-  include_report-means text status e = go (verdict (joined (table_of a) (table_of b)) 0 (length (table_of a))) refl e where
-    go : (v : Verdict) → verdict (joined (table_of a) (table_of b)) 0 (length (table_of a)) ≡ v
-        → verdict_report v ≡ record { text = text; status = status } → OfStatus status text
-    go (OfKind t) h e = subst (λ s. OfStatus s text) (ap (λ r. r.status) e) (counterexample t text h (ap (λ r. r.text) e))
-    go (Certificate ls) h e = subst (λ s. OfStatus s text) (ap (λ r. r.status) e) (certificate ls text h (ap (λ r. r.text) e))
-    go (Limit g) h e = subst (λ s. OfStatus s text) (ap (λ r. r.status) e) (limited g text h (ap (λ r. r.text) e))
-
--- the report of two files that are read is that of their schemas
-report-read : (files : List ℕ → Option (List ℕ)) (words : List (List ℕ)) (first second : List ℕ) (a b : Json)
-    → command words ≡ Some (first, second) → IsSchema files first a → IsSchema files second b → report files words ≡ include_report a b
-report-read files words first second a b c x y =
-    ap (of_command files) c
-    ∙ ap (λ o. of_file (codes "first") o (λ u. of_file (codes "second") (files (encode_utf8_all second)) (λ v. include_report u v))) x.told
-    ∙ ap (λ r. of_reading (codes "first") r (λ u. of_file (codes "second") (files (encode_utf8_all second)) (λ v. include_report u v))) x.read
-    ∙ ap (λ o. of_file (codes "second") o (λ v. include_report a v)) y.told
-    ∙ ap (λ r. of_reading (codes "second") r (λ v. include_report a v)) y.read
-
-means : (told : Option Files) (words : List (List ℕ)) (text : List ℕ) (status : Status) → IsReport told words (record { text = text; status = status })
-    → OfSchemas told words (λ a b. OfStatus a b status text)
-means None words text status e = tt
-means (Some files) words text status e =
-    λ first second a b c x y. include_report-means a b text status (sym (report-read files words first second a b c x y) ∙ e)
-
-pub means-document : (told : Option Files) (words : List (List ℕ)) (text : List ℕ) → IsReport told words (record { text = text; status = S.Other })
-    → OfSchemas told words (λ a b. IsCounterexample a b text)
-means-document told words text e = means told words text S.Other e
-
-pub means-certificate : (told : Option Files) (words : List (List ℕ)) (text : List ℕ) → IsReport told words (record { text = text; status = S.Done })
-    → OfSchemas told words (λ a b. IsCertificate a b text)
-means-certificate told words text e = means told words text S.Done e
-
-pub means-limit : (told : Option Files) (words : List (List ℕ)) (text : List ℕ) → IsReport told words (record { text = text; status = S.Limit })
-    → OfSchemas told words (λ a b. IsLimit a b text)
-means-limit told words text e = means told words text S.Limit e
-
--- an answer that was prepared is the report
-pub PreparedSays-report : (told : Option Files) (words : List (List ℕ)) (before after : ℕ) (p : Prepared) (text : List ℕ) (status : Status)
-    → PreparedSays told words before after p → text ≡ (report_of p).text → (report_of p).status ≡ status → is_answer status ≡ true
-    → IsReport told words (record { text = text; status = status })
-PreparedSays-report told words before after Usage text status says t e i = let wrong = ap is_answer e ∙ i in cc
-PreparedSays-report told words before after Unread text status says t e i = let wrong = ap is_answer e ∙ i in cc
-PreparedSays-report told words before after (Made bytes s) text status says t e i =
-    subst (λ x. IsReport told words (record { text = x; status = status })) (sym t)
-    (subst (λ x. IsReport told words (record { text = bytes.items; status = x })) e says.2)
+  pub include_report-means : (text : List ℕ) (status : Status) → first_fault a ≡ None → first_fault b ≡ None
+      → include_report a b ≡ record { text = text; status = status } → OfStatus status text
+  include_report-means text status sound_a sound_b e =
+      go (verdict (joined (table_of a) (table_of b)) 0 (length (table_of a))) refl e where
+        go : (v : Verdict) → verdict (joined (table_of a) (table_of b)) 0 (length (table_of a)) ≡ v
+            → verdict_report v ≡ record { text = text; status = status } → OfStatus status text
+        go (OfKind t) h e =
+            subst (λ s. OfStatus s text) (ap (λ r. r.status) e) (counterexample t text h (ap (λ r. r.text) e))
+        go (Certificate ls) h e =
+            subst (λ s. OfStatus s text) (ap (λ r. r.status) e)
+            (certificate ls text h sound_a sound_b (ap (λ r. r.text) e))
+        go (Limit g) h e = subst (λ s. OfStatus s text) (ap (λ r. r.status) e) (limited g text h (ap (λ r. r.text) e))
 
 -- where none passes a test there is no first
 first-absent : (p : Kind → Bool) (ts : List Kind) → some p ts ≡ false → first p ts ≡ None
@@ -236,67 +209,9 @@ first-absent p (t ∷ ts) e = go (p t) refl e (first-absent p ts) where
   go false h e more = more e
 
 -- two schemas whose trees pass the limit have its report
-passes-report : (a b : Json) → PassesLimit a b → (include_report a b).status ≡ S.Limit
+pub passes-report : (a b : Json) → PassesLimit a b → (include_report a b).status ≡ S.Limit
 passes-report a b x =
     ap (λ o. (verdict_report (of_goal (joined (table_of a) (table_of b)) o)).status) x.formed
     ∙ ap (λ o. (verdict_report (of_kinds (joined (table_of a) (table_of b)) x.goal o)).status)
     (first-absent (is_open (joined (table_of a) (table_of b)) x.goal) all_kinds x.none_open)
     ∙ ap (λ c. (verdict_report (cond c (Limit x.goal) (Certificate (written (joined (table_of a) (table_of b)) (Some x.goal))))).status) x.over
-
-pub report-limited : (told : Option Files) (words : List (List ℕ)) (text : List ℕ) (status : Status)
-    → IsReport told words (record { text = text; status = status }) → OfSchemas told words (λ a b. PassesLimit a b → status ≡ S.Limit)
-report-limited None words text status e = tt
-report-limited (Some files) words text status e =
-    λ first second a b c x y passes.
-    ap (λ r. r.status) (sym e ∙ report-read files words first second a b c x y) ∙ passes-report a b passes
-
--- an answer that was prepared for two schemas that pass the limit is its report
-pub prepared-limited : (told : Option Files) (words : List (List ℕ)) (before after : ℕ) (p : Prepared) → PreparedSays told words before after p
-    → ((report_of p).status ≡ S.ReadFault → ⊥) → OfSchemas told words (λ a b. PassesLimit a b → (report_of p).status ≡ S.Limit)
-prepared-limited None words before after p says n = tt
-prepared-limited (Some files) words before after Usage says n = λ first second a b c x y passes. let wrong = sym c ∙ says.1 in cc
-prepared-limited (Some files) words before after Unread says n = λ first second a b c x y passes. absurd (n refl)
-prepared-limited (Some files) words before after (Made bytes s) says n = report-limited (Some files) words bytes.items s says.2
-
-abbrev is_refused : Status → Bool
-is_refused S.Refused = true
-is_refused _ = false
-
-unrefused : (v : Verdict) → is_refused (verdict_report v).status ≡ false
-unrefused (OfKind t) = refl
-unrefused (Limit g) = refl
-unrefused (Certificate ls) = refl
-
-refused-second : (files : List ℕ → Option (List ℕ)) (a b text : List ℕ) (x : Json) (o : Option (List ℕ)) → files (encode_utf8_all b) ≡ o
-    → IsSchema files a x
-    → of_file (codes "second") o (λ y. include_report x y) ≡ record { text = text; status = S.Refused } → IsSecondRefusal files a b text
-refused-second files a b text x None t is e = let wrong = ap (λ r. is_refused r.status) e in cc
-refused-second files a b text x (Some bytes) t is e = go (reading bytes) refl e where
-  go : (r : Reading) → reading bytes ≡ r
-      → of_reading (codes "second") r (λ y. include_report x y) ≡ record { text = text; status = S.Refused } → IsSecondRefusal files a b text
-  go (Refused ws) h e =
-      record { first = x; is_read = is; second = record { bytes = bytes; words = ws; told = t; refused = h; written = ap (λ r. r.text) e } }
-  go (Read y) h e =
-      let wrong = sym (unrefused (verdict (joined (table_of x) (table_of y)) 0 (length (table_of x)))) ∙ ap (λ r. is_refused r.status) e in cc
-
-refused-first : (files : List ℕ → Option (List ℕ)) (a b text : List ℕ) (o : Option (List ℕ)) → files (encode_utf8_all a) ≡ o
-    → of_file (codes "first") o (λ x. of_file (codes "second") (files (encode_utf8_all b)) (λ y. include_report x y)) ≡ record { text = text; status = S.Refused }
-    → IsRefusal files (codes "first") a text ⊎ IsSecondRefusal files a b text
-refused-first files a b text None t e = let wrong = ap (λ r. is_refused r.status) e in cc
-refused-first files a b text (Some bytes) t e = go (reading bytes) refl e where
-  go : (r : Reading) → reading bytes ≡ r
-      → of_reading (codes "first") r (λ x. of_file (codes "second") (files (encode_utf8_all b)) (λ y. include_report x y)) ≡ record { text = text; status = S.Refused }
-      → IsRefusal files (codes "first") a text ⊎ IsSecondRefusal files a b text
-  go (Refused ws) h e = inl (record { bytes = bytes; words = ws; told = t; refused = h; written = ap (λ r. r.text) e })
-  go (Read x) h e =
-      inr (refused-second files a b text x (files (encode_utf8_all b)) refl (record { bytes = bytes; told = t; read = h }) e)
-
--- a report of the status of refusals is the first refusal
-pub means-refusal : (told : Option Files) (words : List (List ℕ)) (text : List ℕ) → IsReport told words (record { text = text; status = S.Refused })
-    → OfRefusal told words text
-means-refusal None words text e = tt
-means-refusal (Some files) words text e = go (command words) refl e where
-  go : (o : Option (List ℕ × List ℕ)) → command words ≡ o → of_command files o ≡ record { text = text; status = S.Refused }
-      → OfRefusal (Some files) words text
-  go None h e = let wrong = ap (λ r. is_refused r.status) e in cc
-  go (Some (a, b)) h e = (a, b, h, refused-first files a b text (files (encode_utf8_all a)) refl e)

@@ -3,8 +3,9 @@ use Rattle.std.specs.Prelude.{◌≡◌, ℕ, ◌≤◌, List, [], ◌∷◌, le
 use Rattle.documents.specs.Json.{Json}
 use Rattle.js_outside.specs.Counts.{Rose}
 use Rattle.js_outside.specs.Told.{Files}
-use Rattle.js_report.specs.WholeFile.{HasBytes}
+use Rattle.js_report.specs.WholeFile.{HasBytes, longest_file}
 use Rattle.js_algebra.specs.View.{Table}
+use Rattle.js_forms.specs.Places.{most_weight}
 use Rattle.js_forms.specs.Table.{table_of, ranks_of}
 use Rattle.js_top.specs.Reading.{Reading, Refused, Read, reading}
 use Rattle.js_top.specs.declared.load.Loaded.{Loaded}
@@ -14,12 +15,12 @@ use Rattle.js_top.specs.declared.load.Loaded.TheVariants as L
 pub record IsTableOf (core : Table) (j : Json) : Type 0 where
   pub positions : core.positions ≡ table_of j
   pub ranks : core.ranks ≡ ranks_of j
-  pub small : length core.positions ≤ 2147483647
+  pub small : length core.positions ≤ most_weight
 
 -- what bytes were read as, where they are few enough
 abbrev pub reading_says : List ℕ → Loaded → Type 0
-reading_says bytes (L.Table core) = (length bytes ≤ 16777216) → (j : Json) × (reading bytes ≡ Read j) × IsTableOf core j
-reading_says bytes (L.Refused words) = (length bytes ≤ 16777216) → reading bytes ≡ Refused (string_bytes words)
+reading_says bytes (L.Table core) = (length bytes ≤ longest_file) → (j : Json) × (reading bytes ≡ Read j) × IsTableOf core j
+reading_says bytes (L.Refused words) = (length bytes ≤ longest_file) → reading bytes ≡ Refused (string_bytes words)
 reading_says bytes L.Unread = ⊥
 
 abbrev pub LoadSays : Option Files → List ℕ → ℕ → ℕ → Loaded → Type 0

@@ -10,14 +10,15 @@ use Rattle.documents.specs.Kind.{all_kinds}
 use Rattle.position_laws.specs.Join.{joined}
 use Rattle.goals.specs.Signed.{Signed, Plus, Minus}
 use Rattle.goals.specs.Goal.{form}
-use Rattle.certificates.specs.Line.{Line, lines_text, signed_list_text}
+use Rattle.certificates.specs.Line.{Line, IsText, signed_list_text}
 use Rattle.certificates.specs.Good.{is_good}
+use Rattle.js_outside.specs.Told.{Files}
 use Rattle.js_json.specs.Value.{value_of}
 use Rattle.js_forms.specs.Table.{table_of}
 use Rattle.js_decide.specs.Verdict.{is_over, is_open}
 use Rattle.js_top.specs.Command.{command}
 use Rattle.js_top.specs.Reading.{Refused, reading, IsSchema}
-use Rattle.js_top.specs.Report.{line}
+use Rattle.js_top.specs.Report.{line, AreFiles}
 
 -- a document is a JSON value whose numbers are all whole
 abbrev mutual
@@ -49,11 +50,15 @@ pub record IsCounterexample (a b : Json) (text : List ℕ) : Type 0 where
   pub is : IsDocumentText text document
   pub separates : Separates a b document
 
--- the text of good lines for the two schemas, and what they mean
-pub record IsCertificate (a b : Json) (text : List ℕ) : Type 0 where
+-- the text of good lines for the two schemas: what `accepted` accepts
+pub record IsGoodText (a b : Json) (text : List ℕ) : Type 0 where
   pub lines : List Line
-  pub written : lines_text lines ≡ text
+  pub is_text : IsText text lines
   pub good : is_good (joined (table_of a) (table_of b)) 0 (length (table_of a)) lines ≡ true
+
+-- such a text, and what it means
+pub record IsCertificate (a b : Json) (text : List ℕ) : Type 0 where
+  pub good : IsGoodText a b text
   pub included : Included a b
 
 -- the line of a goal: some kind's tree has more ends than are looked at, and no tree that is looked at has a branch
@@ -64,11 +69,21 @@ pub record IsLimit (a b : Json) (text : List ℕ) : Type 0 where
   pub over : some (is_over (joined (table_of a) (table_of b)) goal) all_kinds ≡ true
   pub none_open : some (is_open (joined (table_of a) (table_of b)) goal) all_kinds ≡ false
 
--- a fact of the two schemas that the words name, where the files are told and both are read
-abbrev pub OfSchemas : Option (List ℕ → Option (List ℕ)) → List (List ℕ) → (Json → Json → Type 0) → Type 0
-OfSchemas None words P = Unit {0}
-OfSchemas (Some files) words P =
-    (a b : List ℕ) (x y : Json) → command words ≡ Some (a, b) → IsSchema files a x → IsSchema files b y → P x y
+-- the words name two files, and both are schemas that are read, with these values
+pub record AreSchemas (told : Option Files) (words : List (List ℕ)) (a b : Json) : Type 0 where
+  pub first : List ℕ
+  pub second : List ℕ
+  pub named : command words ≡ Some (first, second)
+  pub files : Files
+  pub later : Files
+  pub are_files : AreFiles told files later
+  pub is_first : IsSchema files first a
+  pub is_second : IsSchema later second b
+
+-- a fact of the schemas that the words name, where the files are told
+abbrev pub WhereTold : Option Files → List (List ℕ) → (Json → Json → Type 0) → Type 0
+WhereTold None words P = Unit {0}
+WhereTold (Some files) words P = (a b : Json) → AreSchemas (Some files) words a b → P a b
 
 -- the trees of two schemas pass the limit: they form a goal, some kind's tree of it has more ends than are looked at, and
 -- no tree that is looked at has a branch
@@ -87,14 +102,17 @@ pub record IsRefusal (files : List ℕ → Option (List ℕ)) (role name text : 
   pub written : line (codes "refused " ++ role ++ 32 ∷ words) ≡ text
 
 -- the first file is read, with this value, and the second is refused
-pub record IsSecondRefusal (files : List ℕ → Option (List ℕ)) (a b text : List ℕ) : Type 0 where
+pub record IsSecondRefusal (files later : List ℕ → Option (List ℕ)) (a b text : List ℕ) : Type 0 where
   pub first : Json
   pub is_read : IsSchema files a first
-  pub second : IsRefusal files (codes "second") b text
+  pub second : IsRefusal later (codes "second") b text
 
--- the first refusal in the order of work, where the files are told: of the first file, or of the second where the first is read
-abbrev pub OfRefusal : Option (List ℕ → Option (List ℕ)) → List (List ℕ) → List ℕ → Type 0
-OfRefusal None words text = Unit {0}
-OfRefusal (Some files) words text =
-    (a : List ℕ) × (b : List ℕ) × (command words ≡ Some (a, b))
-    × (IsRefusal files (codes "first") a text ⊎ IsSecondRefusal files a b text)
+-- the first refusal in the order of work: of the first file, or of the second where the first is read
+pub record IsFirstRefusal (told : Option Files) (words : List (List ℕ)) (text : List ℕ) : Type 0 where
+  pub first : List ℕ
+  pub second : List ℕ
+  pub named : command words ≡ Some (first, second)
+  pub files : Files
+  pub later : Files
+  pub are_files : AreFiles told files later
+  pub refusal : IsRefusal files (codes "first") first text ⊎ IsSecondRefusal files later first second text

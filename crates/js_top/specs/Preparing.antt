@@ -3,7 +3,7 @@ use Rattle.std.specs.Prelude.{◌≡◌, ℕ, List, [], ◌∷◌, ◌++◌, Boo
 use Rattle.js_outside.specs.Counts.{Rose}
 use Rattle.js_outside.specs.Told.{Files}
 use Rattle.js_top.specs.Command.{command}
-use Rattle.js_top.specs.Report.{Report, printed, of_command, IsReport}
+use Rattle.js_top.specs.Report.{Report, printed, IsReportOf, IsReport}
 use Rattle.js_top.specs.declared.status.Status.{Status}
 use Rattle.js_top.specs.declared.status.Status.TheVariants as S
 use Rattle.js_top.specs.declared.prepare.Prepared.{Prepared}
@@ -29,12 +29,8 @@ PreparedSays told words before after (P.Made bytes status) =
     (after ≡ before) × (is_answer status ≡ true) × IsReport told words (record { text = bytes.items; status = status }) × IsSome (command words)
 
 -- the same of `include` with two names
-abbrev pub IsReportOf : Option Files → List ℕ → List ℕ → Report → Type 0
-IsReportOf None a b r = Unit {0}
-IsReportOf (Some files) a b r = of_command files (Some (a, b)) ≡ r
-
 abbrev pub IncludeSays : Option Files → List ℕ → List ℕ → ℕ → ℕ → Prepared → Type 0
 IncludeSays told a b before after P.Usage = ⊥
 IncludeSays told a b before after P.Unread = Rose before after
 IncludeSays told a b before after (P.Made bytes status) =
-    (after ≡ before) × (is_answer status ≡ true) × IsReportOf told a b (record { text = bytes.items; status = status })
+    (after ≡ before) × (is_answer status ≡ true) × IsReportOf told (Some (a, b)) (record { text = bytes.items; status = status })

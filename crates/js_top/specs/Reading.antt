@@ -4,6 +4,7 @@ use Rattle.documents.specs.Json.{Json}
 use Rattle.js_json.specs.Value.{value_of}
 use Rattle.js_json.specs.Pointer.{pointer_text, quoted}
 use Rattle.js_forms.specs.Places.{first_fault}
+use Rattle.js_report.specs.WholeFile.{longest_file}
 
 -- a schema, or the words of the refusal after the file's role
 pub data Reading : Type 0 where
@@ -20,7 +21,7 @@ of_value None = Refused (codes "notjson")
 
 -- its length first, then its JSON, then the first place that isn't read yet
 abbrev pub reading : List ℕ → Reading
-reading bytes = cond (nat_lt 16777216 (length bytes)) (Refused (codes "toolong")) (of_value (value_of bytes))
+reading bytes = cond (nat_lt longest_file (length bytes)) (Refused (codes "toolong")) (of_value (value_of bytes))
 
 -- the file of that name is a schema that is read, with this value
 pub record IsSchema (files : List ℕ → Option (List ℕ)) (name : List ℕ) (j : Json) : Type 0 where

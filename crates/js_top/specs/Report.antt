@@ -4,6 +4,7 @@ use Rattle.documents.specs.Kind.{Kind, Null, Boolean, Number, Text, Array, Objec
 use Rattle.documents.specs.Json.{Json}
 use Rattle.position_laws.specs.Join.{joined}
 use Rattle.certificates.specs.Line.{signed_list_text, lines_text}
+use Rattle.js_outside.specs.Told.{Files}
 use Rattle.js_forms.specs.Table.{table_of}
 use Rattle.js_decide.specs.Verdict.{Verdict, Document, Limit, Certificate, verdict}
 use Rattle.js_top.specs.Command.{command}
@@ -48,16 +49,24 @@ abbrev pub of_file : List ℕ → Option (List ℕ) → (Json → Report) → Re
 of_file role None more = printed (codes "readfault") S.ReadFault
 of_file role (Some bytes) more = of_reading role (reading bytes) more
 
--- the second file is looked at only where the first is read
-abbrev pub of_command : (List ℕ → Option (List ℕ)) → Option (List ℕ × List ℕ) → Report
-of_command files None = printed (codes "usage") S.Usage
-of_command files (Some (a, b)) =
-    of_file (codes "first") (files (encode_utf8_all a)) (λ x. of_file (codes "second") (files (encode_utf8_all b)) (λ y. include_report x y))
+-- the second file is looked at only where the first is read; `later` are the files by then
+abbrev pub of_command : Files → Files → Option (List ℕ × List ℕ) → Report
+of_command files later None = printed (codes "usage") S.Usage
+of_command files later (Some (a, b)) =
+    of_file (codes "first") (files (encode_utf8_all a))
+    (λ x. of_file (codes "second") (later (encode_utf8_all b)) (λ y. include_report x y))
 
-abbrev pub report : (List ℕ → Option (List ℕ)) → List (List ℕ) → Report
-report files words = of_command files (command words)
+-- the files that a shelf tells stay as they are; where it tells none, they may be any, and others at the second reading
+abbrev pub AreFiles : Option Files → Files → Files → Type 0
+AreFiles None files later = Unit {0}
+AreFiles (Some told) files later = (files ≡ told) × (later ≡ told)
 
--- what is printed and the status are the report, where the files are told
-abbrev pub IsReport : Option (List ℕ → Option (List ℕ)) → List (List ℕ) → Report → Type 0
-IsReport None words r = Unit {0}
-IsReport (Some files) words r = report files words ≡ r
+-- what is printed and the status are the report of a command on such files
+pub record IsReportOf (told : Option Files) (names : Option (List ℕ × List ℕ)) (r : Report) : Type 0 where
+  pub files : Files
+  pub later : Files
+  pub are_files : AreFiles told files later
+  pub report : of_command files later names ≡ r
+
+abbrev pub IsReport : Option Files → List (List ℕ) → Report → Type 0
+IsReport told words r = IsReportOf told (command words) r

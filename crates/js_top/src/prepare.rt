@@ -2,6 +2,7 @@
 
 ghost use Rattle.std.specs.Prelude.{◌≡◌, ◌<◌, ◌≤◌, IfOk, OnErr, IsSome, length};
 ghost use Rattle.position_laws.specs.Join.{joined};
+ghost use Rattle.js_forms.specs.Places.{most_weight};
 ghost use Rattle.js_decide.specs.Verdict.{verdict};
 ghost use Rattle.js_top.specs.Report.{verdict_report};
 ghost use Rattle.js_top.specs.Command.{command};
@@ -113,8 +114,8 @@ fn refused(alloc: Global, role: &str, words: String) -> Result<Prepared, Memory>
 fn compared(alloc: Global, a: &Core, b: &Core) -> Result<Prepared, Memory>
     requires a_filled { 0 < length a.now.positions }
     requires b_filled { 0 < length b.now.positions }
-    requires a_small { length a.now.positions ≤ 2147483647 }
-    requires b_small { length b.now.positions ≤ 2147483647 }
+    requires a_small { length a.now.positions ≤ most_weight }
+    requires b_small { length b.now.positions ≤ most_weight }
     ensures { IfOk result (λ p. report_of p
         ≡ verdict_report (verdict (joined a.now.positions b.now.positions) 0 (length a.now.positions))) }
 {

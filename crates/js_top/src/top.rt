@@ -6,7 +6,7 @@ ghost use Rattle.js_outside.specs.Counts.{Rose, Stays};
 ghost use Rattle.js_top.specs.Command.{command};
 ghost use Rattle.js_top.specs.Report.{line};
 ghost use Rattle.js_top.specs.Running.{WritesPart, WritesReport, WritesMeaning, WritesRefusal};
-ghost use Rattle.js_top.specs.Meaning.{IsCounterexample, IsCertificate, IsLimit, PassesLimit, OfSchemas};
+ghost use Rattle.js_top.specs.Meaning.{IsCounterexample, IsCertificate, IsLimit, PassesLimit, WhereTold};
 
 use crate::prepare::prepare;
 use crate::status::Status;
@@ -18,8 +18,8 @@ use std::alloc::Global;
 /// Does all that the program does: takes the words, reads the files that they name, decides, and writes the report.
 ///
 /// Nothing is written until the report is complete. `rt` is the runtime, of which nothing is used so far: all work is
-/// done on the caller's thread. Where the shelf tells its files, the clauses say which report is written; a shelf and a
-/// sink that tell nothing still keep the clauses on faults.
+/// done on the caller's thread. Where the shelf tells its files, the report is that of its files; where it tells none, that
+/// of some files, as they were when they were read.
 pub fn run<R, H: Shelf, K: Sink>(
     rt: &R,
     alloc: Global,
@@ -32,9 +32,9 @@ pub fn run<R, H: Shelf, K: Sink>(
     ensures write_fault { result ≡ Status.WriteFault → Rose (K.faults sink.old) (K.faults sink.new) }
     ensures usage { result ≡ Status.Usage → command words.now ≡ None }
 
-    // For other words no fault of reading is counted, and the status is never that of refused memory.
-    ensures no_file { command words.now ≡ None → H.faults shelf.new ≡ H.faults shelf.old }
-    ensures no_memory { command words.now ≡ None → result ≢ Status.Memory }
+    // Other words are told to be other words, or the writing failed; no fault of reading is counted.
+    ensures other_words { command words.now ≡ None → result ≢ Status.WriteFault → result ≡ Status.Usage }
+    ensures no_read_fault { command words.now ≡ None → H.faults shelf.new ≡ H.faults shelf.old }
 
     // A count that rose is told.
     ensures write_noticed { K.faults sink.old < K.faults sink.new → result ≡ Status.WriteFault }
@@ -65,7 +65,7 @@ pub fn run<R, H: Shelf, K: Sink>(
 
     // The limit comes wherever it is passed.
     ensures limited { result ≢ Status.ReadFault → result ≢ Status.WriteFault → result ≢ Status.Memory
-        → OfSchemas (H.told shelf.old) words.now (λ a b. PassesLimit a b → result ≡ Status.Limit) }
+        → WhereTold (H.told shelf.old) words.now (λ a b. PassesLimit a b → result ≡ Status.Limit) }
 
     // The files that the shelf tells are the same after the call.
     ensures told { H.told shelf.new ≡ H.told shelf.old }

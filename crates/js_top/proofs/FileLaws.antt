@@ -1,0 +1,241 @@
+-- What a report on files says: of the two schemas where it is a verdict, and of the first refusal.
+use Rattle.std.proofs.Common.{◌≡◌, ◌⊎◌, inl, inr, ℕ, List, [], ◌∷◌, ◌++◌, length, Bool, true, false, cond, nat_lt, Option, Some, None, IsSome, codes, encode_utf8_all, refl, ap, sym, ◌∙◌, subst}
+use Rattle.documents.specs.Json.{Json}
+use Rattle.position_laws.specs.Join.{joined}
+use Rattle.js_outside.specs.Counts.{Rose}
+use Rattle.js_outside.specs.Told.{Files}
+use Rattle.js_json.specs.Value.{value_of}
+use Rattle.js_report.specs.WholeFile.{longest_file}
+use Rattle.js_forms.specs.Places.{Pointer, first_fault}
+use Rattle.js_forms.specs.Table.{table_of}
+use Rattle.js_decide.specs.Verdict.{Verdict, Document, Limit, Certificate, verdict}
+use Rattle.js_top.specs.Command.{command}
+use Rattle.js_top.specs.Reading.{Reading, Refused, Read, of_fault, of_value, reading, IsSchema}
+use Rattle.js_top.specs.Report.{Report, printed, verdict_report, include_report, of_reading, of_file, of_command, AreFiles, IsReportOf, IsReport}
+use Rattle.js_top.specs.Meaning.{AreSchemas, WhereTold, PassesLimit, IsRefusal, IsSecondRefusal, IsFirstRefusal}
+use Rattle.js_top.specs.Preparing.{report_of, PreparedSays}
+use Rattle.js_top.specs.declared.prepare.Prepared.{Prepared}
+use Rattle.js_top.specs.declared.prepare.Prepared.TheVariants.{Usage, Unread, Made}
+use Rattle.js_top.specs.declared.status.Status.{Status}
+use Rattle.js_top.specs.declared.status.Status.TheVariants as S
+use Rattle.js_top.proofs.MeaningLaws.{OfStatus, include_report-means, passes-report}
+
+-- a schema that is read has no fault
+reading-faultless : (bytes : List ℕ) (j : Json) → reading bytes ≡ Read j → first_fault j ≡ None
+reading-faultless bytes j e = of_length (nat_lt longest_file (length bytes)) e where
+  of_json : (x : Json) (o : Option Pointer) → first_fault x ≡ o → of_fault x o ≡ Read j → first_fault j ≡ None
+  of_json x (Some p) f e = cc
+  of_json x None f e = let same : x ≡ j = cc in ap first_fault (sym same) ∙ f
+
+  of_bytes : (o : Option Json) → of_value o ≡ Read j → first_fault j ≡ None
+  of_bytes None e = cc
+  of_bytes (Some x) e = of_json x (first_fault x) refl e
+
+  of_length : (b : Bool) → cond b (Refused (codes "toolong")) (of_value (value_of bytes)) ≡ Read j → first_fault j ≡ None
+  of_length true e = cc
+  of_length false e = of_bytes (value_of bytes) e
+
+-- the statuses of a verdict, and that of a refusal
+
+abbrev is_verdict : Status → Bool
+is_verdict S.Done = true
+is_verdict S.Other = true
+is_verdict S.Limit = true
+is_verdict _ = false
+
+abbrev is_refused : Status → Bool
+is_refused S.Refused = true
+is_refused _ = false
+
+unrefused : (v : Verdict) → is_refused (verdict_report v).status ≡ false
+unrefused (Document t) = refl
+unrefused (Limit g) = refl
+unrefused (Certificate ls) = refl
+
+-- the report of two files that are read is that of their schemas
+report-read : (files later : Files) (words : List (List ℕ)) (first second : List ℕ) (a b : Json)
+    → command words ≡ Some (first, second) → IsSchema files first a → IsSchema later second b
+    → of_command files later (command words) ≡ include_report a b
+report-read files later words first second a b c x y =
+    ap (of_command files later) c
+    ∙ ap (λ o. of_file (codes "first") o (λ u. of_file (codes "second") (later (encode_utf8_all second)) (λ v. include_report u v))) x.told
+    ∙ ap (λ r. of_reading (codes "first") r (λ u. of_file (codes "second") (later (encode_utf8_all second)) (λ v. include_report u v))) x.read
+    ∙ ap (λ o. of_file (codes "second") o (λ v. include_report a v)) y.told
+    ∙ ap (λ r. of_reading (codes "second") r (λ v. include_report a v)) y.read
+
+-- a report with the status of a verdict is that of two schemas
+record IsOfSchemas (told : Option Files) (words : List (List ℕ)) (r : Report) : Type 0 where
+  first : Json
+  second : Json
+  are : AreSchemas told words first second
+  report : include_report first second ≡ r
+
+module _ (told : Option Files) (words : List (List ℕ)) (r : Report) (files later : Files) (ok : AreFiles told files later)
+    (a b : List ℕ) (named : command words ≡ Some (a, b)) (answers : is_verdict r.status ≡ true) where
+  schemas-second : (x : Json) (o : Option (List ℕ)) → later (encode_utf8_all b) ≡ o → IsSchema files a x
+      → of_file (codes "second") o (λ y. include_report x y) ≡ r → IsOfSchemas told words r
+  schemas-second x None t is e = let wrong = ap (λ s. is_verdict s.status) e ∙ answers in cc
+  schemas-second x (Some bytes) t is e = go (reading bytes) refl e where
+    go : (o : Reading) → reading bytes ≡ o → of_reading (codes "second") o (λ y. include_report x y) ≡ r
+        → IsOfSchemas told words r
+    go (Refused ws) h e = let wrong = ap (λ s. is_verdict s.status) e ∙ answers in cc
+    go (Read y) h e =
+        record {
+          first = x;
+          second = y;
+          are = record {
+            first = a;
+            second = b;
+            named = named;
+            files = files;
+            later = later;
+            are_files = ok;
+            is_first = is;
+            is_second = record { bytes = bytes; told = t; read = h };
+          };
+          report = e;
+        }
+
+  schemas-first : (o : Option (List ℕ)) → files (encode_utf8_all a) ≡ o
+      → of_file (codes "first") o (λ x. of_file (codes "second") (later (encode_utf8_all b)) (λ y. include_report x y)) ≡ r
+      → IsOfSchemas told words r
+  schemas-first None t e = let wrong = ap (λ s. is_verdict s.status) e ∙ answers in cc
+  schemas-first (Some bytes) t e = go (reading bytes) refl e where
+    go : (o : Reading) → reading bytes ≡ o
+        → of_reading (codes "first") o (λ x. of_file (codes "second") (later (encode_utf8_all b)) (λ y. include_report x y)) ≡ r
+        → IsOfSchemas told words r
+    go (Refused ws) h e = let wrong = ap (λ s. is_verdict s.status) e ∙ answers in cc
+    go (Read x) h e =
+        schemas-second x (later (encode_utf8_all b)) refl (record { bytes = bytes; told = t; read = h }) e
+
+report-schemas : (told : Option Files) (words : List (List ℕ)) (r : Report) → IsReport told words r → is_verdict r.status ≡ true
+    → IsOfSchemas told words r
+report-schemas told words r is answers = go (command words) refl is.report where
+  go : (o : Option (List ℕ × List ℕ)) → command words ≡ o → of_command is.files is.later o ≡ r → IsOfSchemas told words r
+  go None h e = let wrong = ap (λ s. is_verdict s.status) e ∙ answers in cc
+  go (Some (a, b)) h e =
+      schemas-first told words r is.files is.later is.are_files a b h answers (is.files (encode_utf8_all a)) refl e
+
+-- what such a report means
+means : (told : Option Files) (words : List (List ℕ)) (text : List ℕ) (status : Status)
+    → IsReport told words (record { text = text; status = status }) → is_verdict status ≡ true
+    → (a : Json) × (b : Json) × AreSchemas told words a b × OfStatus a b status text
+means told words text status is answers =
+    let of = report-schemas told words (record { text = text; status = status }) is answers in
+    (
+      of.first,
+      of.second,
+      of.are,
+      include_report-means of.first of.second text status
+          (reading-faultless of.are.is_first.bytes of.first of.are.is_first.read)
+          (reading-faultless of.are.is_second.bytes of.second of.are.is_second.read) of.report,
+    )
+
+-- an answer that was prepared is a report
+
+usage-report : (told : Option Files) (words : List (List ℕ)) → command words ≡ None
+    → IsReport told words (printed (codes "usage") S.Usage)
+usage-report None words c =
+    record { files = λ n. None; later = λ n. None; are_files = tt; report = ap (of_command (λ n. None) (λ n. None)) c }
+usage-report (Some files) words c =
+    record { files = files; later = files; are_files = (refl, refl); report = ap (of_command files files) c }
+
+pub prepared-report : (told : Option Files) (words : List (List ℕ)) (before after : ℕ) (p : Prepared) (text : List ℕ) (status : Status)
+    → PreparedSays told words before after p → text ≡ (report_of p).text → (report_of p).status ≡ status → (status ≡ S.ReadFault → ⊥)
+    → IsReport told words (record { text = text; status = status })
+prepared-report told words before after Usage text status says t e n =
+    subst (λ x. IsReport told words (record { text = x; status = status })) (sym t)
+    (subst (λ x. IsReport told words (record { text = codes "usage" ++ 10 ∷ []; status = x })) e (usage-report told words says.1))
+prepared-report told words before after Unread text status says t e n = absurd (n (sym e))
+prepared-report told words before after (Made bytes s) text status says t e n =
+    subst (λ x. IsReport told words (record { text = x; status = status })) (sym t)
+    (subst (λ x. IsReport told words (record { text = bytes.items; status = x })) e says.2)
+
+module _ (told : Option Files) (words : List (List ℕ)) (before after : ℕ) (p : Prepared) (text : List ℕ)
+    (says : PreparedSays told words before after p) (t : text ≡ (report_of p).text) where
+  pub prepared-means : (status : Status) → (report_of p).status ≡ status → is_verdict status ≡ true
+      → (a : Json) × (b : Json) × AreSchemas told words a b × OfStatus a b status text
+  prepared-means status e answers =
+      means told words text status
+      (prepared-report told words before after p text status says t e (λ h. let wrong = sym answers ∙ ap is_verdict h in cc)) answers
+
+-- the report that was begun to be written: that of a failed read, or that of files
+pub prepared-part : (told : Option Files) (words : List (List ℕ)) (before after : ℕ) (p : Prepared) → PreparedSays told words before after p
+    → (Rose before after × (report_of p ≡ printed (codes "readfault") S.ReadFault))
+    ⊎ ((after ≡ before) × IsReport told words (report_of p))
+prepared-part told words before after Usage says = inr (says.0, usage-report told words says.1)
+prepared-part told words before after Unread says = inl (says.0, refl)
+prepared-part told words before after (Made bytes s) says = inr (says.0, says.2)
+
+-- two schemas that pass the limit have its report
+
+report-limited : (files : Files) (words : List (List ℕ)) (r : Report) → IsReport (Some files) words r
+    → WhereTold (Some files) words (λ a b. PassesLimit a b → r.status ≡ S.Limit)
+report-limited files words r is = λ a b s passes.
+    let first : is.files ≡ s.files = is.are_files.0 ∙ sym s.are_files.0 in
+    let second : is.later ≡ s.later = is.are_files.1 ∙ sym s.are_files.1 in
+    ap (λ x. x.status)
+    (sym is.report
+    ∙ ap (λ f. of_command f is.later (command words)) first
+    ∙ ap (λ f. of_command s.files f (command words)) second
+    ∙ report-read s.files s.later words s.first s.second a b s.named s.is_first s.is_second)
+    ∙ passes-report a b passes
+
+pub prepared-limited : (told : Option Files) (words : List (List ℕ)) (before after : ℕ) (p : Prepared) → PreparedSays told words before after p
+    → ((report_of p).status ≡ S.ReadFault → ⊥) → WhereTold told words (λ a b. PassesLimit a b → (report_of p).status ≡ S.Limit)
+prepared-limited None words before after p says n = tt
+prepared-limited (Some files) words before after p says n =
+    report-limited files words (report_of p)
+    (prepared-report (Some files) words before after p (report_of p).text (report_of p).status says refl refl n)
+
+-- the first refusal
+
+refused-second : (later : Files) (b text : List ℕ) (x : Json) (o : Option (List ℕ)) → later (encode_utf8_all b) ≡ o
+    → of_file (codes "second") o (λ y. include_report x y) ≡ record { text = text; status = S.Refused }
+    → IsRefusal later (codes "second") b text
+refused-second later b text x None t e = let wrong = ap (λ r. is_refused r.status) e in cc
+refused-second later b text x (Some bytes) t e = go (reading bytes) refl e where
+  go : (r : Reading) → reading bytes ≡ r
+      → of_reading (codes "second") r (λ y. include_report x y) ≡ record { text = text; status = S.Refused }
+      → IsRefusal later (codes "second") b text
+  go (Refused ws) h e = record { bytes = bytes; words = ws; told = t; refused = h; written = ap (λ r. r.text) e }
+  go (Read y) h e =
+      let wrong =
+      sym (unrefused (verdict (joined (table_of x) (table_of y)) 0 (length (table_of x)))) ∙ ap (λ r. is_refused r.status) e in
+      cc
+
+refused-first : (files later : Files) (a b text : List ℕ) (o : Option (List ℕ)) → files (encode_utf8_all a) ≡ o
+    → of_file (codes "first") o (λ x. of_file (codes "second") (later (encode_utf8_all b)) (λ y. include_report x y))
+    ≡ record { text = text; status = S.Refused }
+    → IsRefusal files (codes "first") a text ⊎ IsSecondRefusal files later a b text
+refused-first files later a b text None t e = let wrong = ap (λ r. is_refused r.status) e in cc
+refused-first files later a b text (Some bytes) t e = go (reading bytes) refl e where
+  go : (r : Reading) → reading bytes ≡ r
+      → of_reading (codes "first") r (λ x. of_file (codes "second") (later (encode_utf8_all b)) (λ y. include_report x y))
+      ≡ record { text = text; status = S.Refused }
+      → IsRefusal files (codes "first") a text ⊎ IsSecondRefusal files later a b text
+  go (Refused ws) h e = inl (record { bytes = bytes; words = ws; told = t; refused = h; written = ap (λ r. r.text) e })
+  go (Read x) h e =
+      inr (record {
+        first = x;
+        is_read = record { bytes = bytes; told = t; read = h };
+        second = refused-second later b text x (later (encode_utf8_all b)) refl e;
+      })
+
+-- a report of the status of refusals is the first refusal
+pub means-refusal : (told : Option Files) (words : List (List ℕ)) (text : List ℕ) → IsReport told words (record { text = text; status = S.Refused })
+    → IsFirstRefusal told words text
+means-refusal told words text is = go (command words) refl is.report where
+  go : (o : Option (List ℕ × List ℕ)) → command words ≡ o
+      → of_command is.files is.later o ≡ record { text = text; status = S.Refused } → IsFirstRefusal told words text
+  go None h e = let wrong = ap (λ r. is_refused r.status) e in cc
+  go (Some (a, b)) h e =
+      record {
+        first = a;
+        second = b;
+        named = h;
+        files = is.files;
+        later = is.later;
+        are_files = is.are_files;
+        refusal = refused-first is.files is.later a b text (is.files (encode_utf8_all a)) refl e;
+      }
