@@ -2,4 +2,5 @@ pub mod CommandWords
 pub mod Includes
 pub mod MeaningLaws
 pub mod FileLaws
+pub mod AcceptLaws
 mod Examples

@@ -98,18 +98,18 @@ module _ (a b : Json) where
   filled : (j : Json) → 0 < length (table_of j)
   filled j = let ok = IsTable-table_of j in omega (arith, ok.ranked.bounded 0)
 
-  both_table : IsTable (joined (table_of a) (table_of b))
+  pub both_table : IsTable (joined (table_of a) (table_of b))
   both_table =
       joined-IsTable (table_of a) (table_of b) (ranks_of a) (ranks_of b) (is_table-table_of a) (is_table-table_of b)
       (omega (arith, length-joined (table_of a) (table_of b), filled a))
 
   -- a document is valid for the first schema where position 0 holds, and for the second where its position 0 does
-  valid-first : (J : Document) → valid a J ≡ holds (joined (table_of a) (table_of b)) 0 J
+  pub valid-first : (J : Document) → valid a J ≡ holds (joined (table_of a) (table_of b)) 0 J
   valid-first J =
       valid-holds a J (IsTable-table_of a)
       ∙ sym (holds-joined_left (table_of a) (table_of b) (ranks_of a) (ranks_of b) (is_table-table_of a) (is_table-table_of b) 0 J (filled a))
 
-  valid-second : (J : Document) → valid b J ≡ holds (joined (table_of a) (table_of b)) (length (table_of a)) J
+  pub valid-second : (J : Document) → valid b J ≡ holds (joined (table_of a) (table_of b)) (length (table_of a)) J
   valid-second J =
       let same : length (table_of a) + 0 ≡ length (table_of a) = omega arith in
       valid-holds b J (IsTable-table_of b)

@@ -38,7 +38,7 @@ pub(crate) fn load<H: Shelf>(alloc: Global, shelf: &mut H, name: &Str) -> Result
 }
 
 /// What the bytes of a schema file that isn't too long are read as.
-fn read_schema(alloc: Global, bytes: &[u8]) -> Result<Loaded, Memory>
+pub(crate) fn read_schema(alloc: Global, bytes: &[u8]) -> Result<Loaded, Memory>
     ensures { IfOk result (reading_says bytes.now) }
 {
     match read_json(alloc, bytes) {

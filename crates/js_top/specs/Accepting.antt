@@ -1,0 +1,25 @@
+-- When a certificate is accepted, from the bytes of both schema files and its own.
+use Rattle.std.specs.Prelude.{◌≡◌, ℕ, List, Option, Some, None}
+use Rattle.documents.specs.Json.{Json}
+use Rattle.validity.specs.Validity.{Included}
+use Rattle.js_algebra.specs.View.{Table}
+use Rattle.js_top.specs.Reading.{Read, reading}
+use Rattle.js_top.specs.Meaning.{IsGoodText}
+use Rattle.js_top.specs.Loading.{IsTableOf}
+
+-- both files are schemas that are read, and the bytes are the text of lines that are good for them
+pub record IsAccepted (a b certificate : List ℕ) : Type 0 where
+  pub first : Json
+  pub second : Json
+  pub is_first : reading a ≡ Read first
+  pub is_second : reading b ≡ Read second
+  pub good : IsGoodText first second certificate
+
+-- every document with whole numbers that is valid for the schema of the bytes `a` is valid for that of `b`
+abbrev pub AreIncluded : List ℕ → List ℕ → Type 0
+AreIncluded a b = (x y : Json) → reading a ≡ Read x → reading b ≡ Read y → Included x y
+
+-- the table of the schema of the bytes, where they are one that is read
+abbrev pub IsTableFrom : List ℕ → Option Table → Type 0
+IsTableFrom bytes (Some core) = (j : Json) × (reading bytes ≡ Read j) × IsTableOf core j
+IsTableFrom bytes None = (j : Json) → reading bytes ≡ Read j → ⊥
