@@ -1,6 +1,6 @@
 -- The certificate that is written from the trees of a goal is in the grammar: its numbers are positions of the table, and
 -- a goal formed from two positions has a short line.
-use Rattle.std.proofs.Common.{◌≡◌, ℕ, ◌+◌, ◌*◌, ◌<◌, ◌≤◌, ◌^◌, Bool, true, false, ◌&&◌, List, [], ◌∷◌, ◌++◌, map, flat_map, length, cond, nat_lt, Option, Some, None, IfSome, codes, refl, ap, sym, ◌∙◌, subst, arith}
+use Rattle.std.proofs.Common.{◌≡◌, ℕ, ◌*◌, ◌<◌, ◌≤◌, Bool, true, false, List, [], ◌∷◌, map, flat_map, length, cond, nat_lt, Option, Some, None, IfSome, refl, ◌∙◌, subst, arith}
 use Rattle.std.specs.Fmt.{decimal}
 use Rattle.std.specs.List.{AllByRecursion}
 use Rattle.std.proofs.lemmas.Bool.{and_from, ltb-true, lt-ltb, le-leb}
@@ -10,12 +10,12 @@ use Rattle.documents.specs.Tests.{every}
 use Rattle.documents.specs.Kind.{Kind, Null, Boolean, Number, Text, Array, Object, all_kinds}
 use Rattle.positions.specs.Position.{Position}
 use Rattle.positions.specs.Holds.{IsTable}
-use Rattle.position_laws.proofs.Lists.{all-weaker, all-everywhere, all-map, all-append, all-flat_map, all-every, every-all}
+use Rattle.position_laws.proofs.Lists.{all-weaker, all-map, all-append, all-every, every-all}
 use Rattle.goals.specs.Signed.{Signed, Plus, Minus, position_of, has, add, add_all, same_signed, comes_before}
 use Rattle.goals.specs.Choices.{choices}
 use Rattle.goals.specs.Goal.{follow, is_always, followed, clashes, form}
 use Rattle.goals.specs.Tree.{Step, Clash, Wrong, Rule, Saturated, steps_from, steps}
-use Rattle.goal_laws.proofs.Signs.{all-has, every-has, every-add_all}
+use Rattle.goal_laws.proofs.Signs.{every-has, every-add_all}
 use Rattle.goal_laws.proofs.Rules.{AreNames, choices-names}
 use Rattle.goal_laws.proofs.Steps.{Told, EachChoice, steps-induction}
 use Rattle.goal_laws.proofs.Forms.{form-inside}
@@ -163,9 +163,11 @@ module _ (T : List Position) (ok : IsTable T) (few : length T ≤ 4294967296) (a
 
   trees-fit : (g : List Signed) → IsInside T ok few Null g → (ts : List Kind) → AllByRecursion Fits (tree_lines T g ts)
   trees-fit g i [] = tt
-  trees-fit g i (t ∷ ts) =
-      (at-fits t, all-append Fits (map line_of (steps T t g)) (tree_lines T g ts)
-          (all-map Fits line_of (steps T t g) (steps-fit T ok few t g i)) (trees-fit g i ts))
+  trees-fit g i (t ∷ ts) = (
+    at-fits t,
+    all-append Fits (map line_of (steps T t g)) (tree_lines T g ts)
+        (all-map Fits line_of (steps T t g) (steps-fit T ok few t g i)) (trees-fit g i ts),
+  )
 
   written-fits : (root : Option (List Signed)) → form T (Plus a ∷ Minus b ∷ []) ≡ root → AllByRecursion Fits (written T root)
   written-fits None e = ((refl, refl), (number-fits 0 (omega arith), ((refl, refl), tt)))

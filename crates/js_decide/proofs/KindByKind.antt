@@ -1,6 +1,5 @@
 -- The same, kind by kind of a list that is gone through by an index.
-use Rattle.std.proofs.Common.{◌≡◌, ℕ, zero, suc, ◌+◌, ◌<◌, List, [], ◌∷◌, ◌++◌, map, drop, length, get_or, Bool, true, false, refl, ap, sym, ◌∙◌, subst, arith}
-use Rattle.documents.specs.Kind.{Kind}
+use Rattle.std.proofs.Common.{◌≡◌, ℕ, zero, suc, ◌+◌, ◌<◌, List, [], ◌∷◌, ◌++◌, map, drop, length, get_or, Bool, true, refl, sym, ◌∙◌, subst, arith}
 use Rattle.positions.specs.Position.{Position}
 use Rattle.goals.specs.Signed.{Signed}
 use Rattle.certificates.specs.Line.{Line, At}

@@ -1,15 +1,15 @@
 -- The kinds are gone through one after another: what is known of the first ones, and what each further tree adds.
-use Rattle.std.proofs.Common.{◌≡◌, ℕ, List, [], ◌∷◌, ◌++◌, map, Bool, true, false, ◌&&◌, ◌||◌, not, cond, nat_lt, Option, Some, None, refl, ap, ap₂, sym, ◌∙◌, subst, append_assoc}
+use Rattle.std.proofs.Common.{◌≡◌, List, [], ◌∷◌, ◌++◌, map, Bool, true, false, ◌&&◌, ◌||◌, not, cond, Some, refl, ap, ap₂, sym, ◌∙◌, append_assoc}
 use Rattle.documents.specs.Tests.{some}
 use Rattle.documents.specs.Kind.{Kind, all_kinds}
 use Rattle.positions.specs.Position.{Position}
 use Rattle.goals.specs.Signed.{Signed}
-use Rattle.goals.specs.Tree.{Step, steps, ends, branches, first}
+use Rattle.goals.specs.Tree.{Step, steps, branches, first}
 use Rattle.certificates.specs.Line.{Line, At, End}
 use Rattle.certificates.specs.TreeLines.{line_of, tree_lines, written}
-use Rattle.js_trees.specs.Outcomes.{Outcome, Over, Open, Closed, by_branches, tree_of}
+use Rattle.js_trees.specs.Outcomes.{Over, Open, Closed, by_branches, tree_of}
 use Rattle.js_decide.specs.Heading.{heading}
-use Rattle.js_decide.specs.Verdict.{Verdict, Document, Limit, Certificate, is_over, is_open, is_some_branch, of_kinds, of_goal}
+use Rattle.js_decide.specs.Verdict.{Document, Limit, Certificate, is_over, is_open, is_some_branch, of_kinds, of_goal}
 
 -- what the outcome of a tree says
 module _ (T : List Position) (g : List Signed) (t : Kind) where

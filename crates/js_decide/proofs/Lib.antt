@@ -1,3 +1,4 @@
 pub mod VerdictLaws
 pub mod KnownSoFar
 pub mod KindByKind
+mod Examples

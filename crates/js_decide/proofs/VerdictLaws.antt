@@ -1,8 +1,8 @@
 -- What a verdict means: each document of its kind settles the question, or its certificate is good and no document does.
-use Rattle.std.proofs.Common.{◌≡◌, ℕ, ◌<◌, ◌≤◌, List, [], ◌∷◌, length, Bool, true, false, ◌&&◌, ◌||◌, not, cond, nat_lt, Option, Some, None, IfSome, refl, ap, sym, ◌∙◌, subst}
+use Rattle.std.proofs.Common.{◌≡◌, ℕ, ◌<◌, ◌≤◌, List, [], ◌∷◌, length, Bool, true, false, ◌&&◌, ◌||◌, not, cond, Option, Some, None, IfSome, refl, ap, sym, ◌∙◌, subst}
 use Rattle.std.specs.List.{AllByRecursion}
 use Rattle.std.proofs.lemmas.Bool.{and_parts}
-use Rattle.documents.specs.Tests.{every, some}
+use Rattle.documents.specs.Tests.{some}
 use Rattle.documents.specs.Kind.{Kind, Null, Boolean, Number, Text, Array, Object, all_kinds}
 use Rattle.documents.specs.Document.{Document, kind_of}
 use Rattle.positions.specs.Position.{Position}
@@ -19,7 +19,7 @@ use Rattle.certificate_laws.proofs.GoodSound.{is_good-holds}
 use Rattle.certificates.specs.Line.{Line, lines_text, IsText}
 use Rattle.certificates.specs.TreeLines.{written}
 use Rattle.certificates.specs.Good.{is_good}
-use Rattle.js_decide.specs.Verdict.{Verdict, Document as OfKind, Limit, Certificate, is_over, is_open, is_some_branch, of_kinds, of_goal, verdict}
+use Rattle.js_decide.specs.Verdict.{Document as OfKind, Limit, Certificate, is_over, is_open, is_some_branch, of_kinds, of_goal, verdict}
 
 -- the first that passes a test passes it; where there is none, each fails it
 first-passes : (p : Kind → Bool) (ts : List Kind) (t : Kind) → first p ts ≡ Some t → p t ≡ true

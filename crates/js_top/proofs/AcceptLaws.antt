@@ -1,5 +1,5 @@
 -- What the judge of lines says of the bytes of three files.
-use Rattle.std.proofs.Common.{◌≡◌, ℕ, ◌+◌, ◌<◌, ◌≤◌, List, [], ◌∷◌, length, Bool, true, false, Option, Some, None, refl, ap, sym, ◌∙◌, subst, arith}
+use Rattle.std.proofs.Common.{◌≡◌, ℕ, List, length, Bool, true, false, ap, sym, ◌∙◌, subst}
 use Rattle.std.specs.Bool.{OnTrue, OnFalse}
 use Rattle.documents.specs.Json.{Json}
 use Rattle.validity.specs.Validity.{Included}
@@ -11,7 +11,7 @@ use Rattle.certificate_laws.proofs.GoodSound.{is_good-holds}
 use Rattle.js_algebra.specs.View.{Table}
 use Rattle.js_forms.specs.Table.{table_of}
 use Rattle.js_check.proofs.TextLaws.{one-text}
-use Rattle.js_top.specs.Reading.{Reading, Read, reading}
+use Rattle.js_top.specs.Reading.{Read, reading}
 use Rattle.js_top.specs.Meaning.{IsGoodText}
 use Rattle.js_top.specs.Loading.{IsTableOf}
 use Rattle.js_top.specs.Accepting.{IsAccepted, AreIncluded}

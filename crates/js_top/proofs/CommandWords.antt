@@ -1,5 +1,5 @@
 -- The command words by their bytes.
-use Rattle.std.proofs.Common.{◌≡◌, ℕ, ◌<◌, ◌≤◌, List, [], ◌∷◌, ◌++◌, length, get_or, Bool, true, false, ◌||◌, not, nat_lt, nat_eq, encode_utf8, encode_utf8_all, chars, codes, IsUtf8, refl, ap, sym, ◌∙◌, subst, arith}
+use Rattle.std.proofs.Common.{◌≡◌, ℕ, ◌<◌, ◌≤◌, List, [], ◌∷◌, length, get_or, Bool, true, false, not, nat_eq, encode_utf8_all, chars, codes, IsUtf8, refl, ap, sym, ◌∙◌, arith}
 use Rattle.std.proofs.lemmas.Bool.{eqb-true}
 use Rattle.std.proofs.lemmas.Str.{char_from_byte, byte_from_char, chars-encodes, length-le-encodes}
 use lib.Utf8.{encode}

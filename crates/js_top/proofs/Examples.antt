@@ -1,13 +1,17 @@
 -- Worked examples of the command words and of reports, each computed from the definitions.
 use Rattle.std.specs.Fmt.{digits}
-use Rattle.std.specs.Prelude.{◌≡◌, ℕ, List, [], ◌∷◌, Some, None, refl, codes}
-use Rattle.documents.specs.Kind.{Null, Text}
-use Rattle.goals.specs.Signed.{Plus, Minus}
-use Rattle.js_decide.specs.Verdict.{Document, Limit, Certificate}
+use Rattle.std.specs.Prelude.{◌≡◌, ℕ, List, [], ◌∷◌, ◌++◌, cond, Option, Some, None, refl, codes}
+use Rattle.documents.specs.Kind.{Text}
+use Rattle.documents.specs.Tests.{same_word}
+use Rattle.goals.specs.Goal.{follow}
+use Rattle.goals.specs.Tree.{steps}
+use Rattle.js_json.proofs.OnTexts.{json_on_texts}
+use Rattle.js_forms.specs.Places.{places_from}
+use Rattle.js_decide.specs.Verdict.{Document, Certificate}
 use Rattle.certificates.specs.TreeLines.{written}
 use Rattle.js_top.specs.Command.{command}
-use Rattle.js_top.specs.Reading.{Refused, Read}
-use Rattle.js_top.specs.Report.{printed, line, verdict_report, of_reading, of_file}
+use Rattle.js_top.specs.Reading.{Refused}
+use Rattle.js_top.specs.Report.{Report, printed, verdict_report, of_reading, of_file, of_command}
 use Rattle.js_top.specs.declared.status.Status.TheVariants as S
 
 two_names : command (codes "include" ∷ codes "a" ∷ codes "b" ∷ []) ≡ Some (codes "a", codes "b")
@@ -45,3 +49,42 @@ refused_second = refl
 
 missing_file : of_file (codes "first") None (λ j. printed [] S.Done) ≡ record { text = codes "readfault\n"; status = S.ReadFault }
 missing_file = refl
+
+-- the report of `include a b` over files `a` and `b` of these texts
+answer : List ℕ → List ℕ → Report
+answer a b = of_command files files (Some (codes "a", codes "b")) where
+  files : List ℕ → Option (List ℕ)
+  files name = cond (same_word name (codes "a")) (Some a) (cond (same_word name (codes "b")) (Some b) None)
+
+everything_in_nothing : answer (codes "{}") (codes "false") ≡ record { text = codes "document\nnull\n"; status = S.Other }
+unfolding answer json_on_texts places_from follow steps
+everything_in_nothing = refl
+
+everything_in_itself : answer (codes "true") (codes "true")
+    ≡ record { text = codes "certificate 1\ngoals 0\nend\n"; status = S.Done }
+unfolding answer json_on_texts places_from follow steps digits
+everything_in_itself = refl
+
+-- the first refusal is told, and the second file may be anything
+first_is_refused : answer (codes "{\"minimum\":1}") (codes "5")
+    ≡ record { text = codes "refused first notyet \"/minimum\"\n"; status = S.Refused }
+unfolding answer json_on_texts places_from
+first_is_refused = refl
+
+second_is_refused : answer (codes "true") (codes "{")
+    ≡ record { text = codes "refused second notjson\n"; status = S.Refused }
+unfolding answer json_on_texts places_from
+second_is_refused = refl
+
+-- a certificate of 24 lines, from the bytes of both files
+strings : answer (codes "{\"type\":\"string\"}") (codes "{\"type\":[\"string\",\"null\"]}")
+    ≡ record {
+      text =
+          codes "certificate 1\ngoals 1\ngoal +0 -2\nentry 0\n"
+          ++ codes "at null\nrule +0\nkind +1\nat boolean\nrule +0\nkind +1\nat number\nrule +0\nkind +1\n"
+          ++ codes "at string\nrule +0\nrule -2\nkind -3\nat array\nrule +0\nkind +1\nat object\nrule +0\nkind +1\n"
+          ++ codes "end\n";
+      status = S.Done;
+    }
+unfolding answer json_on_texts places_from follow steps digits
+strings = refl

@@ -1,5 +1,5 @@
 -- What a report on files says: of the two schemas where it is a verdict, and of the first refusal.
-use Rattle.std.proofs.Common.{◌≡◌, ◌⊎◌, inl, inr, ℕ, List, [], ◌∷◌, ◌++◌, length, Bool, true, false, cond, nat_lt, Option, Some, None, IsSome, codes, encode_utf8_all, refl, ap, sym, ◌∙◌, subst}
+use Rattle.std.proofs.Common.{◌≡◌, ◌⊎◌, inl, inr, ℕ, List, [], ◌∷◌, ◌++◌, length, Bool, true, false, cond, nat_lt, Option, Some, None, codes, encode_utf8_all, refl, ap, sym, ◌∙◌, subst}
 use Rattle.documents.specs.Json.{Json}
 use Rattle.position_laws.specs.Join.{joined}
 use Rattle.js_outside.specs.Counts.{Rose}
@@ -11,7 +11,7 @@ use Rattle.js_forms.specs.Table.{table_of}
 use Rattle.js_decide.specs.Verdict.{Verdict, Document, Limit, Certificate, verdict}
 use Rattle.js_top.specs.Command.{command}
 use Rattle.js_top.specs.Reading.{Reading, Refused, Read, of_fault, of_value, reading, IsSchema}
-use Rattle.js_top.specs.Report.{Report, printed, verdict_report, include_report, of_reading, of_file, of_command, AreFiles, IsReportOf, IsReport}
+use Rattle.js_top.specs.Report.{Report, printed, verdict_report, include_report, of_reading, of_file, of_command, AreFiles, IsReport}
 use Rattle.js_top.specs.Meaning.{AreSchemas, WhereTold, PassesLimit, IsRefusal, IsSecondRefusal, IsFirstRefusal}
 use Rattle.js_top.specs.Preparing.{report_of, PreparedSays}
 use Rattle.js_top.specs.declared.prepare.Prepared.{Prepared}
@@ -121,8 +121,7 @@ means : (told : Option Files) (words : List (List ℕ)) (text : List ℕ) (statu
     → IsReport told words (record { text = text; status = status }) → is_verdict status ≡ true
     → (a : Json) × (b : Json) × AreSchemas told words a b × OfStatus a b status text
 means told words text status is answers =
-    let of = report-schemas told words (record { text = text; status = status }) is answers in
-    (
+    let of = report-schemas told words (record { text = text; status = status }) is answers in (
       of.first,
       of.second,
       of.are,

@@ -1,12 +1,11 @@
 -- The report of two files, from what each was loaded as and from the verdict on their tables.
-use Rattle.std.proofs.Common.{◌≡◌, ℕ, ◌<◌, ◌≤◌, List, [], ◌∷◌, ◌++◌, length, true, Option, Some, None, Result, Ok, Err, IfOk, codes, encode_utf8_all, refl, ap, ap₂, sym, ◌∙◌, subst, arith}
+use Rattle.std.proofs.Common.{◌≡◌, ℕ, ◌<◌, List, ◌∷◌, ◌++◌, length, true, Option, Some, None, Result, Ok, Err, IfOk, codes, encode_utf8_all, refl, ap, ap₂, sym, ◌∙◌, subst, arith}
 use Rattle.documents.specs.Json.{Json}
 use Rattle.positions.specs.Position.{Position}
 use Rattle.position_laws.specs.Join.{joined}
 use Rattle.js_outside.specs.Told.{Files}
 use Rattle.js_report.specs.WholeFile.{HasBytes}
 use Rattle.js_algebra.specs.View.{Table}
-use Rattle.js_forms.specs.Table.{table_of}
 use Rattle.js_forms.proofs.Ranks.{IsTable-table_of}
 use Rattle.js_decide.specs.Verdict.{Verdict, Document, Limit, Certificate, verdict}
 use Rattle.js_top.specs.Reading.{Read, Refused, reading}

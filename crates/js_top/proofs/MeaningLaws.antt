@@ -1,11 +1,11 @@
 -- What the report of two schemas that are read means.
-use Rattle.std.proofs.Common.{◌≡◌, ◌⊎◌, inl, inr, ℕ, ◌+◌, ◌<◌, ◌≤◌, List, [], ◌∷◌, ◌++◌, length, Bool, true, false, ◌||◌, cond, Option, Some, None, codes, encode_utf8_all, pos, refl, ap, ap₂, sym, ◌∙◌, subst, arith}
+use Rattle.std.proofs.Common.{◌≡◌, ℕ, ◌+◌, ◌<◌, ◌≤◌, List, [], ◌∷◌, ◌++◌, length, Bool, true, false, ◌||◌, cond, Option, Some, None, codes, pos, refl, ap, sym, ◌∙◌, subst, arith}
 use Rattle.documents.specs.Tests.{some}
 use Rattle.documents.specs.Kind.{Kind, Null, Boolean, Number, Text, Array, Object, all_kinds}
 use Rattle.documents.specs.Document as D
 use Rattle.documents.specs.Document.{Document, is_document, kind_of}
 use Rattle.documents.specs.Json.{Json}
-use Rattle.validity.specs.Validity.{valid, Included, Separates}
+use Rattle.validity.specs.Validity.{valid}
 use Rattle.positions.specs.Position.{Position}
 use Rattle.positions.specs.Holds.{holds, IsTable}
 use Rattle.position_laws.specs.Join.{joined}
@@ -17,7 +17,6 @@ use Rattle.certificates.specs.Line.{Line, lines_text, signed_list_text, IsText}
 use Rattle.certificates.specs.TreeLines.{written}
 use Rattle.js_json.specs.Value.{value_of}
 use Rattle.js_json.proofs.OnTexts.{json_on_texts}
-use Rattle.js_outside.specs.Told.{Files}
 use Rattle.js_forms.specs.Table.{table_of, ranks_of}
 use Rattle.js_forms.proofs.Ranks.{IsTable-table_of, is_table-table_of}
 use Rattle.js_forms.proofs.Meaning.{valid-holds}
@@ -25,13 +24,8 @@ use Rattle.js_forms.proofs.Small.{length-table_of}
 use Rattle.js_forms.specs.Places.{first_fault}
 use Rattle.js_decide.specs.Verdict.{Verdict, Document as OfKind, Limit, Certificate, is_over, is_open, of_kinds, of_goal, verdict}
 use Rattle.js_decide.proofs.VerdictLaws.{verdict-document, verdict-good, verdict-text, verdict-certificate}
-use Rattle.js_top.specs.Command.{command}
-use Rattle.js_top.specs.Reading.{Reading, Refused, Read, reading, IsSchema}
-use Rattle.js_top.specs.Report.{Report, line, sample_text, verdict_report, include_report}
-use Rattle.js_top.specs.Meaning.{json_of, IsDocumentText, IsCounterexample, IsCertificate, IsLimit, PassesLimit}
-use Rattle.js_top.specs.Preparing.{report_of, is_answer, PreparedSays}
-use Rattle.js_top.specs.declared.prepare.Prepared.{Prepared}
-use Rattle.js_top.specs.declared.prepare.Prepared.TheVariants.{Usage, Unread, Made}
+use Rattle.js_top.specs.Report.{line, sample_text, verdict_report, include_report}
+use Rattle.js_top.specs.Meaning.{json_of, IsCounterexample, IsCertificate, IsLimit, PassesLimit}
 use Rattle.js_top.specs.declared.status.Status.{Status}
 use Rattle.js_top.specs.declared.status.Status.TheVariants as S
 

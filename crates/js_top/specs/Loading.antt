@@ -1,5 +1,5 @@
 -- What a file that was loaded says of the shelf's files and of its count of faults.
-use Rattle.std.specs.Prelude.{◌≡◌, ℕ, ◌≤◌, List, [], ◌∷◌, length, string_bytes, Option, Some, None, encode_utf8_all}
+use Rattle.std.specs.Prelude.{◌≡◌, ℕ, ◌≤◌, List, length, string_bytes, Option, encode_utf8_all}
 use Rattle.documents.specs.Json.{Json}
 use Rattle.js_outside.specs.Counts.{Rose}
 use Rattle.js_outside.specs.Told.{Files}
@@ -7,7 +7,7 @@ use Rattle.js_report.specs.WholeFile.{HasBytes, longest_file}
 use Rattle.js_algebra.specs.View.{Table}
 use Rattle.js_forms.specs.Places.{most_weight}
 use Rattle.js_forms.specs.Table.{table_of, ranks_of}
-use Rattle.js_top.specs.Reading.{Reading, Refused, Read, reading}
+use Rattle.js_top.specs.Reading.{Refused, Read, reading}
 use Rattle.js_top.specs.declared.load.Loaded.{Loaded}
 use Rattle.js_top.specs.declared.load.Loaded.TheVariants as L
 

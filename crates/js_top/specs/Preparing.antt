@@ -1,5 +1,5 @@
 -- What a report that was prepared says of the shelf's files and of its count of faults.
-use Rattle.std.specs.Prelude.{◌≡◌, ℕ, List, [], ◌∷◌, ◌++◌, Bool, true, false, codes, Option, Some, None, IsSome}
+use Rattle.std.specs.Prelude.{◌≡◌, ℕ, List, Bool, true, false, codes, Option, Some, None, IsSome}
 use Rattle.js_outside.specs.Counts.{Rose}
 use Rattle.js_outside.specs.Told.{Files}
 use Rattle.js_top.specs.Command.{command}

@@ -1,5 +1,5 @@
 -- What the bytes of a schema file are read as.
-use Rattle.std.specs.Prelude.{◌≡◌, ℕ, List, [], ◌∷◌, ◌++◌, length, cond, nat_lt, Option, Some, None, codes, encode_utf8_all}
+use Rattle.std.specs.Prelude.{◌≡◌, ℕ, List, ◌++◌, length, cond, nat_lt, Option, Some, None, codes, encode_utf8_all}
 use Rattle.documents.specs.Json.{Json}
 use Rattle.js_json.specs.Value.{value_of}
 use Rattle.js_json.specs.Pointer.{pointer_text, quoted}

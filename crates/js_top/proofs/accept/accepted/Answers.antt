@@ -1,4 +1,4 @@
-use Rattle.std.proofs.Common.{◌≡◌, ◌<◌, length, IfSome, ap, subst, arith}
+use Rattle.std.proofs.Common.{length, IfSome, ap, subst, arith}
 use Rattle.certificates.specs.Line.{IsText}
 use Rattle.position_laws.proofs.Joined.{length-joined}
 use Rattle.js_top.specs.Accepting.{IsTableFrom}

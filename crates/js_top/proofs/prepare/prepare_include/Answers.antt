@@ -1,4 +1,4 @@
-use Rattle.std.proofs.Common.{◌≡◌, length, encode_utf8_all, string_bytes, refl, subst}
+use Rattle.std.proofs.Common.{length, encode_utf8_all, string_bytes, refl, subst}
 use Rattle.js_report.specs.WholeFile.{HasBytes}
 use Rattle.position_laws.specs.Join.{joined}
 use Rattle.js_decide.specs.Verdict.{verdict}

@@ -1,4 +1,4 @@
-use Rattle.std.proofs.Common.{◌≡◌, ◌<◌, ◌≤◌, length, get_or, nat_lt, nat_eq, not, encode_utf8_all, sym, ap, subst, ◌∙◌, arith}
+use Rattle.std.proofs.Common.{◌<◌, ◌≤◌, length, get_or, nat_eq, not, sym, ap, subst, ◌∙◌}
 use Rattle.std.proofs.lemmas.Bool.{lt-ltb}
 use Rattle.js_top.proofs.CommandWords.{is_name-short, is_name-long}
 use Rattle.js_top.proofs.words.is_name.Goals as goal
