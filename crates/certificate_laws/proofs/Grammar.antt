@@ -1,4 +1,5 @@
--- The certificate that is written from the trees of a goal is in the grammar: its numbers are positions of the table, and
+-- The certificate that is written from the trees of a goal is in the grammar: its numbers are positions of the table,
+-- and
 -- a goal formed from two positions has a short line.
 use Rattle.std.proofs.Common.{◌≡◌, ℕ, ◌*◌, ◌<◌, ◌≤◌, Bool, true, false, List, [], ◌∷◌, map, flat_map, length, cond, nat_lt, Option, Some, None, IfSome, refl, ◌∙◌, subst, arith}
 use Rattle.std.specs.Fmt.{decimal}
@@ -157,7 +158,8 @@ length-form T xs g e = go (clashes T (add_all (followed T xs) [])) e where
 
 -- the whole certificate
 
-module _ (T : List Position) (ok : IsTable T) (few : length T ≤ 4294967296) (a b : ℕ) (in_a : a < length T) (in_b : b < length T) where
+module _ (T : List Position) (ok : IsTable T) (few : length T ≤ 4294967296) (a b : ℕ) (in_a : a < length T)
+    (in_b : b < length T) where
   root_inside : every (λ x. nat_lt (position_of x) (length T)) (Plus a ∷ Minus b ∷ []) ≡ true
   root_inside = and_from _ _ (lt-ltb a (length T) in_a) (and_from _ true (lt-ltb b (length T) in_b) refl)
 
@@ -169,7 +171,8 @@ module _ (T : List Position) (ok : IsTable T) (few : length T ≤ 4294967296) (a
         (all-map Fits line_of (steps T t g) (steps-fit T ok few t g i)) (trees-fit g i ts),
   )
 
-  written-fits : (root : Option (List Signed)) → form T (Plus a ∷ Minus b ∷ []) ≡ root → AllByRecursion Fits (written T root)
+  written-fits : (root : Option (List Signed)) → form T (Plus a ∷ Minus b ∷ []) ≡ root
+      → AllByRecursion Fits (written T root)
   written-fits None e = ((refl, refl), (number-fits 0 (omega arith), ((refl, refl), tt)))
   written-fits (Some g) e =
       let i = form-inside T ok (Plus a ∷ Minus b ∷ []) g e root_inside in
@@ -182,7 +185,8 @@ module _ (T : List Position) (ok : IsTable T) (few : length T ≤ 4294967296) (a
       all-inside xs i = all-weaker _ _ xs (λ x l. let low = ltb-true _ (length T) l in omega arith) (every-all _ xs i)
 
   -- the certificate that is written is in the grammar, with this text
-  pub IsText-written : IsText (lines_text (written T (form T (Plus a ∷ Minus b ∷ [])))) (written T (form T (Plus a ∷ Minus b ∷ [])))
+  pub IsText-written : IsText (lines_text (written T (form T (Plus a ∷ Minus b ∷ []))))
+      (written T (form T (Plus a ∷ Minus b ∷ [])))
   IsText-written =
       let ls = written T (form T (Plus a ∷ Minus b ∷ [])) in
       let fit = written-fits (form T (Plus a ∷ Minus b ∷ [])) refl in

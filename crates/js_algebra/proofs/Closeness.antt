@@ -15,19 +15,23 @@ module _ (T : List Position) where
   clash_in R x = is_never T x || has (opposite x) R
 
   -- a position with both signs has them side by side
-  both : (p : ℕ) (S : List Signed) → is_rising S ≡ true → has (Plus p) S ≡ true → has (Minus p) S ≡ true → clashes_nearby T S ≡ true
+  both : (p : ℕ) (S : List Signed) → is_rising S ≡ true → has (Plus p) S ≡ true → has (Minus p) S ≡ true
+      → clashes_nearby T S ≡ true
   both p [] e h k = absurd (true≢false (sym h))
   both p (y ∷ S) e h k =
       let (a, b) = and_parts (every (comes_before y) S) (is_rising S) e in
       ⊎_elim
       (λ s. or_left _ (clashes_nearby T S) (or_right (is_never T y) _
       (next S a b (same_eq (Plus p) y s) (same-true (Plus p) y s)
-      (⊎_elim (λ m. absurd (omega (arith, same_eq (Plus p) y s, same_eq (Minus p) y m))) (λ i. i) (or_cases (same_signed (Minus p) y) (has (Minus p) S) k)))))
+      (⊎_elim (λ m. absurd (omega (arith, same_eq (Plus p) y s, same_eq (Minus p) y m))) (λ i. i)
+      (or_cases (same_signed (Minus p) y) (has (Minus p) S) k)))))
       (λ i. or_right (is_never T y || begins_with (opposite y) S) (clashes_nearby T S)
-      (both p S b i (⊎_elim (λ m. absurd (omega (arith, has_after (Plus p) y S a i, same_eq (Minus p) y m))) (λ j. j) (or_cases (same_signed (Minus p) y) (has (Minus p) S) k))))
+      (both p S b i (⊎_elim (λ m. absurd (omega (arith, has_after (Plus p) y S a i, same_eq (Minus p) y m))) (λ j. j)
+      (or_cases (same_signed (Minus p) y) (has (Minus p) S) k))))
       (or_cases (same_signed (Plus p) y) (has (Plus p) S) h)
     where
-      next : (S : List Signed) → every (comes_before y) S ≡ true → is_rising S ≡ true → order_of (Plus p) ≡ order_of y → Plus p ≡ y
+      next : (S : List Signed) → every (comes_before y) S ≡ true → is_rising S ≡ true → order_of (Plus p) ≡ order_of y
+          → Plus p ≡ y
           → has (Minus p) S ≡ true → begins_with (opposite y) S ≡ true
       next [] a b q s i = absurd (true≢false (sym i))
       next (z ∷ S) a b q s i =
@@ -42,7 +46,8 @@ module _ (T : List Position) where
   never x [] h n = absurd (true≢false (sym h))
   never x (y ∷ S) h n =
       ⊎_elim
-      (λ s. or_left _ (clashes_nearby T S) (or_left _ (begins_with (opposite y) S) (subst (λ w. is_never T w ≡ true) (same-true x y s) n)))
+      (λ s. or_left _ (clashes_nearby T S) (or_left _ (begins_with (opposite y) S)
+      (subst (λ w. is_never T w ≡ true) (same-true x y s) n)))
       (λ i. or_right (is_never T y || begins_with (opposite y) S) (clashes_nearby T S) (never x S i n))
       (or_cases (same_signed x y) (has x S) h)
 
@@ -67,13 +72,15 @@ module _ (T : List Position) where
   begins_has x [] e = e
   begins_has x (y ∷ S) e = or_left (same_signed x y) (has x S) e
 
-  anywhere : (S R : List Signed) → ((z : Signed) → has z S ≡ true → has z R ≡ true) → clashes_nearby T S ≡ true → some (clash_in R) S ≡ true
+  anywhere : (S R : List Signed) → ((z : Signed) → has z S ≡ true → has z R ≡ true) → clashes_nearby T S ≡ true
+      → some (clash_in R) S ≡ true
   anywhere [] R m e = e
   anywhere (x ∷ S) R m e =
       let more = λ (z : Signed) (h : has z S ≡ true). m z (or_right (same_signed z x) (has z S) h) in
       ⊎_elim
       (λ a. or_left (clash_in R x) _
-      (⊎_elim (λ n. or_left _ (has (opposite x) R) n) (λ b. or_right (is_never T x) _ (more (opposite x) (begins_has (opposite x) S b)))
+      (⊎_elim (λ n. or_left _ (has (opposite x) R) n)
+      (λ b. or_right (is_never T x) _ (more (opposite x) (begins_has (opposite x) S b)))
       (or_cases (is_never T x) (begins_with (opposite x) S) a)))
       (λ b. or_right (clash_in R x) _ (anywhere S R more b))
       (or_cases (is_never T x || begins_with (opposite x) S) (clashes_nearby T S) e)

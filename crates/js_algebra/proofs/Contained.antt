@@ -13,25 +13,30 @@ use Rattle.js_algebra.proofs.Orders.{before_lt, lt_before, ne_same, same_ne, sam
 use Rattle.js_algebra.proofs.Sets.{above, before_lacks}
 
 -- what is before the small list can't be one of it
-pub contains_skip : (x : G.Signed) (B R : List G.Signed) → every (comes_before x) R ≡ true → contains (x ∷ B) R ≡ contains B R
+pub contains_skip : (x : G.Signed) (B R : List G.Signed) → every (comes_before x) R ≡ true
+    → contains (x ∷ B) R ≡ contains B R
 contains_skip x B [] e = refl
 contains_skip x B (y ∷ R) e =
     let (a, b) = and_parts (comes_before x y) (every (comes_before x) R) e in
     let n : same_signed y x ≡ false = ne_same y x (λ q. omega (arith, before_lt x y a, q)) in
     ap₂ (λ s t. s && t) (ap (λ s. s || has y B) n) (contains_skip x B R b)
 
-pub contains_same : (x : G.Signed) (B R : List G.Signed) → is_rising (x ∷ R) ≡ true → contains (x ∷ B) (x ∷ R) ≡ contains B R
+pub contains_same : (x : G.Signed) (B R : List G.Signed) → is_rising (x ∷ R) ≡ true
+    → contains (x ∷ B) (x ∷ R) ≡ contains B R
 contains_same x B R e =
-    ap (λ s. (s || has x B) && contains (x ∷ B) R) (same-itself x) ∙ contains_skip x B R (and_parts (every (comes_before x) R) (is_rising R) e).0
+    ap (λ s. (s || has x B) && contains (x ∷ B) R) (same-itself x)
+    ∙ contains_skip x B R (and_parts (every (comes_before x) R) (is_rising R) e).0
 
 pub contains_later : (x y : G.Signed) (B R : List G.Signed) → order_of x < order_of y → is_rising (y ∷ R) ≡ true
     → contains (x ∷ B) (y ∷ R) ≡ contains B (y ∷ R)
 contains_later x y B R l e =
     let a = (and_parts (every (comes_before y) R) (is_rising R) e).0 in
-    let b : every (comes_before x) (y ∷ R) ≡ true = ap₂ (λ s t. s && t) (lt_before x y l) (above x y R (omega (arith, l)) a) in
+    let b : every (comes_before x) (y ∷ R) ≡ true =
+    ap₂ (λ s t. s && t) (lt_before x y l) (above x y R (omega (arith, l)) a) in
     contains_skip x B (y ∷ R) b
 
-pub contains_not : (x y : G.Signed) (B R : List G.Signed) → order_of y < order_of x → is_rising (x ∷ B) ≡ true → contains (x ∷ B) (y ∷ R) ≡ false
+pub contains_not : (x y : G.Signed) (B R : List G.Signed) → order_of y < order_of x → is_rising (x ∷ B) ≡ true
+    → contains (x ∷ B) (y ∷ R) ≡ false
 contains_not x y B R l e =
     let a = (and_parts (every (comes_before x) B) (is_rising B) e).0 in
     let n : same_signed y x ≡ false = ne_same y x (λ q. omega (arith, q)) in
@@ -43,7 +48,8 @@ pub record Keeps (answer : Bool) (B R : List Signed) : Type 0 where
   pub small_rises : is_rising (map signed_view R) ≡ true
   pub big_rises : is_rising (map signed_view B) ≡ true
 
-rest_rises : (x : Signed) (S : List Signed) → is_rising (map signed_view (x ∷ S)) ≡ true → is_rising (map signed_view S) ≡ true
+rest_rises : (x : Signed) (S : List Signed) → is_rising (map signed_view (x ∷ S)) ≡ true
+    → is_rising (map signed_view S) ≡ true
 rest_rises x S e = (and_parts (every (comes_before (signed_view x)) (map signed_view S)) _ e).1
 
 pub keeps_same : (answer : Bool) (x y : Signed) (B R : List Signed) → same_signed (signed_view x) (signed_view y) ≡ true
@@ -56,19 +62,23 @@ keeps_same answer x y B R s k = record {
   big_rises = rest_rises x B k.big_rises;
 }
 
-pub keeps_later : (answer : Bool) (x y : Signed) (B R : List Signed) → same_signed (signed_view x) (signed_view y) ≡ false
+pub keeps_later : (answer : Bool) (x y : Signed) (B R : List Signed)
+    → same_signed (signed_view x) (signed_view y) ≡ false
     → order_of (signed_view x) ≤ order_of (signed_view y) → Keeps answer (x ∷ B) (y ∷ R) → Keeps answer B (y ∷ R)
 keeps_later answer x y B R n l k = record {
   decides =
-      (let m : order_of (signed_view x) < order_of (signed_view y) = omega (arith, same_ne (signed_view x) (signed_view y) n) in
-      sym (contains_later (signed_view x) (signed_view y) (map signed_view B) (map signed_view R) m k.small_rises) ∙ k.decides);
+      (let m : order_of (signed_view x) < order_of (signed_view y) =
+      omega (arith, same_ne (signed_view x) (signed_view y) n) in
+      sym (contains_later (signed_view x) (signed_view y) (map signed_view B) (map signed_view R) m k.small_rises)
+      ∙ k.decides);
   small_rises = k.small_rises;
   big_rises = rest_rises x B k.big_rises;
 }
 
 pub keeps_not : (answer : Bool) (x y : Signed) (B R : List Signed) → order_of (signed_view y) < order_of (signed_view x)
     → Keeps answer (x ∷ B) (y ∷ R) → false ≡ answer
-keeps_not answer x y B R l k = sym (contains_not (signed_view x) (signed_view y) (map signed_view B) (map signed_view R) l k.big_rises) ∙ k.decides
+keeps_not answer x y B R l k = sym (contains_not (signed_view x) (signed_view y) (map signed_view B)
+    (map signed_view R) l k.big_rises) ∙ k.decides
 
 -- what is left from a place on
 pub drop-at : (xs : List Signed) (i : ℕ) (d : Signed) → i < length xs → drop i xs ≡ get_or xs i d ∷ drop (i + 1) xs

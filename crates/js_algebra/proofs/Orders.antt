@@ -11,16 +11,22 @@ same_test false true f g = g refl
 same_test false false f g = refl
 
 pub before-order : (x y : Signed) → comes_before x y ≡ nat_lt (order_of x) (order_of y)
-before-order (Plus p) (Plus q) = same_test _ _ (λ e. lt-ltb _ _ (omega (arith, ltb-true p q e))) (λ e. lt-ltb _ _ (omega (arith, ltb-true (2 * p) (2 * q) e)))
-before-order (Plus p) (Minus q) = same_test _ _ (λ e. lt-ltb _ _ (omega (arith, leb-true p q e))) (λ e. le-leb _ _ (omega (arith, ltb-true (2 * p) (2 * q + 1) e)))
-before-order (Minus p) (Plus q) = same_test _ _ (λ e. lt-ltb _ _ (omega (arith, ltb-true p q e))) (λ e. lt-ltb _ _ (omega (arith, ltb-true (2 * p + 1) (2 * q) e)))
-before-order (Minus p) (Minus q) = same_test _ _ (λ e. lt-ltb _ _ (omega (arith, ltb-true p q e))) (λ e. lt-ltb _ _ (omega (arith, ltb-true (2 * p + 1) (2 * q + 1) e)))
+before-order (Plus p) (Plus q) = same_test _ _ (λ e. lt-ltb _ _ (omega (arith, ltb-true p q e)))
+    (λ e. lt-ltb _ _ (omega (arith, ltb-true (2 * p) (2 * q) e)))
+before-order (Plus p) (Minus q) = same_test _ _ (λ e. lt-ltb _ _ (omega (arith, leb-true p q e)))
+    (λ e. le-leb _ _ (omega (arith, ltb-true (2 * p) (2 * q + 1) e)))
+before-order (Minus p) (Plus q) = same_test _ _ (λ e. lt-ltb _ _ (omega (arith, ltb-true p q e)))
+    (λ e. lt-ltb _ _ (omega (arith, ltb-true (2 * p + 1) (2 * q) e)))
+before-order (Minus p) (Minus q) = same_test _ _ (λ e. lt-ltb _ _ (omega (arith, ltb-true p q e)))
+    (λ e. lt-ltb _ _ (omega (arith, ltb-true (2 * p + 1) (2 * q + 1) e)))
 
 pub same-order : (x y : Signed) → same_signed x y ≡ nat_eq (order_of x) (order_of y)
-same-order (Plus p) (Plus q) = same_test _ _ (λ e. eq-eqb _ _ (omega (arith, eqb-true p q e))) (λ e. eq-eqb _ _ (omega (arith, eqb-true (2 * p) (2 * q) e)))
+same-order (Plus p) (Plus q) = same_test _ _ (λ e. eq-eqb _ _ (omega (arith, eqb-true p q e)))
+    (λ e. eq-eqb _ _ (omega (arith, eqb-true (2 * p) (2 * q) e)))
 same-order (Plus p) (Minus q) = sym (ne_eqb _ _ (λ e. omega (arith, e)))
 same-order (Minus p) (Plus q) = sym (ne_eqb _ _ (λ e. omega (arith, e)))
-same-order (Minus p) (Minus q) = same_test _ _ (λ e. eq-eqb _ _ (omega (arith, eqb-true p q e))) (λ e. eq-eqb _ _ (omega (arith, eqb-true (2 * p + 1) (2 * q + 1) e)))
+same-order (Minus p) (Minus q) = same_test _ _ (λ e. eq-eqb _ _ (omega (arith, eqb-true p q e)))
+    (λ e. eq-eqb _ _ (omega (arith, eqb-true (2 * p + 1) (2 * q + 1) e)))
 
 pub before_lt : (x y : Signed) → comes_before x y ≡ true → order_of x < order_of y
 before_lt x y e = ltb-true _ _ (sym (before-order x y) ∙ e)

@@ -123,7 +123,8 @@ impl Core {
 
     fn followed(&self, alloc: Global, list: &[Signed]) -> Result<Vec<Signed>, Memory>
         requires { are_in_table self.now.positions (map signed_view list.now) ≡ true }
-        ensures value { IfOk result (λ v. map signed_view v.items ≡ G.followed self.now.positions (map signed_view list.now)) }
+        ensures value { IfOk result (λ v. map signed_view v.items ≡ G.followed self.now.positions
+            (map signed_view list.now)) }
         ensures in_table { IfOk result (λ v. are_in_table self.now.positions (map signed_view v.items) ≡ true) }
     {
         let mut found = Vec::with_capacity(alloc, list.len())?;

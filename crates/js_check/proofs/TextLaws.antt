@@ -84,7 +84,7 @@ pub one-text : (bytes : List ℕ) (ls ks : List Line) → IsText bytes ls → Is
 one-text bytes ls ks t u =
     let cut = pieces-text bytes ks u in
     let some : Some ls ≡ Some ks =
-        sym (lines-read bytes (map words_text ks) ls cut t) ∙ lines-read bytes (map words_text ks) ks cut u in
+    sym (lines-read bytes (map words_text ks) ls cut t) ∙ lines-read bytes (map words_text ks) ks cut u in
     cc
 
 -- the pieces as the program holds them

@@ -17,7 +17,8 @@ left-cons (k ∷ ks) (suc i) d l =
     let one : suc i + 1 ≡ suc (i + 1) = omega arith in
     rw one (left-cons ks i d (omega arith))
 
-module _ (T : List Position) (g : List Signed) (ks : List JsonKind) (i : ℕ) (d : JsonKind) (l : i < length ks) (over now : Bool)
+module _ (T : List Position) (g : List Signed) (ks : List JsonKind) (i : ℕ) (d : JsonKind) (l : i < length ks)
+    (over now : Bool)
     (lines after : List Line) (tree : Outcome) (e : tree ≡ tree_of T (kind_view (get_or ks i d)) g)
     (known : KnownOf T g (map kind_view (drop i ks)) over lines) where
   known_now : KnownOf T g (kind_view (get_or ks i d) ∷ map kind_view (drop (i + 1) ks)) over lines
@@ -25,9 +26,12 @@ module _ (T : List Position) (g : List Signed) (ks : List JsonKind) (i : ℕ) (d
 
   pub known-over-at : tree ≡ Over → now ≡ true → after ≡ lines → KnownOf T g (map kind_view (drop (i + 1) ks)) now after
   known-over-at t n a =
-      rw (n, a) (known-over T g (kind_view (get_or ks i d)) (map kind_view (drop (i + 1) ks)) over lines (sym e ∙ t) known_now)
+      rw (n, a) (known-over T g (kind_view (get_or ks i d)) (map kind_view (drop (i + 1) ks)) over lines
+      (sym e ∙ t) known_now)
 
-  pub known-closed-at : (ls : List Line) → tree ≡ Closed ls → now ≡ over → after ≡ lines ++ At (kind_view (get_or ks i d)) ∷ ls
+  pub known-closed-at : (ls : List Line) → tree ≡ Closed ls → now ≡ over
+      → after ≡ lines ++ At (kind_view (get_or ks i d)) ∷ ls
       → KnownOf T g (map kind_view (drop (i + 1) ks)) now after
   known-closed-at ls t n a =
-      rw n (known-closed T g (kind_view (get_or ks i d)) (map kind_view (drop (i + 1) ks)) over lines after ls (sym e ∙ t) a known_now)
+      rw n (known-closed T g (kind_view (get_or ks i d)) (map kind_view (drop (i + 1) ks)) over lines after ls
+      (sym e ∙ t) a known_now)

@@ -56,14 +56,20 @@ module _ (T : List Position) (g : List Signed) (t : Kind) where
 
 -- what is known when the kinds `ks` are left: no kind before has a branch within the limit, `over` tells whether one is
 -- over the limit, and if none is then the lines so far are the certificate's
-pub record KnownOf (T : List Position) (g : List Signed) (ks : List Kind) (over : Bool) (lines : List Line) : Type 0 where
+pub record KnownOf (T : List Position) (g : List Signed) (ks : List Kind) (over : Bool)
+    (lines : List Line) : Type 0 where
   pub first_open : first (is_open T g) all_kinds ≡ first (is_open T g) ks
   pub some_over : some (is_over T g) all_kinds ≡ (over || some (is_over T g) ks)
   pub closed : over ≡ false → lines ++ tree_lines T g ks ≡ heading g ++ tree_lines T g all_kinds
 
 module _ (T : List Position) (g : List Signed) where
   pub known-start : (lines : List Line) → lines ≡ heading g → KnownOf T g all_kinds false lines
-  known-start lines e = record { first_open = refl; some_over = refl; closed = λ h. ap (λ ls. ls ++ tree_lines T g all_kinds) e }
+  known-start lines e = record {
+    first_open = refl;
+    some_over = refl;
+    closed = λ h.
+        ap (λ ls. ls ++ tree_lines T g all_kinds) e;
+  }
 
   or-true : (b : Bool) → (b || true) ≡ true
   or-true true = refl
@@ -79,7 +85,8 @@ module _ (T : List Position) (g : List Signed) where
         closed = λ absurd_now. cc;
       }
 
-  pub known-closed : (k : Kind) (ks : List Kind) (over : Bool) (lines more : List Line) (ls : List Line) → tree_of T k g ≡ Closed ls
+  pub known-closed : (k : Kind) (ks : List Kind) (over : Bool) (lines more : List Line) (ls : List Line)
+      → tree_of T k g ≡ Closed ls
       → more ≡ lines ++ At k ∷ ls → KnownOf T g (k ∷ ks) over lines → KnownOf T g ks over more
   known-closed k ks over lines more ls e m known =
       let (h, o, same) = tree_of-closed T g k ls e in
@@ -101,7 +108,8 @@ module _ (T : List Position) (g : List Signed) where
   known-limit lines known =
       ap (of_kinds T g) known.first_open ∙ ap (λ b. cond b (Limit g) (Certificate (written T (Some g)))) known.some_over
 
-  pub known-certificate : (lines more : List Line) → KnownOf T g [] false lines → more ≡ lines ++ End ∷ [] → of_goal T (Some g) ≡ Certificate more
+  pub known-certificate : (lines more : List Line) → KnownOf T g [] false lines → more ≡ lines ++ End ∷ []
+      → of_goal T (Some g) ≡ Certificate more
   known-certificate lines more known e =
       ap (of_kinds T g) known.first_open
       ∙ ap (λ b. cond b (Limit g) (Certificate (written T (Some g)))) known.some_over

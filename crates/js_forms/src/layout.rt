@@ -15,7 +15,8 @@ use std::alloc::Global;
 
 /// The table of the entries.
 pub(crate) fn lay_out(alloc: Global, entries: Vec<Entry>) -> Result<Core, Memory>
-    requires table { is_table (T.laid_out (map entry_view entries.items)) (T.ranks (map entry_view entries.items)) ≡ true }
+    requires table { is_table (T.laid_out (map entry_view entries.items))
+        (T.ranks (map entry_view entries.items)) ≡ true }
     requires small { length (T.laid_out (map entry_view entries.items)) < 2 ^ 32 }
     ensures positions { IfOk result (λ core. core.positions ≡ T.laid_out (map entry_view entries.items)) }
     ensures ranks { IfOk result (λ core. core.ranks ≡ T.ranks (map entry_view entries.items)) }
@@ -66,7 +67,8 @@ fn entry_nodes(alloc: Global, entries: &[Entry]) -> Result<Vec<Node>, Memory>
 }
 
 fn push_nodes(nodes: &mut Vec<Node>, entry: Entry) -> Result<(), Memory>
-    ensures { OnOk result (map node_view nodes.new.items ≡ map node_view nodes.old.items ++ T.nodes_of (entry_view entry)) }
+    ensures { OnOk result (map node_view nodes.new.items ≡ map node_view nodes.old.items
+        ++ T.nodes_of (entry_view entry)) }
 {
     match entry {
         Entry::Constant(_) => Ok(()),

@@ -133,7 +133,10 @@ impl Walk {
     /// Gives an entry its keywords' nodes.
     fn complete(&mut self, entry: u32, nodes: Vec<Node>)
         requires { entry < length self.old.entries }
-        ensures { self.new ≡ record self.old { entries = slice_set self.old.entries entry (T.Keywords (map node_view nodes.items)) } }
+        ensures { self.new ≡ record self.old {
+          entries =
+              slice_set self.old.entries entry (T.Keywords (map node_view nodes.items));
+        } }
     {
         self.entries[entry as usize] = Entry::Keywords(nodes);
     }
@@ -152,7 +155,8 @@ impl Walk {
 
     #[cycle(read)]
     fn read_object(&mut self, members: &JsonMap) -> Result<(), FormsFault>
-        ensures { ReadsOrTells self.old self.new result (places_from self.old.pointer (D.object (map_view members.now))) }
+        ensures { ReadsOrTells self.old self.new result
+            (places_from self.old.pointer (D.object (map_view members.now))) }
     {
         if let Some(name) = first_unread(members) {
             return Err(self.told_at(name.as_text()));

@@ -9,14 +9,16 @@ use Rattle.position_laws.proofs.Joined.{renamed-itself, is_table-joined}
 use Rattle.position_laws.proofs.Tables.{is_table-length}
 use Rattle.js_normal.specs.Room.{has_room}
 
-every-room : (by n : ℕ) → by + n < 4294967296 → (qs : List ℕ) → every (λ q. nat_lt q n) qs ≡ true → every (has_room by) qs ≡ true
+every-room : (by n : ℕ) → by + n < 4294967296 → (qs : List ℕ) → every (λ q. nat_lt q n) qs ≡ true
+    → every (has_room by) qs ≡ true
 every-room by n room [] e = refl
 every-room by n room (q ∷ qs) e =
     let (a, b) = and_parts (nat_lt q n) (every (λ p. nat_lt p n) qs) e in
     and_from _ _ (lt-ltb (by + q) 4294967296 (let low = ltb-true q n a in omega arith)) (every-room by n room qs b)
 
 -- what a node of a table names can be moved up where the whole table can
-pub names_below-room : (by n : ℕ) (P : Position) → by + n < 4294967296 → names_below n P ≡ true → every (has_room by) (in_place P) ≡ true
+pub names_below-room : (by n : ℕ) (P : Position) → by + n < 4294967296 → names_below n P ≡ true
+    → every (has_room by) (in_place P) ≡ true
 names_below-room by n P room e = every-room by n room (in_place P) e
 
 pub take-position : (T : List Position) (i : ℕ) → i < length T → take (i + 1) T ≡ take i T ++ position_at T i ∷ []
@@ -33,9 +35,11 @@ pub take-moved : (T : List Position) (f : Position → Position) (i : ℕ) (made
 take-moved T f i made before P Q l q p e =
     ap₂ (λ xs x. xs ++ x ∷ []) e (p ∙ ap f q)
     ∙ append_assoc before (map f (take i T)) (f (position_at T i) ∷ [])
-    ∙ ap (λ xs. before ++ xs) (sym (map-append f (take i T) (position_at T i ∷ [])) ∙ ap (map f) (sym (take-position T i l)))
+    ∙ ap (λ xs. before ++ xs) (sym (map-append f (take i T) (position_at T i ∷ []))
+    ∙ ap (map f) (sym (take-position T i l)))
 
-pub take-ranks : (rs : List ℕ) (i r : ℕ) (made before : List ℕ) → i < length rs → r ≡ get_or rs i 0 → made ≡ before ++ take i rs
+pub take-ranks : (rs : List ℕ) (i r : ℕ) (made before : List ℕ) → i < length rs → r ≡ get_or rs i 0
+    → made ≡ before ++ take i rs
     → made ++ r ∷ [] ≡ before ++ take (i + 1) rs
 take-ranks rs i r made before l e h =
     ap₂ (λ xs x. xs ++ x ∷ []) h e
@@ -69,7 +73,8 @@ joined-built A B built first n l f e =
     e ∙ ap₂ (λ xs m. xs ++ map (moved m) B) (f ∙ map-itself A) l
 
 -- and their ranks are ranks of the joined table
-pub joined-table : (A B built : List Position) (ra rb ranks first : List ℕ) → built ≡ joined A B → first ≡ [] ++ ra → ranks ≡ first ++ rb
+pub joined-table : (A B built : List Position) (ra rb ranks first : List ℕ) → built ≡ joined A B → first ≡ [] ++ ra
+    → ranks ≡ first ++ rb
     → is_table A ra ≡ true → is_table B rb ≡ true → is_table built ranks ≡ true
 joined-table A B built ra rb ranks first e f g a b =
     ap₂ is_table e (g ∙ ap (λ rs. rs ++ rb) f) ∙ is_table-joined A B ra rb a b

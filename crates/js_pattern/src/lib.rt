@@ -1,8 +1,8 @@
 //! Patterns: a profile of ECMA-262's regular expressions, read into the tree that decides matching.
 //!
-//! `read_pattern` answers the tree of a text or its first fault, exactly by the grammar in `specs/Grammar.antt`, in time
-//! about the length of the text. `CharSet` is a set of characters with exact operations. The crates that make automata
-//! of patterns, and those that read and check schemas, stand on both.
+//! `read_pattern` answers the tree of a text or its first fault, exactly by the grammar in `specs/Grammar.antt`, in
+//! time about the length of the text. `CharSet` is a set of characters with exact operations. The crates that make
+//! automata of patterns, and those that read and check schemas, stand on both.
 #![tactic(auto)]
 
 mod char_set;

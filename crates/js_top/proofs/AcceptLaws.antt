@@ -33,12 +33,14 @@ IsAccepted-included a b certificate is = λ x y e f.
     (subst (λ v. Included is.first v) (one-read b is.second y is.is_second f)
     (IsGoodText-included is.first is.second certificate is.good))
 
-pub accepted-included : (a b certificate : List ℕ) (r : Bool) → OnTrue r (IsAccepted a b certificate) → OnTrue r (AreIncluded a b)
+pub accepted-included : (a b certificate : List ℕ) (r : Bool) → OnTrue r (IsAccepted a b certificate)
+    → OnTrue r (AreIncluded a b)
 accepted-included a b certificate true is = IsAccepted-included a b certificate is
 accepted-included a b certificate false is = tt
 
 -- the verdict on the lines that were read, over the joined table
-module _ (a b certificate : List ℕ) (x y : Json) (first second : Table) (is_x : IsTableOf first x) (is_y : IsTableOf second y)
+module _ (a b certificate : List ℕ) (x y : Json) (first second : Table) (is_x : IsTableOf first x)
+    (is_y : IsTableOf second y)
     (e : reading a ≡ Read x) (f : reading b ≡ Read y) (ls : List Line) (t : IsText certificate ls) where
   over_both : (T : List Position) (n : ℕ) → T ≡ joined first.positions second.positions → n ≡ length first.positions
       → is_good T 0 n ls ≡ is_good (joined (table_of x) (table_of y)) 0 (length (table_of x)) ls
@@ -72,8 +74,10 @@ module _ (a b certificate : List ℕ) (x y : Json) (first second : Table) (is_x 
       let lines = one-text certificate ls over.lines t over.is_text in
       let good : is_good (joined (table_of x) (table_of y)) 0 (length (table_of x)) ls ≡ true =
       ap (λ ks. is_good (joined (table_of x) (table_of y)) 0 (length (table_of x)) ks) lines
-      ∙ ap (λ u. is_good (joined (table_of u) (table_of y)) 0 (length (table_of u)) over.lines) (one-read a x is.first e is.is_first)
-      ∙ ap (λ v. is_good (joined (table_of is.first) (table_of v)) 0 (length (table_of is.first)) over.lines) (one-read b y is.second f is.is_second)
+      ∙ ap (λ u. is_good (joined (table_of u) (table_of y)) 0 (length (table_of u)) over.lines)
+      (one-read a x is.first e is.is_first)
+      ∙ ap (λ v. is_good (joined (table_of is.first) (table_of v)) 0 (length (table_of is.first)) over.lines)
+      (one-read b y is.second f is.is_second)
       ∙ over.good in
       let wrong : false ≡ true = h ∙ ap (λ k. is_good T k n ls) zero ∙ over_both T n same at ∙ good in
       cc

@@ -20,7 +20,8 @@ is_name-short (c ∷ []) l = refl
 is_name-short (c ∷ d ∷ cs) l = absurd (omega (arith, length-le-encodes (c ∷ d ∷ cs)))
 
 -- a longer word is one where its first byte isn't that of `-`
-pub is_name-long : (w : List ℕ) → 2 ≤ length (encode_utf8_all w) → not (nat_eq (get_or (encode_utf8_all w) 0 0) 45) ≡ is_name w
+pub is_name-long : (w : List ℕ) → 2 ≤ length (encode_utf8_all w)
+    → not (nat_eq (get_or (encode_utf8_all w) 0 0) 45) ≡ is_name w
 unfolding encode
 is_name-long [] l = absurd (omega arith)
 is_name-long (c ∷ []) l = go (nat_eq (get_or (encode_utf8_all (c ∷ [])) 0 0) 45) refl where
@@ -31,14 +32,17 @@ is_name-long (c ∷ []) l = go (nat_eq (get_or (encode_utf8_all (c ∷ [])) 0 0)
       let same = char_from_byte (encode_utf8_all (c ∷ [])) [] c refl (omega arith) (omega arith) in
       let one : length (encode_utf8_all (45 ∷ [])) ≡ 1 = refl in
       absurd (omega (arith, ap (λ d. length (encode_utf8_all (d ∷ []))) (same ∙ byte)))
-is_name-long (c ∷ d ∷ cs) l = ap not (go (nat_eq (get_or (encode_utf8_all (c ∷ d ∷ cs)) 0 0) 45) (nat_eq c 45) refl refl) where
-  go : (a b : Bool) → nat_eq (get_or (encode_utf8_all (c ∷ d ∷ cs)) 0 0) 45 ≡ a → nat_eq c 45 ≡ b
-      → nat_eq (get_or (encode_utf8_all (c ∷ d ∷ cs)) 0 0) 45 ≡ nat_eq c 45
-  go true b e f =
-      let byte = eqb-true (get_or (encode_utf8_all (c ∷ d ∷ cs)) 0 0) 45 e in
-      let same = char_from_byte (encode_utf8_all (c ∷ d ∷ cs)) (encode_utf8_all (d ∷ cs)) c refl (omega arith) (omega arith) in
-      ap (λ x. nat_eq x 45) (sym same)
-  go false true e f =
-      let at = eqb-true c 45 f in
-      ap (λ x. nat_eq x 45) (byte_from_char (encode_utf8_all (c ∷ d ∷ cs)) (encode_utf8_all (d ∷ cs)) c refl (omega arith))
-  go false false e f = e ∙ sym f
+is_name-long (c ∷ d ∷ cs) l = ap not (go (nat_eq (get_or (encode_utf8_all (c ∷ d ∷ cs)) 0 0) 45)
+    (nat_eq c 45) refl refl) where
+      go : (a b : Bool) → nat_eq (get_or (encode_utf8_all (c ∷ d ∷ cs)) 0 0) 45 ≡ a → nat_eq c 45 ≡ b
+          → nat_eq (get_or (encode_utf8_all (c ∷ d ∷ cs)) 0 0) 45 ≡ nat_eq c 45
+      go true b e f =
+          let byte = eqb-true (get_or (encode_utf8_all (c ∷ d ∷ cs)) 0 0) 45 e in
+          let same = char_from_byte (encode_utf8_all (c ∷ d ∷ cs)) (encode_utf8_all (d ∷ cs)) c refl (omega arith)
+          (omega arith) in
+          ap (λ x. nat_eq x 45) (sym same)
+      go false true e f =
+          let at = eqb-true c 45 f in
+          ap (λ x. nat_eq x 45) (byte_from_char (encode_utf8_all (c ∷ d ∷ cs)) (encode_utf8_all (d ∷ cs)) c refl
+          (omega arith))
+      go false false e f = e ∙ sym f

@@ -39,7 +39,8 @@ no_words = refl
 text_document : verdict_report (Document Text) ≡ record { text = codes "document\n\"\"\n"; status = S.Other }
 text_document = refl
 
-no_goals : verdict_report (Certificate (written [] None)) ≡ record { text = codes "certificate 1\ngoals 0\nend\n"; status = S.Done }
+no_goals : verdict_report (Certificate (written [] None)) ≡ record
+    { text = codes "certificate 1\ngoals 0\nend\n"; status = S.Done }
 unfolding digits
 no_goals = refl
 
@@ -47,7 +48,8 @@ refused_second : of_reading (codes "second") (Refused (codes "notjson")) (λ j. 
     ≡ record { text = codes "refused second notjson\n"; status = S.Refused }
 refused_second = refl
 
-missing_file : of_file (codes "first") None (λ j. printed [] S.Done) ≡ record { text = codes "readfault\n"; status = S.ReadFault }
+missing_file : of_file (codes "first") None (λ j. printed [] S.Done) ≡ record
+    { text = codes "readfault\n"; status = S.ReadFault }
 missing_file = refl
 
 -- the report of `include a b` over files `a` and `b` of these texts
@@ -56,7 +58,8 @@ answer a b = of_command files files (Some (codes "a", codes "b")) where
   files : List ℕ → Option (List ℕ)
   files name = cond (same_word name (codes "a")) (Some a) (cond (same_word name (codes "b")) (Some b) None)
 
-everything_in_nothing : answer (codes "{}") (codes "false") ≡ record { text = codes "document\nnull\n"; status = S.Other }
+everything_in_nothing : answer (codes "{}") (codes "false") ≡ record
+    { text = codes "document\nnull\n"; status = S.Other }
 unfolding answer json_on_texts places_from follow steps
 everything_in_nothing = refl
 

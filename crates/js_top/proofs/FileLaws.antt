@@ -1,8 +1,8 @@
 -- What a report on files says: of the two schemas where it is a verdict, and of the first refusal.
-use Rattle.std.proofs.Common.{◌≡◌, ◌⊎◌, inl, inr, ℕ, List, [], ◌∷◌, ◌++◌, length, Bool, true, false, cond, nat_lt, Option, Some, None, codes, encode_utf8_all, refl, ap, sym, ◌∙◌, subst}
+use Rattle.std.proofs.Common.{◌≡◌, ◌⊎◌, inl, inr, ℕ, List, [], ◌∷◌, ◌++◌, length, Bool, true, false, cond, nat_lt, Option, Some, None, codes, encode_utf8_all, refl, ap, sym, ◌∙◌, subst, ◌<◌, ◌≤◌, arith}
 use Rattle.documents.specs.Json.{Json}
 use Rattle.position_laws.specs.Join.{joined}
-use Rattle.js_outside.specs.Counts.{Rose}
+use Rattle.js_outside.specs.Counts.{Rose, Stays}
 use Rattle.js_outside.specs.Told.{Files}
 use Rattle.js_json.specs.Value.{value_of}
 use Rattle.js_report.specs.WholeFile.{longest_file}
@@ -12,13 +12,13 @@ use Rattle.js_decide.specs.Verdict.{Verdict, Document, Limit, Certificate, verdi
 use Rattle.js_top.specs.Command.{command}
 use Rattle.js_top.specs.Reading.{Reading, Refused, Read, of_fault, of_value, reading, IsSchema}
 use Rattle.js_top.specs.Report.{Report, printed, verdict_report, include_report, of_reading, of_file, of_command, AreFiles, IsReport}
-use Rattle.js_top.specs.Meaning.{AreSchemas, WhereTold, PassesLimit, IsRefusal, IsSecondRefusal, IsFirstRefusal}
+use Rattle.js_top.specs.Meaning.{AreSchemas, WhereTold, PassesLimit, Settles, IsRefusal, IsSecondRefusal, IsFirstRefusal}
 use Rattle.js_top.specs.Preparing.{report_of, PreparedSays}
 use Rattle.js_top.specs.declared.prepare.Prepared.{Prepared}
 use Rattle.js_top.specs.declared.prepare.Prepared.TheVariants.{Usage, Unread, Made}
 use Rattle.js_top.specs.declared.status.Status.{Status}
 use Rattle.js_top.specs.declared.status.Status.TheVariants as S
-use Rattle.js_top.proofs.MeaningLaws.{OfStatus, include_report-means, passes-report}
+use Rattle.js_top.proofs.MeaningLaws.{OfStatus, include_report-means, include_report-settles, passes-report}
 
 -- a schema that is read has no fault
 reading-faultless : (bytes : List ℕ) (j : Json) → reading bytes ≡ Read j → first_fault j ≡ None
@@ -31,7 +31,8 @@ reading-faultless bytes j e = of_length (nat_lt longest_file (length bytes)) e w
   of_bytes None e = cc
   of_bytes (Some x) e = of_json x (first_fault x) refl e
 
-  of_length : (b : Bool) → cond b (Refused (codes "toolong")) (of_value (value_of bytes)) ≡ Read j → first_fault j ≡ None
+  of_length : (b : Bool) → cond b (Refused (codes "toolong")) (of_value (value_of bytes)) ≡ Read j
+      → first_fault j ≡ None
   of_length true e = cc
   of_length false e = of_bytes (value_of bytes) e
 
@@ -58,8 +59,10 @@ report-read : (files later : Files) (words : List (List ℕ)) (first second : Li
     → of_command files later (command words) ≡ include_report a b
 report-read files later words first second a b c x y =
     ap (of_command files later) c
-    ∙ ap (λ o. of_file (codes "first") o (λ u. of_file (codes "second") (later (encode_utf8_all second)) (λ v. include_report u v))) x.told
-    ∙ ap (λ r. of_reading (codes "first") r (λ u. of_file (codes "second") (later (encode_utf8_all second)) (λ v. include_report u v))) x.read
+    ∙ ap (λ o. of_file (codes "first") o (λ u. of_file (codes "second") (later (encode_utf8_all second))
+    (λ v. include_report u v))) x.told
+    ∙ ap (λ r. of_reading (codes "first") r (λ u. of_file (codes "second") (later (encode_utf8_all second))
+    (λ v. include_report u v))) x.read
     ∙ ap (λ o. of_file (codes "second") o (λ v. include_report a v)) y.told
     ∙ ap (λ r. of_reading (codes "second") r (λ v. include_report a v)) y.read
 
@@ -70,7 +73,8 @@ record IsOfSchemas (told : Option Files) (words : List (List ℕ)) (r : Report) 
   are : AreSchemas told words first second
   report : include_report first second ≡ r
 
-module _ (told : Option Files) (words : List (List ℕ)) (r : Report) (files later : Files) (ok : AreFiles told files later)
+module _ (told : Option Files) (words : List (List ℕ)) (r : Report) (files later : Files)
+    (ok : AreFiles told files later)
     (a b : List ℕ) (named : command words ≡ Some (a, b)) (answers : is_verdict r.status ≡ true) where
   schemas-second : (x : Json) (o : Option (List ℕ)) → later (encode_utf8_all b) ≡ o → IsSchema files a x
       → of_file (codes "second") o (λ y. include_report x y) ≡ r → IsOfSchemas told words r
@@ -97,21 +101,25 @@ module _ (told : Option Files) (words : List (List ℕ)) (r : Report) (files lat
         }
 
   schemas-first : (o : Option (List ℕ)) → files (encode_utf8_all a) ≡ o
-      → of_file (codes "first") o (λ x. of_file (codes "second") (later (encode_utf8_all b)) (λ y. include_report x y)) ≡ r
+      → of_file (codes "first") o (λ x. of_file (codes "second") (later (encode_utf8_all b))
+      (λ y. include_report x y)) ≡ r
       → IsOfSchemas told words r
   schemas-first None t e = let wrong = ap (λ s. is_verdict s.status) e ∙ answers in cc
   schemas-first (Some bytes) t e = go (reading bytes) refl e where
     go : (o : Reading) → reading bytes ≡ o
-        → of_reading (codes "first") o (λ x. of_file (codes "second") (later (encode_utf8_all b)) (λ y. include_report x y)) ≡ r
+        → of_reading (codes "first") o (λ x. of_file (codes "second") (later (encode_utf8_all b))
+        (λ y. include_report x y)) ≡ r
         → IsOfSchemas told words r
     go (Refused ws) h e = let wrong = ap (λ s. is_verdict s.status) e ∙ answers in cc
     go (Read x) h e =
         schemas-second x (later (encode_utf8_all b)) refl (record { bytes = bytes; told = t; read = h }) e
 
-report-schemas : (told : Option Files) (words : List (List ℕ)) (r : Report) → IsReport told words r → is_verdict r.status ≡ true
+report-schemas : (told : Option Files) (words : List (List ℕ)) (r : Report) → IsReport told words r
+    → is_verdict r.status ≡ true
     → IsOfSchemas told words r
 report-schemas told words r is answers = go (command words) refl is.report where
-  go : (o : Option (List ℕ × List ℕ)) → command words ≡ o → of_command is.files is.later o ≡ r → IsOfSchemas told words r
+  go : (o : Option (List ℕ × List ℕ)) → command words ≡ o → of_command is.files is.later o ≡ r
+      → IsOfSchemas told words r
   go None h e = let wrong = ap (λ s. is_verdict s.status) e ∙ answers in cc
   go (Some (a, b)) h e =
       schemas-first told words r is.files is.later is.are_files a b h answers (is.files (encode_utf8_all a)) refl e
@@ -139,12 +147,15 @@ usage-report None words c =
 usage-report (Some files) words c =
     record { files = files; later = files; are_files = (refl, refl); report = ap (of_command files files) c }
 
-pub prepared-report : (told : Option Files) (words : List (List ℕ)) (before after : ℕ) (p : Prepared) (text : List ℕ) (status : Status)
-    → PreparedSays told words before after p → text ≡ (report_of p).text → (report_of p).status ≡ status → (status ≡ S.ReadFault → ⊥)
+pub prepared-report : (told : Option Files) (words : List (List ℕ)) (before after : ℕ) (p : Prepared) (text : List ℕ)
+    (status : Status)
+    → PreparedSays told words before after p → text ≡ (report_of p).text → (report_of p).status ≡ status
+    → (status ≡ S.ReadFault → ⊥)
     → IsReport told words (record { text = text; status = status })
 prepared-report told words before after Usage text status says t e n =
     subst (λ x. IsReport told words (record { text = x; status = status })) (sym t)
-    (subst (λ x. IsReport told words (record { text = codes "usage" ++ 10 ∷ []; status = x })) e (usage-report told words says.1))
+    (subst (λ x. IsReport told words (record { text = codes "usage" ++ 10 ∷ []; status = x })) e
+    (usage-report told words says.1))
 prepared-report told words before after Unread text status says t e n = absurd (n (sym e))
 prepared-report told words before after (Made bytes s) text status says t e n =
     subst (λ x. IsReport told words (record { text = x; status = status })) (sym t)
@@ -156,32 +167,54 @@ module _ (told : Option Files) (words : List (List ℕ)) (before after : ℕ) (p
       → (a : Json) × (b : Json) × AreSchemas told words a b × OfStatus a b status text
   prepared-means status e answers =
       means told words text status
-      (prepared-report told words before after p text status says t e (λ h. let wrong = sym answers ∙ ap is_verdict h in cc)) answers
+      (prepared-report told words before after p text status says t e
+      (λ h. let wrong = sym answers ∙ ap is_verdict h in cc)) answers
 
 -- the report that was begun to be written: that of a failed read, or that of files
-pub prepared-part : (told : Option Files) (words : List (List ℕ)) (before after : ℕ) (p : Prepared) → PreparedSays told words before after p
+pub prepared-part : (told : Option Files) (words : List (List ℕ)) (before after : ℕ) (p : Prepared)
+    → PreparedSays told words before after p
     → (Rose before after × (report_of p ≡ printed (codes "readfault") S.ReadFault))
     ⊎ ((after ≡ before) × IsReport told words (report_of p))
 prepared-part told words before after Usage says = inr (says.0, usage-report told words says.1)
 prepared-part told words before after Unread says = inl (says.0, refl)
 prepared-part told words before after (Made bytes s) says = inr (says.0, says.2)
 
+-- the report of two schemas settles their question
+
+told-report : (files : Files) (words : List (List ℕ)) (r : Report) → IsReport (Some files) words r
+    → (a b : Json) → AreSchemas (Some files) words a b → r ≡ include_report a b
+told-report files words r is a b s =
+    let first : is.files ≡ s.files = is.are_files.0 ∙ sym s.are_files.0 in
+    let second : is.later ≡ s.later = is.are_files.1 ∙ sym s.are_files.1 in
+    sym is.report
+    ∙ ap (λ f. of_command f is.later (command words)) first
+    ∙ ap (λ f. of_command s.files f (command words)) second
+    ∙ report-read s.files s.later words s.first s.second a b s.named s.is_first s.is_second
+
+pub prepared-settles : (told : Option Files) (words : List (List ℕ)) (before after : ℕ) (p : Prepared) (text : List ℕ)
+    → PreparedSays told words before after p → text ≡ (report_of p).text → Stays before after
+    → WhereTold told words (λ a b. Settles a b text)
+prepared-settles None words before after p text says t stays = tt
+prepared-settles (Some files) words before after Usage text says t stays = λ a b s.
+    let wrong = sym s.named ∙ says.1 in cc
+prepared-settles (Some files) words before after Unread text says t stays = λ a b s. absurd (omega (arith, says.0, stays))
+prepared-settles (Some files) words before after (Made bytes status) text says t stays = λ a b s.
+    include_report-settles a b text status (reading-faultless s.is_first.bytes a s.is_first.read)
+    (reading-faultless s.is_second.bytes b s.is_second.read)
+    (sym (told-report files words (record { text = bytes.items; status = status }) says.2 a b s)
+    ∙ ap (λ x. record { text = x; status = status }) (sym t))
+
 -- two schemas that pass the limit have its report
 
 report-limited : (files : Files) (words : List (List ℕ)) (r : Report) → IsReport (Some files) words r
     → WhereTold (Some files) words (λ a b. PassesLimit a b → r.status ≡ S.Limit)
 report-limited files words r is = λ a b s passes.
-    let first : is.files ≡ s.files = is.are_files.0 ∙ sym s.are_files.0 in
-    let second : is.later ≡ s.later = is.are_files.1 ∙ sym s.are_files.1 in
-    ap (λ x. x.status)
-    (sym is.report
-    ∙ ap (λ f. of_command f is.later (command words)) first
-    ∙ ap (λ f. of_command s.files f (command words)) second
-    ∙ report-read s.files s.later words s.first s.second a b s.named s.is_first s.is_second)
-    ∙ passes-report a b passes
+    ap (λ x. x.status) (told-report files words r is a b s) ∙ passes-report a b passes
 
-pub prepared-limited : (told : Option Files) (words : List (List ℕ)) (before after : ℕ) (p : Prepared) → PreparedSays told words before after p
-    → ((report_of p).status ≡ S.ReadFault → ⊥) → WhereTold told words (λ a b. PassesLimit a b → (report_of p).status ≡ S.Limit)
+pub prepared-limited : (told : Option Files) (words : List (List ℕ)) (before after : ℕ) (p : Prepared)
+    → PreparedSays told words before after p
+    → ((report_of p).status ≡ S.ReadFault → ⊥) → WhereTold told words
+    (λ a b. PassesLimit a b → (report_of p).status ≡ S.Limit)
 prepared-limited None words before after p says n = tt
 prepared-limited (Some files) words before after p says n =
     report-limited files words (report_of p)
@@ -200,7 +233,8 @@ refused-second later b text x (Some bytes) t e = go (reading bytes) refl e where
   go (Refused ws) h e = record { bytes = bytes; words = ws; told = t; refused = h; written = ap (λ r. r.text) e }
   go (Read y) h e =
       let wrong =
-      sym (unrefused (verdict (joined (table_of x) (table_of y)) 0 (length (table_of x)))) ∙ ap (λ r. is_refused r.status) e in
+      sym (unrefused (verdict (joined (table_of x) (table_of y)) 0 (length (table_of x))))
+      ∙ ap (λ r. is_refused r.status) e in
       cc
 
 refused-first : (files later : Files) (a b text : List ℕ) (o : Option (List ℕ)) → files (encode_utf8_all a) ≡ o
@@ -210,7 +244,8 @@ refused-first : (files later : Files) (a b text : List ℕ) (o : Option (List �
 refused-first files later a b text None t e = let wrong = ap (λ r. is_refused r.status) e in cc
 refused-first files later a b text (Some bytes) t e = go (reading bytes) refl e where
   go : (r : Reading) → reading bytes ≡ r
-      → of_reading (codes "first") r (λ x. of_file (codes "second") (later (encode_utf8_all b)) (λ y. include_report x y))
+      → of_reading (codes "first") r (λ x. of_file (codes "second") (later (encode_utf8_all b))
+      (λ y. include_report x y))
       ≡ record { text = text; status = S.Refused }
       → IsRefusal files (codes "first") a text ⊎ IsSecondRefusal files later a b text
   go (Refused ws) h e = inl (record { bytes = bytes; words = ws; told = t; refused = h; written = ap (λ r. r.text) e })
@@ -222,7 +257,8 @@ refused-first files later a b text (Some bytes) t e = go (reading bytes) refl e 
       })
 
 -- a report of the status of refusals is the first refusal
-pub means-refusal : (told : Option Files) (words : List (List ℕ)) (text : List ℕ) → IsReport told words (record { text = text; status = S.Refused })
+pub means-refusal : (told : Option Files) (words : List (List ℕ)) (text : List ℕ)
+    → IsReport told words (record { text = text; status = S.Refused })
     → IsFirstRefusal told words text
 means-refusal told words text is = go (command words) refl is.report where
   go : (o : Option (List ℕ × List ℕ)) → command words ≡ o

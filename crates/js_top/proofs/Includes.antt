@@ -28,8 +28,10 @@ is_answer-verdict (Limit g) = refl
 is_answer-verdict (Certificate ls) = refl
 
 -- a report that answers was made, and says what was to be said
-pub IncludeSays-answer : (told : Option Files) (a b : List ℕ) (before mid after : ℕ) (p : Prepared) (r : Report) → mid ≡ before → after ≡ mid
-    → report_of p ≡ r → is_answer r.status ≡ true → IsReportOf told (Some (a, b)) r → IncludeSays told a b before after p
+pub IncludeSays-answer : (told : Option Files) (a b : List ℕ) (before mid after : ℕ) (p : Prepared) (r : Report)
+    → mid ≡ before → after ≡ mid
+    → report_of p ≡ r → is_answer r.status ≡ true → IsReportOf told (Some (a, b)) r
+    → IncludeSays told a b before after p
 IncludeSays-answer told a b before mid after Usage r m n e i is = let wrong = ap (λ x. is_answer x.status) e ∙ i in cc
 IncludeSays-answer told a b before mid after Unread r m n e i is = let wrong = ap (λ x. is_answer x.status) e ∙ i in cc
 IncludeSays-answer told a b before mid after (Made bytes status) r m n e i is =
@@ -43,7 +45,8 @@ module _ (told : Option Files) (a b first second : List ℕ) (f : HasBytes told 
       → of_file (codes "first") (Some first) (λ x. of_file (codes "second") (Some second) (λ y. include_report x y)) ≡ r
       → IsReportOf told (Some (a, b)) r
   some_files r e = go told f g where
-    go : (t : Option Files) → HasBytes t (encode_utf8_all a) first → HasBytes t (encode_utf8_all b) second → IsReportOf t (Some (a, b)) r
+    go : (t : Option Files) → HasBytes t (encode_utf8_all a) first → HasBytes t (encode_utf8_all b) second
+        → IsReportOf t (Some (a, b)) r
     go None f g = record { files = λ n. Some first; later = λ n. Some second; are_files = tt; report = e }
     go (Some files) f g =
         record {
@@ -51,18 +54,22 @@ module _ (told : Option Files) (a b first second : List ℕ) (f : HasBytes told 
           later = files;
           are_files = (refl, refl);
           report =
-              ap₂ (λ o p. of_file (codes "first") o (λ x. of_file (codes "second") p (λ y. include_report x y))) f g ∙ e;
+              ap₂ (λ o p. of_file (codes "first") o (λ x. of_file (codes "second") p (λ y. include_report x y))) f g
+              ∙ e;
         }
 
   -- both are schemas that are read
-  pub IsReportOf-read : (x y : Json) (core other : Table) → IsTableOf core x → IsTableOf other y → reading first ≡ Read x
+  pub IsReportOf-read : (x y : Json) (core other : Table) → IsTableOf core x → IsTableOf other y
+      → reading first ≡ Read x
       → reading second ≡ Read y
-      → IsReportOf told (Some (a, b)) (verdict_report (verdict (joined core.positions other.positions) 0 (length core.positions)))
+      → IsReportOf told (Some (a, b)) (verdict_report
+      (verdict (joined core.positions other.positions) 0 (length core.positions)))
   IsReportOf-read x y core other is_x is_y r s =
       some_files _
       (ap (λ o. of_reading (codes "first") o (λ u. of_file (codes "second") (Some second) (λ v. include_report u v))) r
       ∙ ap (λ o. of_reading (codes "second") o (λ v. include_report x v)) s
-      ∙ ap₂ (λ (T U : List Position). verdict_report (verdict (joined T U) 0 (length T))) (sym is_x.positions) (sym is_y.positions))
+      ∙ ap₂ (λ (T U : List Position). verdict_report (verdict (joined T U) 0 (length T))) (sym is_x.positions)
+      (sym is_y.positions))
 
   -- the second is refused
   pub IsReportOf-second : (x : Json) (words : List ℕ) → reading first ≡ Read x → reading second ≡ Refused words
@@ -73,7 +80,8 @@ module _ (told : Option Files) (a b first second : List ℕ) (f : HasBytes told 
       ∙ ap (λ o. of_reading (codes "second") o (λ v. include_report x v)) s)
 
 -- the first is refused, and the second isn't looked at
-pub IsReportOf-first : (told : Option Files) (a b first words : List ℕ) → HasBytes told (encode_utf8_all a) first → reading first ≡ Refused words
+pub IsReportOf-first : (told : Option Files) (a b first words : List ℕ) → HasBytes told (encode_utf8_all a) first
+    → reading first ≡ Refused words
     → IsReportOf told (Some (a, b)) (printed (codes "refused " ++ codes "first" ++ 32 ∷ words) S.Refused)
 IsReportOf-first None a b first words f r =
     record {
@@ -88,8 +96,10 @@ IsReportOf-first (Some files) a b first words f r =
       later = files;
       are_files = (refl, refl);
       report =
-          ap (λ o. of_file (codes "first") o (λ u. of_file (codes "second") (files (encode_utf8_all b)) (λ v. include_report u v))) f
-          ∙ ap (λ o. of_reading (codes "first") o (λ u. of_file (codes "second") (files (encode_utf8_all b)) (λ v. include_report u v))) r;
+          ap (λ o. of_file (codes "first") o (λ u. of_file (codes "second") (files (encode_utf8_all b))
+          (λ v. include_report u v))) f
+          ∙ ap (λ o. of_reading (codes "first") o (λ u.
+          of_file (codes "second") (files (encode_utf8_all b)) (λ v. include_report u v))) r;
     }
 
 pub IfOk-weaker : {A E : Type 0} (r : Result A E) (P Q : A → Type 0) → IfOk r P → ((x : A) → P x → Q x) → IfOk r Q

@@ -1,5 +1,5 @@
 -- What the report of two schemas that are read means.
-use Rattle.std.proofs.Common.{◌≡◌, ℕ, ◌+◌, ◌<◌, ◌≤◌, List, [], ◌∷◌, ◌++◌, length, Bool, true, false, ◌||◌, cond, Option, Some, None, codes, pos, refl, ap, sym, ◌∙◌, subst, arith}
+use Rattle.std.proofs.Common.{◌≡◌, inl, inr, ℕ, ◌+◌, ◌<◌, ◌≤◌, List, [], ◌∷◌, ◌++◌, length, Bool, true, false, ◌||◌, cond, Option, Some, None, codes, pos, refl, ap, sym, ◌∙◌, subst, arith}
 use Rattle.documents.specs.Tests.{some}
 use Rattle.documents.specs.Kind.{Kind, Null, Boolean, Number, Text, Array, Object, all_kinds}
 use Rattle.documents.specs.Document as D
@@ -25,7 +25,7 @@ use Rattle.js_forms.specs.Places.{first_fault}
 use Rattle.js_decide.specs.Verdict.{Verdict, Document as OfKind, Limit, Certificate, is_over, is_open, of_kinds, of_goal, verdict}
 use Rattle.js_decide.proofs.VerdictLaws.{verdict-document, verdict-good, verdict-text, verdict-certificate}
 use Rattle.js_top.specs.Report.{line, sample_text, verdict_report, include_report}
-use Rattle.js_top.specs.Meaning.{json_of, IsCounterexample, IsCertificate, IsLimit, PassesLimit}
+use Rattle.js_top.specs.Meaning.{json_of, IsCounterexample, IsCertificate, IsLimit, PassesLimit, Settles}
 use Rattle.js_top.specs.declared.status.Status.{Status}
 use Rattle.js_top.specs.declared.status.Status.TheVariants as S
 
@@ -67,7 +67,8 @@ value_of-sample Object = refl
 first-none : (p : Kind → Bool) (ts : List Kind) → first p ts ≡ None → some p ts ≡ false
 first-none p [] e = refl
 first-none p (t ∷ ts) e = go (p t) refl e (first-none p ts) where
-  go : (b : Bool) → p t ≡ b → cond b (Some t) (first p ts) ≡ None → (first p ts ≡ None → some p ts ≡ false) → (p t || some p ts) ≡ false
+  go : (b : Bool) → p t ≡ b → cond b (Some t) (first p ts) ≡ None → (first p ts ≡ None → some p ts ≡ false)
+      → (p t || some p ts) ≡ false
   go true h e more = cc
   go false h e more = ap (λ b. b || some p ts) h ∙ more e
 
@@ -101,13 +102,15 @@ module _ (a b : Json) where
   pub valid-first : (J : Document) → valid a J ≡ holds (joined (table_of a) (table_of b)) 0 J
   valid-first J =
       valid-holds a J (IsTable-table_of a)
-      ∙ sym (holds-joined_left (table_of a) (table_of b) (ranks_of a) (ranks_of b) (is_table-table_of a) (is_table-table_of b) 0 J (filled a))
+      ∙ sym (holds-joined_left (table_of a) (table_of b) (ranks_of a) (ranks_of b) (is_table-table_of a)
+      (is_table-table_of b) 0 J (filled a))
 
   pub valid-second : (J : Document) → valid b J ≡ holds (joined (table_of a) (table_of b)) (length (table_of a)) J
   valid-second J =
       let same : length (table_of a) + 0 ≡ length (table_of a) = omega arith in
       valid-holds b J (IsTable-table_of b)
-      ∙ sym (holds-joined_right (table_of a) (table_of b) (ranks_of a) (ranks_of b) (is_table-table_of a) (is_table-table_of b) 0 J (filled b))
+      ∙ sym (holds-joined_right (table_of a) (table_of b) (ranks_of a) (ranks_of b) (is_table-table_of a)
+      (is_table-table_of b) 0 J (filled b))
       ∙ ap (λ p. holds (joined (table_of a) (table_of b)) p J) same
 
   in_first : 0 < length (joined (table_of a) (table_of b))
@@ -122,10 +125,12 @@ module _ (a b : Json) where
       omega (arith, length-joined (table_of a) (table_of b), length-table_of a sound_a, length-table_of b sound_b)
 
   -- a document's report
-  counterexample : (t : Kind) (text : List ℕ) → verdict (joined (table_of a) (table_of b)) 0 (length (table_of a)) ≡ OfKind t
+  counterexample : (t : Kind) (text : List ℕ) → verdict (joined (table_of a) (table_of b)) 0
+      (length (table_of a)) ≡ OfKind t
       → line (codes "document") ++ line (sample_text t) ≡ text → IsCounterexample a b text
   counterexample t text e is =
-      let (first, second) = verdict-document (joined (table_of a) (table_of b)) both_table 0 (length (table_of a)) t e (sample t) (kind_of-sample t) in
+      let (first, second) = verdict-document (joined (table_of a) (table_of b)) both_table 0 (length (table_of a)) t e
+      (sample t) (kind_of-sample t) in
       record {
         document = sample t;
         is = record { rest = line (sample_text t); line = sym is; value = value_of-sample t };
@@ -137,16 +142,19 @@ module _ (a b : Json) where
       }
 
   -- a certificate's report
-  certificate : (ls : List Line) (text : List ℕ) → verdict (joined (table_of a) (table_of b)) 0 (length (table_of a)) ≡ Certificate ls
+  certificate : (ls : List Line) (text : List ℕ) → verdict (joined (table_of a) (table_of b)) 0
+      (length (table_of a)) ≡ Certificate ls
       → first_fault a ≡ None → first_fault b ≡ None → lines_text ls ≡ text → IsCertificate a b text
   certificate ls text e sound_a sound_b is =
       let good = verdict-good both both_table 0 (length (table_of a)) ls in_first in_second e in
-      let in_grammar = verdict-text both both_table 0 (length (table_of a)) ls (few sound_a sound_b) in_first in_second e in
+      let in_grammar = verdict-text both both_table 0 (length (table_of a)) ls
+      (few sound_a sound_b) in_first in_second e in
       record {
         good = record { lines = ls; is_text = subst (λ t. IsText t ls) is in_grammar; good = good };
         included = λ J document h.
             valid-second J
-            ∙ verdict-certificate both both_table 0 (length (table_of a)) ls in_first in_second e J (sym (valid-first J) ∙ h);
+            ∙ verdict-certificate both both_table 0 (length (table_of a)) ls in_first in_second e J
+            (sym (valid-first J) ∙ h);
       }
 
   -- a limit's report
@@ -154,21 +162,24 @@ module _ (a b : Json) where
       → (form (joined (table_of a) (table_of b)) (Plus 0 ∷ Minus (length (table_of a)) ∷ []) ≡ Some g)
       × (some (is_over (joined (table_of a) (table_of b)) g) all_kinds ≡ true)
       × (some (is_open (joined (table_of a) (table_of b)) g) all_kinds ≡ false)
-  limit_parts g e = go (form (joined (table_of a) (table_of b)) (Plus 0 ∷ Minus (length (table_of a)) ∷ [])) refl e where
-    go : (o : Option (List Signed)) → form (joined (table_of a) (table_of b)) (Plus 0 ∷ Minus (length (table_of a)) ∷ []) ≡ o
-        → of_goal (joined (table_of a) (table_of b)) o ≡ Limit g
-        → (form (joined (table_of a) (table_of b)) (Plus 0 ∷ Minus (length (table_of a)) ∷ []) ≡ Some g)
-        × (some (is_over (joined (table_of a) (table_of b)) g) all_kinds ≡ true)
-        × (some (is_open (joined (table_of a) (table_of b)) g) all_kinds ≡ false)
-    go None f e = cc
-    go (Some h) f e =
-        let (same, over, none) = limit_goal (joined (table_of a) (table_of b)) h g e in (
-          f ∙ ap Some same,
-          subst (λ k. some (is_over (joined (table_of a) (table_of b)) k) all_kinds ≡ true) same over,
-          subst (λ k. some (is_open (joined (table_of a) (table_of b)) k) all_kinds ≡ false) same none,
-        )
+  limit_parts g e = go (form (joined (table_of a) (table_of b)) (Plus 0 ∷ Minus (length (table_of a)) ∷ [])) refl e
+    where
+      go : (o : Option (List Signed)) → form (joined (table_of a) (table_of b))
+          (Plus 0 ∷ Minus (length (table_of a)) ∷ []) ≡ o
+          → of_goal (joined (table_of a) (table_of b)) o ≡ Limit g
+          → (form (joined (table_of a) (table_of b)) (Plus 0 ∷ Minus (length (table_of a)) ∷ []) ≡ Some g)
+          × (some (is_over (joined (table_of a) (table_of b)) g) all_kinds ≡ true)
+          × (some (is_open (joined (table_of a) (table_of b)) g) all_kinds ≡ false)
+      go None f e = cc
+      go (Some h) f e =
+          let (same, over, none) = limit_goal (joined (table_of a) (table_of b)) h g e in (
+            f ∙ ap Some same,
+            subst (λ k. some (is_over (joined (table_of a) (table_of b)) k) all_kinds ≡ true) same over,
+            subst (λ k. some (is_open (joined (table_of a) (table_of b)) k) all_kinds ≡ false) same none,
+          )
 
-  limited : (g : List Signed) (text : List ℕ) → verdict (joined (table_of a) (table_of b)) 0 (length (table_of a)) ≡ Limit g
+  limited : (g : List Signed) (text : List ℕ) → verdict (joined (table_of a) (table_of b)) 0
+      (length (table_of a)) ≡ Limit g
       → line (codes "limit branches" ++ signed_list_text g) ≡ text → IsLimit a b text
   limited g text e is =
       let (formed, over, none) = limit_parts g e in
@@ -194,11 +205,22 @@ module _ (a b : Json) where
             (certificate ls text h sound_a sound_b (ap (λ r. r.text) e))
         go (Limit g) h e = subst (λ s. OfStatus s text) (ap (λ r. r.status) e) (limited g text h (ap (λ r. r.text) e))
 
+  pub include_report-settles : (text : List ℕ) (status : Status) → first_fault a ≡ None → first_fault b ≡ None
+      → include_report a b ≡ record { text = text; status = status } → Settles a b text
+  include_report-settles text status sound_a sound_b e =
+      go (verdict (joined (table_of a) (table_of b)) 0 (length (table_of a))) refl e where
+        go : (v : Verdict) → verdict (joined (table_of a) (table_of b)) 0 (length (table_of a)) ≡ v
+            → verdict_report v ≡ record { text = text; status = status } → Settles a b text
+        go (OfKind t) h e = inl (counterexample t text h (ap (λ r. r.text) e))
+        go (Certificate ls) h e = inr (inl (certificate ls text h sound_a sound_b (ap (λ r. r.text) e)))
+        go (Limit g) h e = inr (inr (limited g text h (ap (λ r. r.text) e)))
+
 -- where none passes a test there is no first
 first-absent : (p : Kind → Bool) (ts : List Kind) → some p ts ≡ false → first p ts ≡ None
 first-absent p [] e = refl
 first-absent p (t ∷ ts) e = go (p t) refl e (first-absent p ts) where
-  go : (b : Bool) → p t ≡ b → (b || some p ts) ≡ false → (some p ts ≡ false → first p ts ≡ None) → cond b (Some t) (first p ts) ≡ None
+  go : (b : Bool) → p t ≡ b → (b || some p ts) ≡ false → (some p ts ≡ false → first p ts ≡ None)
+      → cond b (Some t) (first p ts) ≡ None
   go true h e more = cc
   go false h e more = more e
 
@@ -208,4 +230,5 @@ passes-report a b x =
     ap (λ o. (verdict_report (of_goal (joined (table_of a) (table_of b)) o)).status) x.formed
     ∙ ap (λ o. (verdict_report (of_kinds (joined (table_of a) (table_of b)) x.goal o)).status)
     (first-absent (is_open (joined (table_of a) (table_of b)) x.goal) all_kinds x.none_open)
-    ∙ ap (λ c. (verdict_report (cond c (Limit x.goal) (Certificate (written (joined (table_of a) (table_of b)) (Some x.goal))))).status) x.over
+    ∙ ap (λ c. (verdict_report (cond c (Limit x.goal)
+    (Certificate (written (joined (table_of a) (table_of b)) (Some x.goal))))).status) x.over

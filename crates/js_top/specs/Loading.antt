@@ -19,14 +19,16 @@ pub record IsTableOf (core : Table) (j : Json) : Type 0 where
 
 -- what bytes were read as, where they are few enough
 abbrev pub reading_says : List ℕ → Loaded → Type 0
-reading_says bytes (L.Table core) = (length bytes ≤ longest_file) → (j : Json) × (reading bytes ≡ Read j) × IsTableOf core j
+reading_says bytes (L.Table core) = (length bytes ≤ longest_file) → (j : Json) × (reading bytes ≡ Read j)
+    × IsTableOf core j
 reading_says bytes (L.Refused words) = (length bytes ≤ longest_file) → reading bytes ≡ Refused (string_bytes words)
 reading_says bytes L.Unread = ⊥
 
 abbrev pub LoadSays : Option Files → List ℕ → ℕ → ℕ → Loaded → Type 0
 LoadSays told name before after (L.Table core) =
     (after ≡ before)
-    × ((j : Json) × IsTableOf core j × ((bytes : List ℕ) × HasBytes told (encode_utf8_all name) bytes × (reading bytes ≡ Read j)))
+    × ((j : Json) × IsTableOf core j × ((bytes : List ℕ) × HasBytes told (encode_utf8_all name) bytes
+    × (reading bytes ≡ Read j)))
 LoadSays told name before after (L.Refused words) =
     (after ≡ before)
     × ((bytes : List ℕ) × HasBytes told (encode_utf8_all name) bytes × (reading bytes ≡ Refused (string_bytes words)))

@@ -69,6 +69,10 @@ pub record IsLimit (a b : Json) (text : List ℕ) : Type 0 where
   pub over : some (is_over (joined (table_of a) (table_of b)) goal) all_kinds ≡ true
   pub none_open : some (is_open (joined (table_of a) (table_of b)) goal) all_kinds ≡ false
 
+-- what settles the question of two schemas: a document, a certificate, or the limit
+abbrev pub Settles : Json → Json → List ℕ → Type 0
+Settles a b text = IsCounterexample a b text ⊎ (IsCertificate a b text ⊎ IsLimit a b text)
+
 -- the words name two files, and both are schemas that are read, with these values
 pub record AreSchemas (told : Option Files) (words : List (List ℕ)) (a b : Json) : Type 0 where
   pub first : List ℕ
@@ -85,7 +89,8 @@ abbrev pub WhereTold : Option Files → List (List ℕ) → (Json → Json → T
 WhereTold None words P = Unit {0}
 WhereTold (Some files) words P = (a b : Json) → AreSchemas (Some files) words a b → P a b
 
--- the trees of two schemas pass the limit: they form a goal, some kind's tree of it has more ends than are looked at, and
+-- the trees of two schemas pass the limit: they form a goal, some kind's tree of it has more ends than are looked at,
+-- and
 -- no tree that is looked at has a branch
 pub record PassesLimit (a b : Json) : Type 0 where
   pub goal : List Signed

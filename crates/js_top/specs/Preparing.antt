@@ -26,11 +26,13 @@ abbrev pub PreparedSays : Option Files → List (List ℕ) → ℕ → ℕ → P
 PreparedSays told words before after P.Usage = (after ≡ before) × (command words ≡ None)
 PreparedSays told words before after P.Unread = Rose before after × IsSome (command words)
 PreparedSays told words before after (P.Made bytes status) =
-    (after ≡ before) × (is_answer status ≡ true) × IsReport told words (record { text = bytes.items; status = status }) × IsSome (command words)
+    (after ≡ before) × (is_answer status ≡ true) × IsReport told words (record { text = bytes.items; status = status })
+    × IsSome (command words)
 
 -- the same of `include` with two names
 abbrev pub IncludeSays : Option Files → List ℕ → List ℕ → ℕ → ℕ → Prepared → Type 0
 IncludeSays told a b before after P.Usage = ⊥
 IncludeSays told a b before after P.Unread = Rose before after
 IncludeSays told a b before after (P.Made bytes status) =
-    (after ≡ before) × (is_answer status ≡ true) × IsReportOf told (Some (a, b)) (record { text = bytes.items; status = status })
+    (after ≡ before) × (is_answer status ≡ true) × IsReportOf told (Some (a, b))
+    (record { text = bytes.items; status = status })

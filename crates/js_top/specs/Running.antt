@@ -6,7 +6,7 @@ use Rattle.js_outside.specs.Counts.{Rose}
 use Rattle.js_outside.specs.Told.{Files}
 use Rattle.js_report.specs.Written.{AppendsPrefix}
 use Rattle.js_top.specs.Report.{Report, printed, IsReport}
-use Rattle.js_top.specs.Meaning.{AreSchemas, IsFirstRefusal}
+use Rattle.js_top.specs.Meaning.{AreSchemas, WhereTold, Settles, IsFirstRefusal}
 use Rattle.js_top.specs.declared.status.Status.{Status}
 use Rattle.js_top.specs.declared.status.Status.TheVariants.{ReadFault}
 
@@ -21,8 +21,13 @@ abbrev pub WritesReport : Option Files → List (List ℕ) → Option (List ℕ)
 WritesReport told words old new status =
     (text : List ℕ) × Appends old new text × IsReport told words (record { text = text; status = status })
 
+-- for every two schemas that the words name and that are read, a text that settles their question
+abbrev pub WritesAnswer : Option Files → List (List ℕ) → Option (List ℕ) → Option (List ℕ) → Type 0
+WritesAnswer told words old new = (text : List ℕ) × Appends old new text × WhereTold told words (λ a b. Settles a b text)
+
 -- a text of which a fact holds for the two schemas that the words name, which are both read
-abbrev pub WritesMeaning : Option Files → List (List ℕ) → Option (List ℕ) → Option (List ℕ) → (Json → Json → List ℕ → Type 0) → Type 0
+abbrev pub WritesMeaning : Option Files → List (List ℕ) → Option (List ℕ) → Option (List ℕ)
+    → (Json → Json → List ℕ → Type 0) → Type 0
 WritesMeaning told words old new P =
     (text : List ℕ) × Appends old new text × ((a : Json) × (b : Json) × AreSchemas told words a b × P a b text)
 

@@ -18,8 +18,8 @@ use std::alloc::Global;
 /// Whether `certificate` is one that every document valid for the schema `a` is valid for the schema `b`.
 ///
 /// All three are the bytes of files. The answer is `true` exactly where both schemas are read, and not refused, and the
-/// certificate is in the grammar and its lines are good for the two. The cost is that of reading the files and, for each
-/// line of the certificate, of going through the set that it speaks of.
+/// certificate is in the grammar and its lines are good for the two. The cost is that of reading the files and, for
+/// each line of the certificate, of going through the set that it speaks of.
 pub fn accepted(alloc: Global, a: &[u8], b: &[u8], certificate: &[u8]) -> Result<bool, Memory>
     ensures accepted { IfOk result (λ r. OnTrue r (IsAccepted a.now b.now certificate.now)) }
     ensures rejected { IfOk result (λ r. OnFalse r (IsAccepted a.now b.now certificate.now → ⊥)) }

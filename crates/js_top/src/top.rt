@@ -5,7 +5,7 @@ ghost use Rattle.std.specs.Io.KnownBytes.{Appends};
 ghost use Rattle.js_outside.specs.Counts.{Rose, Stays};
 ghost use Rattle.js_top.specs.Command.{command};
 ghost use Rattle.js_top.specs.Report.{line};
-ghost use Rattle.js_top.specs.Running.{WritesPart, WritesReport, WritesMeaning, WritesRefusal};
+ghost use Rattle.js_top.specs.Running.{WritesPart, WritesReport, WritesMeaning, WritesRefusal, WritesAnswer};
 ghost use Rattle.js_top.specs.Meaning.{IsCounterexample, IsCertificate, IsLimit, PassesLimit, WhereTold};
 
 use crate::prepare::prepare;
@@ -18,8 +18,8 @@ use std::alloc::Global;
 /// Does all that the program does: takes the words, reads the files that they name, decides, and writes the report.
 ///
 /// Nothing is written until the report is complete. `rt` is the runtime, of which nothing is used so far: all work is
-/// done on the caller's thread. Where the shelf tells its files, the report is that of its files; where it tells none, that
-/// of some files, as they were when they were read.
+/// done on the caller's thread. Where the shelf tells its files, the report is that of its files; where it tells none,
+/// that of some files, as they were when they were read.
 pub fn run<R, H: Shelf, K: Sink>(
     rt: &R,
     alloc: Global,
@@ -27,6 +27,12 @@ pub fn run<R, H: Shelf, K: Sink>(
     shelf: &mut H,
     sink: &mut K,
 ) -> Status
+    // The headline: where no fault is counted and memory suffices, two schemas that are read get a document that the
+    // first accepts and the second doesn't, a certificate that `accepted` accepts, or the limit, exactly by its count.
+    ensures headline { Stays (H.faults shelf.old) (H.faults shelf.new) → Stays (K.faults sink.old) (K.faults sink.new)
+        → result ≢ Status.Memory
+        → WritesAnswer (H.told shelf.old) words.now (K.written sink.old) (K.written sink.new) }
+
     // A status tells of a fault only where its count rose, and of other words only for them.
     ensures read_fault { result ≡ Status.ReadFault → Rose (H.faults shelf.old) (H.faults shelf.new) }
     ensures write_fault { result ≡ Status.WriteFault → Rose (K.faults sink.old) (K.faults sink.new) }
@@ -42,7 +48,8 @@ pub fn run<R, H: Shelf, K: Sink>(
         → result ≡ Status.ReadFault }
 
     // What was written then.
-    ensures read_text { result ≡ Status.ReadFault → Appends (K.written sink.old) (K.written sink.new) (line (codes "readfault")) }
+    ensures read_text { result ≡ Status.ReadFault → Appends (K.written sink.old) (K.written sink.new)
+        (line (codes "readfault")) }
     ensures write_text { result ≡ Status.WriteFault
         → WritesPart (H.told shelf.old) words.now (H.faults shelf.old) (H.faults shelf.new) (K.written sink.old) (K.written sink.new) }
     ensures memory_text { result ≡ Status.Memory → K.written sink.new ≡ K.written sink.old }

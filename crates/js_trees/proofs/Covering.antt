@@ -27,7 +27,8 @@ or_comm false true = refl
 or_comm false false = refl
 
 pub has-append : (z x : G.Signed) (xs : List G.Signed) → has z (xs ++ x ∷ []) ≡ (same_signed z x || has z xs)
-has-append z x xs = some-append (same_signed z) xs (x ∷ []) ∙ ap (λ b. has z xs || b) (or_none (same_signed z x)) ∙ or_comm (has z xs) (same_signed z x)
+has-append z x xs = some-append (same_signed z) xs (x ∷ []) ∙ ap (λ b. has z xs || b) (or_none (same_signed z x))
+    ∙ or_comm (has z xs) (same_signed z x)
 
 pub has-with_member : (z x : G.Signed) (xs : List G.Signed) → has z (with_member x xs) ≡ (same_signed z x || has z xs)
 has-with_member z x xs = go (has x xs) refl where
@@ -41,7 +42,8 @@ has-with_member z x xs = go (has x xs) refl where
 pub has-with_members : (z : G.Signed) (C xs : List G.Signed) → has z (with_members C xs) ≡ (has z C || has z xs)
 has-with_members z [] xs = refl
 has-with_members z (x ∷ C) xs =
-    has-with_members z C (with_member x xs) ∙ ap (λ b. has z C || b) (has-with_member z x xs) ∙ turn (has z C) (same_signed z x) (has z xs)
+    has-with_members z C (with_member x xs) ∙ ap (λ b. has z C || b) (has-with_member z x xs)
+    ∙ turn (has z C) (same_signed z x) (has z xs)
   where
     turn : (a b c : Bool) → (a || (b || c)) ≡ ((b || a) || c)
     turn true true c = refl
@@ -52,8 +54,10 @@ has-with_members z (x ∷ C) xs =
 -- the set of more members
 pub set-with_members : (C xs : List G.Signed) → set_of (with_members C xs) ≡ add_all C (set_of xs)
 set-with_members C xs =
-    rising-unique _ _ (rising-add_all (with_members C xs) [] refl) (rising-add_all C (set_of xs) (rising-add_all xs [] refl)) (λ z.
-    has-set z (with_members C xs) ∙ has-with_members z C xs ∙ ap (λ b. has z C || b) (sym (has-set z xs)) ∙ sym (some-add_all (same_signed z) C (set_of xs)))
+    rising-unique _ _ (rising-add_all (with_members C xs) [] refl)
+    (rising-add_all C (set_of xs) (rising-add_all xs [] refl)) (λ z.
+    has-set z (with_members C xs) ∙ has-with_members z C xs ∙ ap (λ b. has z C || b) (sym (has-set z xs))
+    ∙ sym (some-add_all (same_signed z) C (set_of xs)))
   where
     has-set : (z : G.Signed) (ys : List G.Signed) → has z (set_of ys) ≡ has z ys
     has-set z ys = some-add_all (same_signed z) ys [] ∙ or_none (has z ys)
@@ -102,15 +106,19 @@ covers-add x xs ws ys h z m =
     (or_cases (has z ws) (has z ys) (h z i)))
     (or_cases (same_signed z x) (has z xs) (sym (has-with_member z x xs) ∙ m))
 
-pub covers-back : (s : Signed) (ss : List Signed) (xs ws : List G.Signed) → Covers xs ws (map signed_view (ss ++ s ∷ []))
+pub covers-back : (s : Signed) (ss : List Signed) (xs ws : List G.Signed)
+    → Covers xs ws (map signed_view (ss ++ s ∷ []))
     → Covers xs (add (signed_view s) ws) (map signed_view ss)
 covers-back s ss xs ws h z m =
     ⊎_elim
-    (λ w. or_left _ _ (some-add (same_signed z) (signed_view s) ws ∙ or_right (same_signed z (signed_view s)) (has z ws) w))
+    (λ w. or_left _ _ (some-add (same_signed z) (signed_view s) ws
+    ∙ or_right (same_signed z (signed_view s)) (has z ws) w))
     (λ y. ⊎_elim
-    (λ e. or_left _ _ (some-add (same_signed z) (signed_view s) ws ∙ or_left (same_signed z (signed_view s)) (has z ws) e))
+    (λ e. or_left _ _ (some-add (same_signed z) (signed_view s) ws
+    ∙ or_left (same_signed z (signed_view s)) (has z ws) e))
     (λ i. or_right (has z (add (signed_view s) ws)) _ i)
-    (or_cases (same_signed z (signed_view s)) (has z (map signed_view ss)) (sym (has-append z (signed_view s) (map signed_view ss)) ∙ ap (has z) (sym (map-append ss)) ∙ y)))
+    (or_cases (same_signed z (signed_view s)) (has z (map signed_view ss))
+    (sym (has-append z (signed_view s) (map signed_view ss)) ∙ ap (has z) (sym (map-append ss)) ∙ y)))
     (or_cases (has z ws) (has z (map signed_view (ss ++ s ∷ []))) (h z m))
   where
     map-append : (ts : List Signed) → map signed_view (ts ++ s ∷ []) ≡ map signed_view ts ++ signed_view s ∷ []
@@ -121,13 +129,15 @@ pub has-take : (k : ℕ) (xs : List G.Signed) (z : G.Signed) → has z (take k x
 has-take zero xs z h = absurd (true≢false (sym h))
 has-take (suc k) [] z h = h
 has-take (suc k) (x ∷ xs) z h =
-    ⊎_elim (λ s. or_left _ (has z xs) s) (λ i. or_right (same_signed z x) (has z xs) (has-take k xs z i)) (or_cases (same_signed z x) (has z (take k xs)) h)
+    ⊎_elim (λ s. or_left _ (has z xs) s) (λ i. or_right (same_signed z x) (has z xs) (has-take k xs z i))
+    (or_cases (same_signed z x) (has z (take k xs)) h)
 
 pub covers-take : (k : ℕ) (xs ws ys : List G.Signed) → Covers xs ws ys → Covers (take k xs) ws ys
 covers-take k xs ws ys h z m = h z (has-take k xs z m)
 
 -- positions below a length have room for both signs
-pub in_room : (n : ℕ) (b : Bool) (ps : List ℕ) → every (λ q. nat_lt q n) ps ≡ true → every (λ x. nat_lt (order_of x) (2 * n)) (map (with_sign b) ps) ≡ true
+pub in_room : (n : ℕ) (b : Bool) (ps : List ℕ) → every (λ q. nat_lt q n) ps ≡ true
+    → every (λ x. nat_lt (order_of x) (2 * n)) (map (with_sign b) ps) ≡ true
 in_room n b [] e = refl
 in_room n b (p ∷ ps) e =
     let (a, r) = and_parts (nat_lt p n) (every (λ q. nat_lt q n) ps) e in
@@ -137,7 +147,8 @@ in_room n b (p ∷ ps) e =
     go true l = omega (arith, l)
     go false l = omega (arith, l)
 
-pub signs_in_table : (n : ℕ) (b : Bool) (ps : List ℕ) → every (λ q. nat_lt q n) ps ≡ true → every (λ x. nat_lt (G.position_of x) n) (map (with_sign b) ps) ≡ true
+pub signs_in_table : (n : ℕ) (b : Bool) (ps : List ℕ) → every (λ q. nat_lt q n) ps ≡ true
+    → every (λ x. nat_lt (G.position_of x) n) (map (with_sign b) ps) ≡ true
 signs_in_table n b [] e = refl
 signs_in_table n b (p ∷ ps) e =
     let (a, r) = and_parts (nat_lt p n) (every (λ q. nat_lt q n) ps) e in
@@ -148,14 +159,16 @@ signs_in_table n b (p ∷ ps) e =
     go false l = l
 
 -- the choices of a rule, one by one
-pub choice_together : (C : List G.Signed) (o : Option (List (List G.Signed))) (i : ℕ) → Some (C ∷ []) ≡ o → i < length (choice_list o)
+pub choice_together : (C : List G.Signed) (o : Option (List (List G.Signed))) (i : ℕ) → Some (C ∷ []) ≡ o
+    → i < length (choice_list o)
     → get_or (choice_list o) i [] ≡ C
 choice_together C o i e l = subst (λ p. i < length (choice_list p) → get_or (choice_list p) i [] ≡ C) e (only i) l where
   only : (i : ℕ) → i < 1 → get_or (C ∷ []) i [] ≡ C
   only zero l = refl
   only (suc i) l = absurd (omega (arith, l))
 
-each_at : (b : Bool) (ps : List Pos) (i : ℕ) (d : Pos) → i < length ps → get_or (map (λ q. with_sign b q ∷ []) (places ps)) i [] ≡ with_sign b (get_or ps i d).0 ∷ []
+each_at : (b : Bool) (ps : List Pos) (i : ℕ) (d : Pos) → i < length ps
+    → get_or (map (λ q. with_sign b q ∷ []) (places ps)) i [] ≡ with_sign b (get_or ps i d).0 ∷ []
 each_at b [] i d l = absurd (omega (arith, l))
 each_at b (p ∷ ps) zero d l = refl
 each_at b (p ∷ ps) (suc i) d l = each_at b ps i d (omega (arith, l))
@@ -164,18 +177,22 @@ length_each : (b : Bool) (ps : List Pos) → length (map (λ q. with_sign b q �
 length_each b [] = refl
 length_each b (p ∷ ps) = ap suc (length_each b ps)
 
-pub choice_apart : (b : Bool) (ps : List Pos) (o : Option (List (List G.Signed))) (i : ℕ) (d : Pos) → Some (map (λ q. with_sign b q ∷ []) (places ps)) ≡ o
+pub choice_apart : (b : Bool) (ps : List Pos) (o : Option (List (List G.Signed))) (i : ℕ) (d : Pos)
+    → Some (map (λ q. with_sign b q ∷ []) (places ps)) ≡ o
     → i < length (choice_list o) → get_or (choice_list o) i [] ≡ with_sign b (get_or ps i d).0 ∷ []
 choice_apart b ps o i d e l =
     subst (λ p. i < length (choice_list p) → get_or (choice_list p) i [] ≡ with_sign b (get_or ps i d).0 ∷ []) e
     (λ m. each_at b ps i d (omega (arith, m, length_each b ps))) l
 
-pub length_apart : (b : Bool) (ps : List Pos) (o : Option (List (List G.Signed))) → Some (map (λ q. with_sign b q ∷ []) (places ps)) ≡ o
+pub length_apart : (b : Bool) (ps : List Pos) (o : Option (List (List G.Signed)))
+    → Some (map (λ q. with_sign b q ∷ []) (places ps)) ≡ o
     → length (choice_list o) ≡ length ps
 length_apart b ps o e = subst (λ p. length (choice_list p) ≡ length ps) e (length_each b ps)
 
 -- a position at a place of those in a table
-pub below_at : (n : ℕ) (ps : List Pos) (i : ℕ) (d : Pos) → i < length ps → every (λ q. nat_lt q n) (places ps) ≡ true → nat_lt (get_or ps i d).0 n ≡ true
+pub below_at : (n : ℕ) (ps : List Pos) (i : ℕ) (d : Pos) → i < length ps → every (λ q. nat_lt q n) (places ps) ≡ true
+    → nat_lt (get_or ps i d).0 n ≡ true
 below_at n [] i d l e = absurd (omega (arith, l))
 below_at n (p ∷ ps) zero d l e = (and_parts (nat_lt p.0 n) (every (λ q. nat_lt q n) (places ps)) e).0
-below_at n (p ∷ ps) (suc i) d l e = below_at n ps i d (omega (arith, l)) (and_parts (nat_lt p.0 n) (every (λ q. nat_lt q n) (places ps)) e).1
+below_at n (p ∷ ps) (suc i) d l e = below_at n ps i d (omega (arith, l))
+    (and_parts (nat_lt p.0 n) (every (λ q. nat_lt q n) (places ps)) e).1

@@ -16,29 +16,34 @@ use Rattle.js_algebra.proofs.Orders.{same_eq, same-itself}
 use Rattle.js_algebra.proofs.Sets.{has_after}
 use Rattle.js_trees.specs.Walks.{Covers, are_settled, are_settled_but, IsLeast}
 
-pub member_in_table : (P : List Position) (xs : List G.Signed) (x : G.Signed) → are_in_table P xs ≡ true → has x xs ≡ true → is_in_table P x ≡ true
+pub member_in_table : (P : List Position) (xs : List G.Signed) (x : G.Signed) → are_in_table P xs ≡ true
+    → has x xs ≡ true → is_in_table P x ≡ true
 member_in_table P xs x e h = every-has (is_in_table P) xs x e h
 
 map-append : (ys : List Signed) (x : Signed) → map signed_view (ys ++ x ∷ []) ≡ map signed_view ys ++ signed_view x ∷ []
 map-append [] x = refl
 map-append (y ∷ ys) x = ap (λ zs. signed_view y ∷ zs) (map-append ys x)
 
-module _ (P : List Position) (t : Kind) (xs ws : List G.Signed) (ys : List Signed) (covers : Covers xs ws (map signed_view ys))
+module _ (P : List Position) (t : Kind) (xs ws : List G.Signed) (ys : List Signed)
+    (covers : Covers xs ws (map signed_view ys))
     (settled : are_settled P t xs (map signed_view ys) ≡ true) where
   abbrev lacks_choice : G.Signed → Bool
   lacks_choice y = not (has_choice xs (choices P t y))
 
   settled_chooses : (y : G.Signed) → has y (map signed_view ys) ≡ true → lacks_choice y ≡ false
-  settled_chooses y h = not_from_true _ (every-has (λ z. has_choice xs (choices P t z)) (map signed_view ys) y settled h)
+  settled_chooses y h = not_from_true _ (every-has (λ z. has_choice xs (choices P t z))
+      (map signed_view ys) y settled h)
 
-  pub found_least : (x : Signed) (vs : List G.Signed) → ws ≡ signed_view x ∷ vs → every (comes_before (signed_view x)) vs ≡ true
+  pub found_least : (x : Signed) (vs : List G.Signed) → ws ≡ signed_view x ∷ vs
+      → every (comes_before (signed_view x)) vs ≡ true
       → true ≡ (has (signed_view x) xs && lacks_choice (signed_view x)) → IsLeast lacks_choice xs (Some (signed_view x))
   found_least x vs e up b =
       let (m, l) = and_parts (has (signed_view x) xs) (lacks_choice (signed_view x)) (sym b) in (
         m,
         l,
         λ y i k. ⊎_elim
-            (λ w. ⊎_elim (λ s. omega (arith, same_eq y (signed_view x) s)) (λ j. omega (arith, has_after y (signed_view x) vs up j))
+            (λ w. ⊎_elim (λ s. omega (arith, same_eq y (signed_view x) s))
+            (λ j. omega (arith, has_after y (signed_view x) vs up j))
             (or_cases (same_signed y (signed_view x)) (has y vs) (subst (λ us. has y us ≡ true) e w)))
             (λ h. absurd (true≢false (sym k ∙ settled_chooses y h)))
             (or_cases (has y ws) (has y (map signed_view ys)) (covers y i)),
@@ -50,12 +55,14 @@ module _ (P : List Position) (t : Kind) (xs ws : List G.Signed) (ys : List Signe
       (or_cases (has y ws) (has y (map signed_view ys)) (covers y i))
 
   pub noted : (x : Signed) (zs : List Signed) → zs ≡ cond (has (signed_view x) xs) (ys ++ x ∷ []) ys
-      → true ≡ (has (signed_view x) xs && lacks_choice (signed_view x)) → are_settled_but P t xs (signed_view x) (map signed_view zs) ≡ true
+      → true ≡ (has (signed_view x) xs && lacks_choice (signed_view x))
+      → are_settled_but P t xs (signed_view x) (map signed_view zs) ≡ true
   noted x zs e b =
       let m = (and_parts (has (signed_view x) xs) (lacks_choice (signed_view x)) (sym b)).0 in
       let f : zs ≡ ys ++ x ∷ [] = e ∙ ap (λ s. cond s (ys ++ x ∷ []) ys) m in
       subst (λ us. are_settled_but P t xs (signed_view x) us ≡ true) (sym (ap (map signed_view) f ∙ map-append ys x))
-      (every-append (λ y. has_choice xs (choices P t y) || same_signed y (signed_view x)) (map signed_view ys) (signed_view x ∷ [])
+      (every-append (λ y. has_choice xs (choices P t y) || same_signed y (signed_view x)) (map signed_view ys)
+      (signed_view x ∷ [])
       ∙ and_from _ _ (weaker (map signed_view ys) settled)
       (and_from _ _ (or_right (has_choice xs (choices P t (signed_view x))) _ (same-itself (signed_view x))) refl))
     where

@@ -31,7 +31,8 @@ has_branch (T.Saturated S ∷ ss) = true
 
 -- what is told in the end, where the steps are still to come
 abbrev pub so_far : ℕ → Bool → List L.Line → List T.Step → Outcome
-so_far n o ls ss = cond (nat_lt most_ends (n + ends ss)) Over (cond (o || has_branch ss) Open (Closed (ls ++ map line_of ss)))
+so_far n o ls ss = cond (nat_lt most_ends (n + ends ss)) Over
+    (cond (o || has_branch ss) Open (Closed (ls ++ map line_of ss)))
 
 abbrev pub found_then : Found → List T.Step → Outcome
 found_then f ss = so_far f.ends f.has_open (map line_view f.lines.items) ss
@@ -94,7 +95,8 @@ pub record IsFine (P : List Position) (t : Kind) (xs : List G.Signed) (ys : List
   pub rule_in_table : is_in_table P (signed_view e.rule) ≡ true
   pub index_in : e.index < length (choice_list (choices P t (signed_view e.rule)))
   pub clean : is_clean P t (take e.members xs) ≡ true
-  pub settles : are_settled P t (with_members (choice_of P t e) (take e.members xs)) (map signed_view (take e.settled ys)) ≡ true
+  pub settles : are_settled P t (with_members (choice_of P t e) (take e.members xs))
+      (map signed_view (take e.settled ys)) ≡ true
 
 abbrev pub AreFine : List Position → Kind → List G.Signed → List Signed → List Pending → Type 0
 AreFine P t xs ys [] = ⊤
@@ -108,7 +110,8 @@ pub record Stands (P : List Position) (t : Kind) (w : Walk) (es : List Pending) 
   pub fine : AreFine P t w.trail.members w.settled.items (reverse es)
 
 -- a visit of the set at hand tells its step and leaves the sets of its choices
-pub record Visits (P : List Position) (t : Kind) (xs : List G.Signed) (es es' : List Pending) (f f' : Found) : Type 0 where
+pub record Visits (P : List Position) (t : Kind) (xs : List G.Signed) (es es' : List Pending)
+    (f f' : Found) : Type 0 where
   pub tells : found_then f' (steps_left P t xs es') ≡ found_then f (steps P t (set_of xs) ++ steps_left P t xs es)
   pub fewer : suc (length (steps_left P t xs es')) ≡ length (steps P t (set_of xs) ++ steps_left P t xs es)
   pub few : f'.ends + length es' ≤ most_ends

@@ -52,7 +52,8 @@ step_view P t S V.Saturated = T.Saturated S
 -- the least of a list that passes a test
 abbrev pub IsLeast : (Signed → Bool) → List Signed → Option Signed → Type 0
 IsLeast p xs None = (y : Signed) → has y xs ≡ true → p y ≡ false
-IsLeast p xs (Some x) = (has x xs ≡ true) × (p x ≡ true) × ((y : Signed) → has y xs ≡ true → p y ≡ true → order_of x ≤ order_of y)
+IsLeast p xs (Some x) = (has x xs ≡ true) × (p x ≡ true)
+    × ((y : Signed) → has y xs ≡ true → p y ≡ true → order_of x ≤ order_of y)
 
 -- all that was noted is settled, but for one without a choice yet
 abbrev pub SettlesAfter : List Position → Kind → List Signed → List Signed → Option Signed → Type 0
@@ -62,7 +63,8 @@ SettlesAfter P t S ys (Some x) = are_settled_but P t S x ys ≡ true
 -- what is known after a rule: the set is clean, and all that was noted is settled but for the rule itself
 abbrev pub Follows : List Position → Kind → List Signed → List Signed → Step → Type 0
 Follows P t S ys (V.Rule x n) =
-    (are_settled_but P t S (signed_view x) ys ≡ true) × (n ≡ length (choice_list (choices P t (signed_view x)))) × (has (signed_view x) S ≡ true)
+    (are_settled_but P t S (signed_view x) ys ≡ true) × (n ≡ length (choice_list (choices P t (signed_view x))))
+    × (has (signed_view x) S ≡ true)
     × (is_clean P t S ≡ true)
 Follows P t S ys (V.Clash x) = ⊤
 Follows P t S ys (V.Wrong x) = ⊤

@@ -22,10 +22,14 @@ impl Walk {
     pub fn next_step(&mut self, core: &Core, kind: JsonKind, from: usize) -> Result<Step, Memory>
         requires in_table { are_in_table core.now.positions self.old.trail.members ≡ true }
         requires clean { is_clean core.now.positions (kind_view kind) (take from self.old.trail.members) ≡ true }
-        requires settled { are_settled core.now.positions (kind_view kind) self.old.trail.members (map signed_view self.old.settled.items) ≡ true }
+        requires settled { are_settled core.now.positions (kind_view kind) self.old.trail.members
+            (map signed_view self.old.settled.items) ≡ true }
         requires covered { IsCovered self.old }
-        ensures step { IfOk result (λ s. step_view core.now.positions (kind_view kind) (set_of self.old.trail.members) s ≡ next core.now.positions (kind_view kind) (set_of self.old.trail.members)) }
-        ensures follows { IfOk result (λ s. Follows core.now.positions (kind_view kind) self.old.trail.members (map signed_view self.new.settled.items) s) }
+        ensures step { IfOk result (λ s. step_view core.now.positions (kind_view kind)
+            (set_of self.old.trail.members) s ≡ next core.now.positions (kind_view kind)
+            (set_of self.old.trail.members)) }
+        ensures follows { IfOk result (λ s. Follows core.now.positions (kind_view kind) self.old.trail.members
+            (map signed_view self.new.settled.items) s) }
         ensures trail { OnOk result (self.new.trail ≡ self.old.trail) }
         ensures more { OnOk result (Extends self.old.settled.items self.new.settled.items) }
         ensures covered { OnOk result (IsCovered self.new) }
@@ -44,7 +48,8 @@ impl Walk {
 
     /// The least of the new members whose opposite is a member.
     fn least_clash(&self, from: usize) -> Option<Signed>
-        ensures { option_map signed_view result ≡ least_from (is_clash self.now.trail.members) None (drop from self.now.trail.members) }
+        ensures { option_map signed_view result ≡ least_from (is_clash self.now.trail.members) None
+            (drop from self.now.trail.members) }
     {
         let mut best = None;
         for i in from..self.trail.len() {
@@ -57,7 +62,8 @@ impl Walk {
     /// The least of the new members that is wrong at the kind.
     fn least_wrong(&self, core: &Core, kind: JsonKind, from: usize) -> Option<Signed>
         requires { are_in_table core.now.positions self.now.trail.members ≡ true }
-        ensures { option_map signed_view result ≡ least_from (is_wrong core.now.positions (kind_view kind)) None (drop from self.now.trail.members) }
+        ensures { option_map signed_view result ≡ least_from (is_wrong core.now.positions (kind_view kind)) None
+            (drop from self.now.trail.members) }
     {
         let mut best = None;
         for i in from..self.trail.len() {
@@ -70,10 +76,14 @@ impl Walk {
     /// The least member without a choice in the set.
     fn least_unsettled(&mut self, core: &Core, kind: JsonKind) -> Result<Option<Signed>, Memory>
         requires in_table { are_in_table core.now.positions self.old.trail.members ≡ true }
-        requires settled { are_settled core.now.positions (kind_view kind) self.old.trail.members (map signed_view self.old.settled.items) ≡ true }
+        requires settled { are_settled core.now.positions (kind_view kind) self.old.trail.members
+            (map signed_view self.old.settled.items) ≡ true }
         requires covered { IsCovered self.old }
-        ensures least { IfOk result (λ o. IsLeast (λ y. not (has_choice self.old.trail.members (choices core.now.positions (kind_view kind) y))) self.old.trail.members (option_map signed_view o)) }
-        ensures settled { IfOk result (λ o. SettlesAfter core.now.positions (kind_view kind) self.old.trail.members (map signed_view self.new.settled.items) (option_map signed_view o)) }
+        ensures least { IfOk result (λ o. IsLeast (λ y.
+            not (has_choice self.old.trail.members (choices core.now.positions (kind_view kind) y)))
+            self.old.trail.members (option_map signed_view o)) }
+        ensures settled { IfOk result (λ o. SettlesAfter core.now.positions (kind_view kind) self.old.trail.members
+            (map signed_view self.new.settled.items) (option_map signed_view o)) }
         ensures trail { OnOk result (self.new.trail ≡ self.old.trail) }
         ensures more { OnOk result (Extends self.old.settled.items self.new.settled.items) }
         ensures covered { OnOk result (IsCovered self.new) }
@@ -86,11 +96,14 @@ impl Walk {
         Ok(None)
     }
 
-    /// Whether `x` is a member without a choice in the set. A member is noted, as settled from here or from its choice on.
+    /// Whether `x` is a member without a choice in the set. A member is noted, as settled from here or from its choice
+    /// on.
     fn needs_choice(&mut self, core: &Core, kind: JsonKind, x: Signed) -> Result<bool, Memory>
         requires { are_in_table core.now.positions self.old.trail.members ≡ true }
-        ensures needs { IfOk result (λ b. b ≡ (has (signed_view x) self.old.trail.members && not (has_choice self.old.trail.members (choices core.now.positions (kind_view kind) (signed_view x))))) }
-        ensures settled { OnOk result (self.new.settled.items ≡ cond (has (signed_view x) self.old.trail.members) (self.old.settled.items ++ x ∷ []) self.old.settled.items) }
+        ensures needs { IfOk result (λ b. b ≡ (has (signed_view x) self.old.trail.members
+            && not (has_choice self.old.trail.members (choices core.now.positions (kind_view kind) (signed_view x))))) }
+        ensures settled { OnOk result (self.new.settled.items ≡ cond (has (signed_view x) self.old.trail.members)
+            (self.old.settled.items ++ x ∷ []) self.old.settled.items) }
         ensures trail { OnOk result (self.new.trail ≡ self.old.trail) }
         ensures waiting { OnOk result (self.new.waiting ≡ self.old.waiting) }
     {
@@ -104,7 +117,8 @@ impl Walk {
     /// Whether a choice of `x` is in the set, or it has none to take.
     fn has_choice(&self, core: &Core, kind: JsonKind, x: Signed) -> bool
         requires { is_in_table core.now.positions (signed_view x) ≡ true }
-        ensures { result ≡ has_choice self.now.trail.members (choices core.now.positions (kind_view kind) (signed_view x)) }
+        ensures { result ≡ has_choice self.now.trail.members
+            (choices core.now.positions (kind_view kind) (signed_view x)) }
     {
         match core.rule(x, kind) {
             Rule::Literal => true,
@@ -125,7 +139,8 @@ impl Walk {
     }
 
     fn has_any(&self, positions: &[Pos], plus: bool) -> bool
-        ensures { result ≡ some (λ C. every (λ x. has x self.now.trail.members) C) (map (λ q. with_sign plus q ∷ []) (places positions.now)) }
+        ensures { result ≡ some (λ C. every (λ x. has x self.now.trail.members) C)
+            (map (λ q. with_sign plus q ∷ []) (places positions.now)) }
     {
         for p in positions {
             if self.trail.has(Signed { pos: *p, plus }) {

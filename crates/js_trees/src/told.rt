@@ -67,7 +67,8 @@ impl Found {
         requires { self.old.ends ≤ most_ends }
         ensures ends { self.new.ends ≡ one_more end self.old.ends }
         ensures has_open { self.new.has_open ≡ (self.old.has_open || is_none (option_map line_view line)) }
-        ensures lines { OnOk result (map line_view self.new.lines.items ≡ with_line self.old.has_open (option_map line_view line) (map line_view self.old.lines.items)) }
+        ensures lines { OnOk result (map line_view self.new.lines.items ≡ with_line self.old.has_open
+            (option_map line_view line) (map line_view self.old.lines.items)) }
     {
         if end {
             self.ends += 1;

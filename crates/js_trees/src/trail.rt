@@ -1,7 +1,8 @@
 //! A set of signed positions that grows, and goes back to what it was.
 //!
-//! The members stand in the order in which they came, and each signed position has the place at which it last came: it is
-//! a member exactly where it stands at that place. So to go back is to forget the later members, and nothing is cleared.
+//! The members stand in the order in which they came, and each signed position has the place at which it last came: it
+//! is a member exactly where it stands at that place. So to go back is to forget the later members, and nothing is
+//! cleared.
 
 ghost use Rattle.std.specs.Prelude.{◌≡◌, ◌<◌, ◌*◌, ◌≤◌, List, [], take, length, IfOk, OnOk, get_or};
 ghost use Rattle.goals.specs.Signed.{has};

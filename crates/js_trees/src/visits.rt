@@ -1,8 +1,8 @@
 //! The tree of a goal at a kind.
 //!
-//! Sets still to be visited stand in a list, the next one last, each as a choice to add to the first members of the walk:
-//! so the choices of a rule share its set. Each has at least one end, so the walk stops where the ends that were told and
-//! the sets that are left are too many; this bounds the list too.
+//! Sets still to be visited stand in a list, the next one last, each as a choice to add to the first members of the
+//! walk: so the choices of a rule share its set. Each has at least one end, so the walk stops where the ends that were
+//! told and the sets that are left are too many; this bounds the list too.
 
 ghost use Rattle.std.specs.Prelude.{◌≡◌, ◌<◌, ◌≤◌, ◌+◌, ◌-◌, ◌++◌, ℕ, List, [], ◌∷◌, map, take, length, reverse, IfOk, OnOk, true, false, Bool};
 ghost use Rattle.std.specs.Bool.{OnTrue, OnFalse};
@@ -77,12 +77,18 @@ fn visit(
     requires table { is_table core.now.positions core.now.ranks ≡ true }
     requires stands { Stands core.now.positions (kind_view kind) walk.old pending.old.items }
     requires clean { is_clean core.now.positions (kind_view kind) (take from walk.old.trail.members) ≡ true }
-    requires settled { are_settled core.now.positions (kind_view kind) walk.old.trail.members (map signed_view walk.old.settled.items) ≡ true }
+    requires settled { are_settled core.now.positions (kind_view kind) walk.old.trail.members
+        (map signed_view walk.old.settled.items) ≡ true }
     requires few { found.old.ends + length pending.old.items ≤ most_ends }
-    ensures over { IfOk result (λ over. OnTrue over (most_ends < found.old.ends + ends (steps core.now.positions (kind_view kind) (set_of walk.old.trail.members) ++ steps_left core.now.positions (kind_view kind) walk.old.trail.members pending.old.items))) }
+    ensures over { IfOk result (λ over. OnTrue over
+        (most_ends < found.old.ends + ends (steps core.now.positions (kind_view kind) (set_of walk.old.trail.members)
+        ++ steps_left core.now.positions (kind_view kind) walk.old.trail.members pending.old.items))) }
     ensures trail { OnOk result (walk.new.trail ≡ walk.old.trail) }
-    ensures stands { IfOk result (λ over. OnFalse over (Stands core.now.positions (kind_view kind) walk.new pending.new.items)) }
-    ensures visits { IfOk result (λ over. OnFalse over (Visits core.now.positions (kind_view kind) walk.old.trail.members pending.old.items pending.new.items found.old found.new)) }
+    ensures stands { IfOk result (λ over. OnFalse over
+        (Stands core.now.positions (kind_view kind) walk.new pending.new.items)) }
+    ensures visits { IfOk result (λ over. OnFalse over
+        (Visits core.now.positions (kind_view kind) walk.old.trail.members pending.old.items pending.new.items found.old
+        found.new)) }
 {
     let step = walk.next_step(core, kind, from)?;
     found.tell(is_end(&step), line(&step))?;
@@ -104,7 +110,8 @@ fn add_choices(
     rule: Signed,
     count: usize,
 ) -> Result<(), Memory>
-    ensures { OnOk result (reverse pending.new.items ≡ entries members settled rule 0 count ++ reverse pending.old.items) }
+    ensures { OnOk result (reverse pending.new.items ≡ entries members settled rule 0 count
+        ++ reverse pending.old.items) }
 {
     let mut index = count;
     while index > 0 {

@@ -47,7 +47,8 @@ impl Waiting {
 
     /// Takes the least out.
     pub fn pop(&mut self) -> Option<Signed>
-        ensures { MatchOption result (self.old ≡ []) (λ x. (self.old ≡ signed_view x ∷ self.new) × (every (comes_before (signed_view x)) self.new ≡ true)) }
+        ensures { MatchOption result (self.old ≡ [])
+            (λ x. (self.old ≡ signed_view x ∷ self.new) × (every (comes_before (signed_view x)) self.new ≡ true)) }
     {
         let number = self.numbers.pop_first()?;
         Some(with_number(number))

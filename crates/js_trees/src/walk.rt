@@ -1,7 +1,7 @@
 //! The path of a walk through a tree: its set, and what still needs a choice.
 //!
-//! A signed position is settled where one of its choices is in the set, or it has none. Each member of the set is waiting
-//! or was seen to be settled; so the least that isn't settled is found by taking the least waiting ones.
+//! A signed position is settled where one of its choices is in the set, or it has none. Each member of the set is
+//! waiting or was seen to be settled; so the least that isn't settled is found by taking the least waiting ones.
 
 ghost use Rattle.std.specs.Prelude.{◌≡◌, ◌<◌, ◌≤◌, ◌*◌, ℕ, List, [], ◌∷◌, map, take, length, IfOk, OnOk, IfSome, MatchOption, true, false, Option, Some, None, get_or, option_map, not, nat_lt};
 ghost use Rattle.documents.specs.Tests.{every, some};
@@ -68,7 +68,8 @@ impl Walk {
     /// Adds each of the list to the set.
     pub fn add_all(&mut self, list: &[Signed]) -> Result<(), Memory>
         requires { every (λ x. nat_lt (order_of x) self.old.trail.room) (map signed_view list.now) ≡ true }
-        ensures members { OnOk result (self.new.trail.members ≡ with_members (map signed_view list.now) self.old.trail.members) }
+        ensures members { OnOk result (self.new.trail.members ≡ with_members
+            (map signed_view list.now) self.old.trail.members) }
         ensures kept { OnOk result (Keeps self.old self.new) }
     {
         for x in list {
@@ -78,8 +79,10 @@ impl Walk {
     }
 
     fn add_each(&mut self, positions: &[Pos], plus: bool) -> Result<(), Memory>
-        requires { every (λ x. nat_lt (order_of x) self.old.trail.room) (map (with_sign plus) (places positions.now)) ≡ true }
-        ensures members { OnOk result (self.new.trail.members ≡ with_members (map (with_sign plus) (places positions.now)) self.old.trail.members) }
+        requires { every (λ x. nat_lt (order_of x) self.old.trail.room)
+            (map (with_sign plus) (places positions.now)) ≡ true }
+        ensures members { OnOk result (self.new.trail.members ≡ with_members
+            (map (with_sign plus) (places positions.now)) self.old.trail.members) }
         ensures kept { OnOk result (Keeps self.old self.new) }
     {
         for p in positions {
@@ -99,8 +102,11 @@ impl Walk {
         requires in_table { is_in_table core.now.positions (signed_view x) ≡ true }
         requires room { self.old.trail.room ≡ 2 * length core.now.positions }
         requires index { index < length (choice_list (choices core.now.positions (kind_view kind) (signed_view x))) }
-        ensures members { OnOk result (self.new.trail.members ≡ with_members (get_or (choice_list (choices core.now.positions (kind_view kind) (signed_view x))) index []) self.old.trail.members) }
-        ensures in_table { are_in_table core.now.positions (get_or (choice_list (choices core.now.positions (kind_view kind) (signed_view x))) index []) ≡ true }
+        ensures members { OnOk result (self.new.trail.members ≡ with_members
+            (get_or (choice_list (choices core.now.positions (kind_view kind) (signed_view x))) index [])
+            self.old.trail.members) }
+        ensures in_table { are_in_table core.now.positions
+            (get_or (choice_list (choices core.now.positions (kind_view kind) (signed_view x))) index []) ≡ true }
         ensures kept { OnOk result (Keeps self.old self.new) }
     {
         match core.rule(x, kind) {

@@ -4,9 +4,9 @@
 #![tactic(auto)]
 
 #[cfg(test)]
-mod answers;
+mod accepting;
 #[cfg(test)]
-mod certificates;
+mod answers;
 #[cfg(test)]
 mod faults;
 #[cfg(test)]

@@ -3,7 +3,8 @@ use Rattle.std.specs.Prelude.{◌≡◌, ℕ, zero, suc, ◌<◌, List, Bool, fa
 use Rattle.std.specs.List.{AllByRecursion}
 use Rattle.documents.specs.Document.{Document, depth}
 
--- `asks here below p J` is what the condition p asks of J, where `here` tells what J meets and `below` what its parts meet
+-- `asks here below p J` is what the condition p asks of J, where `here` tells what J meets and `below` what its parts
+-- meet
 module _ {N : Type 0} (asks : (here : N → Bool) (below : N → Document → Bool) → N → Document → Bool) (steps : ℕ) where
   -- with n steps from condition to condition at one document; with none left nothing is met
   abbrev pub met_here : (N → Document → Bool) → ℕ → N → Document → Bool

@@ -21,7 +21,8 @@ no_letter : finds only_a [] ≡ false
 no_letter = refl
 
 -- `(a|){2,3}$`, which matches nothing at the end
-tail : finds (in_turn (trees_of (repeated (either (trees_of (letter_a ∷ empty ∷ []))) 2 (Some 3) ∷ at_end ∷ []))) (codes "ab") ≡ true
+tail : finds (in_turn (trees_of (repeated (either (trees_of (letter_a ∷ empty ∷ []))) 2 (Some 3) ∷ at_end ∷ [])))
+    (codes "ab") ≡ true
 tail = refl
 
 -- no number of pieces is from 3 to 2

@@ -33,7 +33,8 @@ names_below n P = every (λ q. nat_lt q n) (in_place P)
 -- from place p on, ranks fall from each position to those that it names in place
 abbrev pub ranks_fall : List ℕ → ℕ → List Position → Bool
 ranks_fall ranks p [] = true
-ranks_fall ranks p (x ∷ xs) = every (λ q. nat_lt (get_or ranks q 0) (get_or ranks p 0)) (in_place x) && ranks_fall ranks (suc p) xs
+ranks_fall ranks p (x ∷ xs) = every (λ q. nat_lt (get_or ranks q 0) (get_or ranks p 0)) (in_place x)
+    && ranks_fall ranks (suc p) xs
 
 -- a table: there are as many ranks as positions, each named position is in it, and ranks fall in place
 abbrev pub is_table : List Position → List ℕ → Bool

@@ -7,7 +7,8 @@ use Rattle.js_normal.proofs.append.Goals as goal
 
 pub moved_node-requires : goal.moved_node-requires
 moved_node-requires c =
-    names_below-room c.args.by (length c.args.core.now.positions) (node_view c.node.result.now) c.requires c.node.ensures.named
+    names_below-room c.args.by (length c.args.core.now.positions)
+    (node_view c.node.result.now) c.requires c.node.ensures.named
 
 pub loop-i-preserved : goal.loop-i-preserved
 loop-i-preserved c =

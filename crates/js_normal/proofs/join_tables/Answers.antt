@@ -8,9 +8,11 @@ pub make-core-requires-clause-table : goal.make-core-requires-clause-table
 make-core-requires-clause-table c =
     joined-table c.args.a.now.positions c.args.b.now.positions (map node_view c.from_vec.result) c.args.a.now.ranks
     c.args.b.now.ranks c.from_vec-2.result c.append.new.ranks.items
-    (joined-built c.args.a.now.positions c.args.b.now.positions _ (map node_view c.append.new.nodes.items) c.len-5.result
+    (joined-built c.args.a.now.positions c.args.b.now.positions _
+    (map node_view c.append.new.nodes.items) c.len-5.result
     c.len-5.ensures.value
-    (c.in_ok-append.ensures.nodes ∙ ap (λ xs. map node_view xs ++ map (moved 0) c.args.a.now.positions) c.in_ok-nodes.ensures.items)
+    (c.in_ok-append.ensures.nodes ∙ ap (λ xs. map node_view xs ++ map (moved 0) c.args.a.now.positions)
+    c.in_ok-nodes.ensures.items)
     (ap (map node_view) c.from_vec.ensures ∙ c.in_ok-append-2.ensures.nodes))
     (c.in_ok-append.ensures.ranks ∙ ap (λ xs. xs ++ c.args.a.now.ranks) c.in_ok-ranks.ensures.items)
     (c.from_vec-2.ensures ∙ c.in_ok-append-2.ensures.ranks)
@@ -20,5 +22,6 @@ pub returns-clause-positions : goal.returns-clause-positions
 returns-clause-positions c =
     joined-built c.args.a.now.positions c.args.b.now.positions _ (map node_view c.append.new.nodes.items) c.len-5.result
     c.len-5.ensures.value
-    (c.in_ok-append.ensures.nodes ∙ ap (λ xs. map node_view xs ++ map (moved 0) c.args.a.now.positions) c.in_ok-nodes.ensures.items)
+    (c.in_ok-append.ensures.nodes ∙ ap (λ xs. map node_view xs ++ map (moved 0) c.args.a.now.positions)
+    c.in_ok-nodes.ensures.items)
     (c.make-core.ensures.positions ∙ ap (map node_view) c.from_vec.ensures ∙ c.in_ok-append-2.ensures.nodes)

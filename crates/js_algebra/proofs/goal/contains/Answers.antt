@@ -10,7 +10,8 @@ abbrev nothing : Signed
 nothing = record { pos = record { 0 = 0 }; plus = false }
 
 -- the first of what is left of each
-firsts : (answer : Bool) (all left : List Signed) (i : ℕ) → i < length all → 1 ≤ length left → Keeps answer (drop i all) left
+firsts : (answer : Bool) (all left : List Signed) (i : ℕ) → i < length all → 1 ≤ length left
+    → Keeps answer (drop i all) left
     → Keeps answer (get_or all i nothing ∷ drop (i + 1) all) (get_or left 0 nothing ∷ drop 1 left)
 firsts answer all left i l m k =
     subst (λ B. Keeps answer B (get_or left 0 nothing ∷ drop 1 left)) (drop-at all i nothing l)
@@ -18,20 +19,31 @@ firsts answer all left i l m k =
 
 pub returns-then-order : goal.returns-then-order
 returns-then-order c =
-    keeps_not _ _ _ _ _ (omega arith) (firsts _ c.as_slice-all.result.now c.loop-x.left.now c.loop-x.x-index c.loop-x-test.true c.in-len1-up.len_at_least c.loop-x.invariant)
+    keeps_not _ _ _ _ _ (omega arith) (firsts _ c.as_slice-all.result.now c.loop-x.left.now c.loop-x.x-index
+    c.loop-x-test.true c.in-len1-up.len_at_least c.loop-x.invariant)
 
 pub loop-x-preserved : goal.loop-x-preserved
 loop-x-preserved c =
-    let k = firsts _ c.as_slice-all.result.now c.loop-x.left.now c.loop-x.x-index c.loop-x-test.true c.in-len1-up.len_at_least c.loop-x.invariant in
+    let k = firsts _ c.as_slice-all.result.now c.loop-x.left.now c.loop-x.x-index c.loop-x-test.true
+    c.in-len1-up.len_at_least c.loop-x.invariant in
     elim c.if-eq.branch [
-      | then-eq w ↦ subst (λ (l : Bor (List Signed)). Keeps (G.contains c.args.big.now c.args.small.now) (drop (c.loop-x.x-index + 1) c.as_slice-all.result.now) l.now) (sym w.left-is)
-          (subst (λ R. Keeps (G.contains c.args.big.now c.args.small.now) (drop (c.loop-x.x-index + 1) c.as_slice-all.result.now) R) (sym (after_first c.loop-x.left.now))
+      | then-eq w ↦ subst (λ (l : Bor (List Signed)).
+          Keeps (G.contains c.args.big.now c.args.small.now)
+          (drop (c.loop-x.x-index + 1) c.as_slice-all.result.now) l.now) (sym w.left-is)
+          (subst (λ R. Keeps (G.contains c.args.big.now c.args.small.now)
+          (drop (c.loop-x.x-index + 1) c.as_slice-all.result.now) R) (sym (after_first c.loop-x.left.now))
           (keeps_same _ _ _ _ _ (sym (same_fields _ _ _ _) ∙ sym w.if-eq.ensures) k))
-      | else-eq+else-order w ↦ subst (λ (l : Bor (List Signed)). Keeps (G.contains c.args.big.now c.args.small.now) (drop (c.loop-x.x-index + 1) c.as_slice-all.result.now) l.now) (sym w.left-is)
-          (subst (λ R. Keeps (G.contains c.args.big.now c.args.small.now) (drop (c.loop-x.x-index + 1) c.as_slice-all.result.now) R) (sym (from_first c.loop-x.left.now nothing c.in-len1-up.len_at_least))
-          (keeps_later _ _ _ _ _ (sym (same_fields _ _ _ _) ∙ sym w.if-eq.ensures) (omega (arith, w.order.ensures.value, w.order-else-eq.ensures.value)) k))
+      | else-eq+else-order w ↦ subst (λ (l : Bor (List Signed)).
+          Keeps (G.contains c.args.big.now c.args.small.now)
+          (drop (c.loop-x.x-index + 1) c.as_slice-all.result.now) l.now) (sym w.left-is)
+          (subst (λ R. Keeps (G.contains c.args.big.now c.args.small.now)
+          (drop (c.loop-x.x-index + 1) c.as_slice-all.result.now) R)
+          (sym (from_first c.loop-x.left.now nothing c.in-len1-up.len_at_least))
+          (keeps_later _ _ _ _ _ (sym (same_fields _ _ _ _) ∙ sym w.if-eq.ensures)
+          (omega (arith, w.order.ensures.value, w.order-else-eq.ensures.value)) k))
     ]
 
 pub returns : goal.returns
 returns c =
-    c.is_empty.ensures ∙ keeps_end _ _ c.loop-x.left.now (omega (arith, length-drop c.loop-x.x-index c.as_slice-all.result.now)) c.loop-x.invariant
+    c.is_empty.ensures ∙ keeps_end _ _ c.loop-x.left.now
+    (omega (arith, length-drop c.loop-x.x-index c.as_slice-all.result.now)) c.loop-x.invariant

@@ -9,8 +9,10 @@ use Rattle.js_algebra.proofs.goal.sorted.Goals as goal
 
 pub returns : goal.returns
 returns c =
-    sorted_list _ (λ x y. same_fields x.plus y.plus x.pos.0 y.pos.0) c.args.items.items c.sort_unstable_by_key.new.self.items
+    sorted_list _ (λ x y. same_fields x.plus y.plus x.pos.0 y.pos.0) c.args.items.items
+    c.sort_unstable_by_key.new.self.items
     c.dedup.new.self.items
     c.sort_unstable_by_key.ensures.permutation
-    (IsNonDecreasingBy-from_sort_by_key (λ y. order_of (signed_view y)) _ c.sort_unstable_by_key.ensures.sorted (λ a r f h. search (rules, h)))
+    (IsNonDecreasingBy-from_sort_by_key (λ y. order_of (signed_view y)) _ c.sort_unstable_by_key.ensures.sorted
+    (λ a r f h. search (rules, h)))
     (dedup_is _ _ _ c.dedup.ensures.filtered)

@@ -19,12 +19,14 @@ loop-kind-preserved c =
     let within : c.loop-kind.kind-index < length kinds = c.loop-kind-test.true in
     elim c.match-branch-3.branch [
       | in-Over w ↦
-          known-over-at c.args.core.now.positions c.args.goal kinds c.loop-kind.kind-index Null within c.loop-kind.is_over
+          known-over-at c.args.core.now.positions c.args.goal kinds c.loop-kind.kind-index Null within
+          c.loop-kind.is_over
           c.match-branch-3.is_over (map line_view c.loop-kind.lines.items) (map line_view c.match-branch-3.lines.items)
           (tree_view c.in_ok-tree.field-0) e c.loop-kind.invariant (ap tree_view w.in-Over.is) w.is_over-is
           (ap (λ v. map line_view v.items) w.lines-is)
       | in-Closed+in_ok-append_tree-in-Closed w ↦
-          known-closed-at c.args.core.now.positions c.args.goal kinds c.loop-kind.kind-index Null within c.loop-kind.is_over
+          known-closed-at c.args.core.now.positions c.args.goal kinds c.loop-kind.kind-index Null within
+          c.loop-kind.is_over
           c.match-branch-3.is_over (map line_view c.loop-kind.lines.items) (map line_view c.match-branch-3.lines.items)
           (tree_view c.in_ok-tree.field-0) e c.loop-kind.invariant w.in-Closed.tree (ap tree_view w.in-Closed.is)
           w.is_over-is (ap (λ v. map line_view v.items) w.lines-is ∙ w.in_ok-append_tree-in-Closed.ensures)

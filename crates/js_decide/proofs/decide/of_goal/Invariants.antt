@@ -6,4 +6,5 @@ use Rattle.js_decide.proofs.decide.of_goal.Given as goal
 
 abbrev pub invariant-loop-kind : goal.invariant-loop-kind
 invariant-loop-kind l =
-    KnownOf l.core.positions l.fn.goal (map kind_view (drop l.kind-index l.kind-items)) l.is_over (map line_view l.lines.items)
+    KnownOf l.core.positions l.fn.goal (map kind_view (drop l.kind-index l.kind-items)) l.is_over
+    (map line_view l.lines.items)

@@ -16,7 +16,8 @@ returns-then-code-high c =
     let same : (d : ℕ) → c.args.low ≤ d → has (r ∷ rest) d ≡ has set d =
     λ d l. ap (λ s. has s d) (sym here) ∙ c.loop-range.invariant.same d l in
     whole_first (r ∷ rest) set c.args.low c.args.high c.from_u32.result same
-    (found c.args.low c.args.high c.max-code.result r rest ordered c.if-low-range.true c.max-code.ensures c.from_u32.result
+    (found c.args.low c.args.high c.max-code.result r rest ordered c.if-low-range.true c.max-code.ensures
+    c.from_u32.result
     c.if-code-high.true c.from_u32.ensures.value c.from_u32.ensures.succeeds)
 
 pub returns-then-low-range : goal.returns-then-low-range
@@ -31,7 +32,8 @@ returns-then-low-range c =
     let same : (d : ℕ) → c.args.low ≤ d → has (r ∷ rest) d ≡ has set d =
     λ d l. ap (λ s. has s d) (sym here) ∙ c.loop-range.invariant.same d l in
     λ d l m. sym (same d l)
-    ∙ none_has c.args.low c.args.high c.max-code.result r rest ordered c.if-low-range.true c.max-code.ensures c.if-code-high.false d l m
+    ∙ none_has c.args.low c.args.high c.max-code.result r rest ordered c.if-low-range.true c.max-code.ensures
+    c.if-code-high.false d l m
 
 pub loop-range-preserved : goal.loop-range-preserved
 loop-range-preserved c =

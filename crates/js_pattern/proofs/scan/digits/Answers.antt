@@ -6,7 +6,8 @@ use Rattle.js_pattern.proofs.scan.digits.Goals as goal
 pub loop-i-preserved : goal.loop-i-preserved
 loop-i-preserved c =
     let step =
-    run-digit c.args.radix c.loop-i.number c.saturating_add-number.result c.loop-i.i c.index-text-i.result c.in-Some.digit
+    run-digit c.args.radix c.loop-i.number c.saturating_add-number.result c.loop-i.i c.index-text-i.result
+    c.in-Some.digit
     c.args.text.now (omega arith) c.loop-i-test.true c.index-text-i.is c.in-Some.ensures.value.0
     (sym c.in-Some.ensures.value.1)
     (omega arith) in

@@ -35,7 +35,8 @@ returns-clause-rejected c =
     let t = subst (λ o. IfSome o (IsText c.args.certificate.now)) c.in-Some-3.is c.in_ok-lines.ensures.read in
     IfOk-weaker c.judge.result _ _ c.judge.ensures (λ r h.
     bad-rejected c.args.a.now c.args.b.now c.args.certificate.now x y c.in-Some.first c.in-Some-2.second is_x is_y e f
-    c.in-Some-3.lines t r c.in_ok-core.core.positions c.in_ok-core.at_first.0 c.in_ok-core.at_second.0 c.in_ok-core.ensures.positions
+    c.in-Some-3.lines t r c.in_ok-core.core.positions c.in_ok-core.at_first.0 c.in_ok-core.at_second.0
+    c.in_ok-core.ensures.positions
     c.in_ok-core.ensures.first c.in_ok-core.ensures.second h)
 
 pub returns-clause-included : goal.returns-clause-included
@@ -46,5 +47,6 @@ returns-clause-included c =
     IfOk-weaker c.judge.result _ _ c.judge.ensures (λ r h.
     accepted-included c.args.a.now c.args.b.now c.args.certificate.now r
     (good-accepted c.args.a.now c.args.b.now c.args.certificate.now x y c.in-Some.first c.in-Some-2.second is_x is_y e f
-    c.in-Some-3.lines t r c.in_ok-core.core.positions c.in_ok-core.at_first.0 c.in_ok-core.at_second.0 c.in_ok-core.ensures.positions
+    c.in-Some-3.lines t r c.in_ok-core.core.positions c.in_ok-core.at_first.0 c.in_ok-core.at_second.0
+    c.in_ok-core.ensures.positions
     c.in_ok-core.ensures.first c.in_ok-core.ensures.second h))

@@ -15,13 +15,15 @@ compared-requires-clause-a_filled g c =
 pub compared-requires-clause-b_filled : goal.compared-requires-clause-b_filled
 compared-requires-clause-b_filled g c =
     let (same, (j, is, more)) = subst (LoadSays (g.H.Shelf.told c.load.new.shelf) c.args.second.now
-    (g.H.Shelf.faults c.load.new.shelf) (g.H.Shelf.faults c.load-2.new.shelf)) c.in-Table-2.is c.in_ok-core-2.ensures.says in
+    (g.H.Shelf.faults c.load.new.shelf) (g.H.Shelf.faults c.load-2.new.shelf)) c.in-Table-2.is
+    c.in_ok-core-2.ensures.says in
     table_of-filled c.in-Table-2.core j is
 
 pub returns-in-Refused-clause-says : goal.returns-in-Refused-clause-says
 returns-in-Refused-clause-says g c =
     let (same, (bytes, has, read)) = subst (LoadSays (g.H.Shelf.told c.args.shelf.now) c.args.first.now
-    (g.H.Shelf.faults c.args.shelf.now) (g.H.Shelf.faults c.load.new.shelf)) c.in-Refused.is c.in_ok-core.ensures.says in
+    (g.H.Shelf.faults c.args.shelf.now) (g.H.Shelf.faults c.load.new.shelf)) c.in-Refused.is c.in_ok-core.ensures.says
+    in
     IfOk-weaker c.refused.result _ _ c.refused.ensures (λ p e.
     IncludeSays-answer (g.H.Shelf.told c.args.shelf.now) c.args.first.now c.args.second.now _ _ _ p _ same refl e refl
     (IsReportOf-first (g.H.Shelf.told c.args.shelf.now) c.args.first.now c.args.second.now bytes
@@ -32,7 +34,8 @@ returns-in-Refused-2-clause-says g c =
     let (same, (x, is_x, (bytes, has, read))) = subst (LoadSays (g.H.Shelf.told c.args.shelf.now) c.args.first.now
     (g.H.Shelf.faults c.args.shelf.now) (g.H.Shelf.faults c.load.new.shelf)) c.in-Table.is c.in_ok-core.ensures.says in
     let (again, (others, has_others, read_others)) = subst (LoadSays (g.H.Shelf.told c.load.new.shelf) c.args.second.now
-    (g.H.Shelf.faults c.load.new.shelf) (g.H.Shelf.faults c.load-2.new.shelf)) c.in-Refused-2.is c.in_ok-core-2.ensures.says in
+    (g.H.Shelf.faults c.load.new.shelf) (g.H.Shelf.faults c.load-2.new.shelf)) c.in-Refused-2.is
+    c.in_ok-core-2.ensures.says in
     IfOk-weaker c.refused-in-Refused-2.result _ _ c.refused-in-Refused-2.ensures (λ p e.
     IncludeSays-answer (g.H.Shelf.told c.args.shelf.now) c.args.first.now c.args.second.now _ _ _ p _ same again e refl
     (IsReportOf-second (g.H.Shelf.told c.args.shelf.now) c.args.first.now c.args.second.now bytes others has
@@ -43,11 +46,14 @@ pub returns-clause-says : goal.returns-clause-says
 returns-clause-says g c =
     let (same, (x, is_x, (bytes, has, read))) = subst (LoadSays (g.H.Shelf.told c.args.shelf.now) c.args.first.now
     (g.H.Shelf.faults c.args.shelf.now) (g.H.Shelf.faults c.load.new.shelf)) c.in-Table.is c.in_ok-core.ensures.says in
-    let (again, (y, is_y, (others, has_others, read_others))) = subst (LoadSays (g.H.Shelf.told c.load.new.shelf) c.args.second.now
-    (g.H.Shelf.faults c.load.new.shelf) (g.H.Shelf.faults c.load-2.new.shelf)) c.in-Table-2.is c.in_ok-core-2.ensures.says in
+    let (again, (y, is_y, (others, has_others, read_others))) =
+    subst (LoadSays (g.H.Shelf.told c.load.new.shelf) c.args.second.now
+    (g.H.Shelf.faults c.load.new.shelf) (g.H.Shelf.faults c.load-2.new.shelf)) c.in-Table-2.is
+    c.in_ok-core-2.ensures.says in
     IfOk-weaker c.compared.result _ _ c.compared.ensures (λ p e.
     IncludeSays-answer (g.H.Shelf.told c.args.shelf.now) c.args.first.now c.args.second.now _ _ _ p _ same again e
-    (is_answer-verdict (verdict (joined c.in-Table.core.positions c.in-Table-2.core.positions) 0 (length c.in-Table.core.positions)))
+    (is_answer-verdict (verdict (joined c.in-Table.core.positions c.in-Table-2.core.positions) 0
+    (length c.in-Table.core.positions)))
     (IsReportOf-read (g.H.Shelf.told c.args.shelf.now) c.args.first.now c.args.second.now bytes others has
     (subst (λ t. HasBytes t (encode_utf8_all c.args.second.now) others) c.in_ok-core.ensures.told has_others) x y
     c.in-Table.core c.in-Table-2.core is_x is_y read read_others))

@@ -1,6 +1,6 @@
 use Rattle.std.proofs.Common.{◌≡◌, refl, sym, ◌∙◌, subst}
 use Rattle.js_top.specs.declared.status.Status.TheVariants.{Other, Done, Limit, Refused}
-use Rattle.js_top.proofs.FileLaws.{prepared-means, prepared-report, prepared-part, prepared-limited, means-refusal}
+use Rattle.js_top.proofs.FileLaws.{prepared-means, prepared-report, prepared-part, prepared-settles, prepared-limited, means-refusal}
 use Rattle.js_report.specs.Written.{AppendsPrefix}
 use Rattle.js_top.specs.Meaning.{WhereTold, PassesLimit}
 use Rattle.js_top.specs.Preparing.{report_of}
@@ -49,14 +49,24 @@ returns-in-Ok-write_report-clause-refusal g c = λ e. (
 
 pub returns-in-Ok-write_report-clause-limited : goal.returns-in-Ok-write_report-clause-limited
 returns-in-Ok-write_report-clause-limited g c = λ r w m.
-    subst (λ s. WhereTold (g.H.Shelf.told c.args.shelf.now) c.args.words.now (λ a b. PassesLimit a b → s ≡ Limit)) (sym c.status.ensures)
+    subst (λ s. WhereTold (g.H.Shelf.told c.args.shelf.now) c.args.words.now (λ a b. PassesLimit a b → s ≡ Limit))
+    (sym c.status.ensures)
     (prepared-limited (g.H.Shelf.told c.args.shelf.now) c.args.words.now _ _ c.in-Ok.prepared c.in-Ok.ensures.says
     (λ e. r (c.status.ensures ∙ e)))
 
 pub returns-clause-write_text : goal.returns-clause-write_text
 returns-clause-write_text g c = λ e. (
   report_of c.in-Ok.prepared,
-  subst (λ t. AppendsPrefix (g.K.Sink.written c.args.sink.now) (g.K.Sink.written c.write_report.new.sink) t) c.text.ensures
+  subst (λ t. AppendsPrefix (g.K.Sink.written c.args.sink.now) (g.K.Sink.written c.write_report.new.sink) t)
+      c.text.ensures
       c.in-Err-write_report.ensures.prefix,
   prepared-part (g.H.Shelf.told c.args.shelf.now) c.args.words.now _ _ c.in-Ok.prepared c.in-Ok.ensures.says,
+)
+
+pub returns-in-Ok-write_report-clause-headline : goal.returns-in-Ok-write_report-clause-headline
+returns-in-Ok-write_report-clause-headline g c = λ h k m. (
+  c.text.result.now,
+  c.in-Ok-write_report.ensures.whole,
+  prepared-settles (g.H.Shelf.told c.args.shelf.now) c.args.words.now _ _ c.in-Ok.prepared c.text.result.now
+      c.in-Ok.ensures.says c.text.ensures h,
 )

@@ -6,7 +6,8 @@ use Rattle.js_top.proofs.words.is_name.Goals as goal
 pub returns-then-bytes-lt2 : goal.returns-then-bytes-lt2
 returns-then-bytes-lt2 c =
     let same = c.as_bytes-bytes.ensures.value ∙ c.as_text.ensures.bytes in
-    lt-ltb _ 2 c.if-bytes-lt2.true ∙ sym (is_name-short c.args.word.now (subst (λ bs. length bs < 2) same c.if-bytes-lt2.true))
+    lt-ltb _ 2 c.if-bytes-lt2.true ∙ sym (is_name-short c.args.word.now
+    (subst (λ bs. length bs < 2) same c.if-bytes-lt2.true))
 
 pub returns-else-bytes-lt2 : goal.returns-else-bytes-lt2
 returns-else-bytes-lt2 c =

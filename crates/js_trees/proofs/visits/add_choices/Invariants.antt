@@ -8,4 +8,5 @@ decreases-loop-index l = l.index
 
 abbrev pub invariant-loop-index : goal.invariant-loop-index
 invariant-loop-index l =
-    (l.index ≤ l.count) × (reverse l.pending.items ≡ entries l.members l.settled l.rule l.index (l.count - l.index) ++ reverse l.fn.pending.items)
+    (l.index ≤ l.count) × (reverse l.pending.items ≡ entries l.members l.settled l.rule l.index (l.count - l.index)
+    ++ reverse l.fn.pending.items)

@@ -12,6 +12,7 @@ decreases-loop-next l = length (steps_left l.core.positions (kind_view l.kind) l
 abbrev pub invariant-loop-next : goal.invariant-loop-next
 invariant-loop-next l =
     Stands l.core.positions (kind_view l.kind) l.walk l.pending.items
-    × (found_then l.found (steps_left l.core.positions (kind_view l.kind) l.walk.trail.members l.pending.items) ≡ tree_of l.core.positions (kind_view l.kind) l.goal)
+    × (found_then l.found (steps_left l.core.positions
+    (kind_view l.kind) l.walk.trail.members l.pending.items) ≡ tree_of l.core.positions (kind_view l.kind) l.goal)
     × (l.found.ends + length l.pending.items ≤ most_ends)
     × (is_table l.core.positions l.core.ranks ≡ true)

@@ -13,13 +13,16 @@ use Rattle.js_trees.proofs.visits.visit.Goals.{then-more-gt-MOST_ENDS-via-then-m
 
 pub returns-then-more-gt-MOST_ENDS-clause-over : goal.returns-then-more-gt-MOST_ENDS-clause-over
 returns-then-more-gt-MOST_ENDS-clause-over c =
-    over c.args.core.now.positions (kind_view c.args.kind) c.args.core.now.ranks c.requires.table c.args.walk.now.trail.members c.args.walk.now.settled.items
+    over c.args.core.now.positions (kind_view c.args.kind) c.args.core.now.ranks c.requires.table
+    c.args.walk.now.trail.members c.args.walk.now.settled.items
     c.in_ok-step.step c.args.pending.now.items c.args.found.now.ends c.tell.new.self.ends c.requires.stands.in_table
-    (matches c.args.core.now.positions (kind_view c.args.kind) c.args.walk.now.trail.members (map signed_view c.next_step.new.self.settled.items)
+    (matches c.args.core.now.positions (kind_view c.args.kind) c.args.walk.now.trail.members
+    (map signed_view c.next_step.new.self.settled.items)
     c.in_ok-step.step c.in_ok-step.ensures.step c.in_ok-step.ensures.follows)
     c.requires.stands.fine (c.in_ok-tell.ensures.ends ∙ ap (λ b. one_more b c.args.found.now.ends) c.is_end.ensures)
     (elim c.then-more-gt-MOST_ENDS.branch [
-      | then-more-gt-MOST_ENDS-via-then-more-gt-MOST_ENDS w ↦ omega (arith, w.if-more-gt-MOST_ENDS.true, c.choice_count-more.ensures)
+      | then-more-gt-MOST_ENDS-via-then-more-gt-MOST_ENDS w ↦ omega
+          (arith, w.if-more-gt-MOST_ENDS.true, c.choice_count-more.ensures)
       | then-more-gt-MOST_ENDS-via-else-more-gt-MOST_ENDS+then-found-len-gt-MOST_ENDS w ↦
           omega (arith, w.if-found-len-gt-MOST_ENDS.true, w.len.ensures, c.choice_count-more.ensures)
     ])
@@ -27,42 +30,63 @@ returns-then-more-gt-MOST_ENDS-clause-over c =
 pub returns-in_ok-add_choices-clause-stands : goal.returns-in_ok-add_choices-clause-stands
 returns-in_ok-add_choices-clause-stands c =
     let tr = c.in_ok-step.ensures.trail in
-    let f = subst (λ s. Follows c.args.core.now.positions (kind_view c.args.kind) c.args.walk.now.trail.members (map signed_view c.next_step.new.self.settled.items) s) c.in-Rule.is c.in_ok-step.ensures.follows in
-    let k1 : c.len-in-Rule.result ≡ length c.args.walk.now.trail.members = c.len-in-Rule.ensures ∙ ap (λ u. length u.members) tr in
-    let k2 : c.len-in-Rule-2.result ≡ length c.next_step.new.self.settled.items = omega (arith, c.len-in-Rule-2.ensures) in
-    let eq = c.in_ok-add_choices.ensures ∙ ap₂ (λ m k. entries m k c.in-Rule.rule 0 c.in-Rule.count ++ reverse c.args.pending.now.items) k1 k2 in
+    let f = subst (λ s. Follows c.args.core.now.positions (kind_view c.args.kind) c.args.walk.now.trail.members
+    (map signed_view c.next_step.new.self.settled.items) s) c.in-Rule.is c.in_ok-step.ensures.follows in
+    let k1 : c.len-in-Rule.result ≡ length c.args.walk.now.trail.members = c.len-in-Rule.ensures
+    ∙ ap (λ u. length u.members) tr in
+    let k2 : c.len-in-Rule-2.result ≡ length c.next_step.new.self.settled.items =
+    omega (arith, c.len-in-Rule-2.ensures) in
+    let eq = c.in_ok-add_choices.ensures ∙ ap₂ (λ m k. entries m k c.in-Rule.rule 0 c.in-Rule.count
+    ++ reverse c.args.pending.now.items) k1 k2 in
     record {
-      in_table = subst (λ u. are_in_table c.args.core.now.positions u.members ≡ true) (sym tr) c.requires.stands.in_table;
+      in_table = subst (λ u. are_in_table c.args.core.now.positions u.members ≡ true)
+          (sym tr) c.requires.stands.in_table;
       room = ap (λ u. u.room) tr ∙ c.requires.stands.room;
       covered = c.in_ok-step.ensures.covered;
       fine =
-          subst (λ u. AreFine c.args.core.now.positions (kind_view c.args.kind) u.members c.next_step.new.self.settled.items (reverse c.add_choices.new.pending.items)) (sym tr)
-          (subst (λ fs. AreFine c.args.core.now.positions (kind_view c.args.kind) c.args.walk.now.trail.members c.next_step.new.self.settled.items fs) (sym eq)
-          (fine-entries c.args.core.now.positions (kind_view c.args.kind) c.args.walk.now.trail.members c.next_step.new.self.settled.items c.in-Rule.rule
+          subst (λ u. AreFine c.args.core.now.positions
+          (kind_view c.args.kind) u.members c.next_step.new.self.settled.items
+          (reverse c.add_choices.new.pending.items)) (sym tr)
+          (subst (λ fs. AreFine c.args.core.now.positions
+          (kind_view c.args.kind) c.args.walk.now.trail.members c.next_step.new.self.settled.items fs) (sym eq)
+          (fine-entries c.args.core.now.positions (kind_view c.args.kind) c.args.walk.now.trail.members
+          c.next_step.new.self.settled.items c.in-Rule.rule
           (reverse c.args.pending.now.items) 0 c.in-Rule.count (omega (arith, f.1))
-          (member_in_table _ c.args.walk.now.trail.members (signed_view c.in-Rule.rule) c.requires.stands.in_table f.2) f.3 f.0
-          (fine-same c.args.core.now.positions (kind_view c.args.kind) (reverse c.args.pending.now.items) c.args.walk.now.trail.members c.args.walk.now.trail.members
-          c.args.walk.now.settled.items c.next_step.new.self.settled.items c.requires.stands.fine (omega arith) (λ k l. refl)
-          c.in_ok-step.ensures.more.0 (extends-take c.args.walk.now.settled.items c.next_step.new.self.settled.items c.in_ok-step.ensures.more))));
+          (member_in_table _ c.args.walk.now.trail.members (signed_view c.in-Rule.rule) c.requires.stands.in_table f.2)
+          f.3 f.0
+          (fine-same c.args.core.now.positions (kind_view c.args.kind)
+          (reverse c.args.pending.now.items) c.args.walk.now.trail.members c.args.walk.now.trail.members
+          c.args.walk.now.settled.items c.next_step.new.self.settled.items c.requires.stands.fine (omega arith)
+          (λ k l. refl)
+          c.in_ok-step.ensures.more.0 (extends-take c.args.walk.now.settled.items c.next_step.new.self.settled.items
+          c.in_ok-step.ensures.more))));
     }
 
 pub returns-in_ok-add_choices-clause-visits : goal.returns-in_ok-add_choices-clause-visits
 returns-in_ok-add_choices-clause-visits c =
     let tr = c.in_ok-step.ensures.trail in
-    let f = subst (λ s. Follows c.args.core.now.positions (kind_view c.args.kind) c.args.walk.now.trail.members (map signed_view c.next_step.new.self.settled.items) s) c.in-Rule.is c.in_ok-step.ensures.follows in
-    let k1 : c.len-in-Rule.result ≡ length c.args.walk.now.trail.members = c.len-in-Rule.ensures ∙ ap (λ u. length u.members) tr in
-    let eq = c.in_ok-add_choices.ensures ∙ ap (λ m. entries m c.len-in-Rule-2.result c.in-Rule.rule 0 c.in-Rule.count ++ reverse c.args.pending.now.items) k1 in
-    visits c.args.core.now.positions (kind_view c.args.kind) c.args.core.now.ranks c.requires.table c.args.walk.now.trail.members c.in_ok-step.step
+    let f = subst (λ s. Follows c.args.core.now.positions (kind_view c.args.kind) c.args.walk.now.trail.members
+    (map signed_view c.next_step.new.self.settled.items) s) c.in-Rule.is c.in_ok-step.ensures.follows in
+    let k1 : c.len-in-Rule.result ≡ length c.args.walk.now.trail.members = c.len-in-Rule.ensures
+    ∙ ap (λ u. length u.members) tr in
+    let eq = c.in_ok-add_choices.ensures ∙ ap (λ m. entries m c.len-in-Rule-2.result c.in-Rule.rule 0 c.in-Rule.count
+    ++ reverse c.args.pending.now.items) k1 in
+    visits c.args.core.now.positions (kind_view c.args.kind) c.args.core.now.ranks c.requires.table
+    c.args.walk.now.trail.members c.in_ok-step.step
     c.args.pending.now.items c.add_choices.new.pending.items c.args.found.now c.tell.new.self c.requires.stands.in_table
-    (matches c.args.core.now.positions (kind_view c.args.kind) c.args.walk.now.trail.members (map signed_view c.next_step.new.self.settled.items)
+    (matches c.args.core.now.positions (kind_view c.args.kind) c.args.walk.now.trail.members
+    (map signed_view c.next_step.new.self.settled.items)
     c.in_ok-step.step c.in_ok-step.ensures.step c.in_ok-step.ensures.follows)
     (c.in_ok-tell.ensures.ends ∙ ap (λ b. one_more b c.args.found.now.ends) c.is_end.ensures)
     (c.in_ok-tell.ensures.has_open ∙ ap (λ l. c.args.found.now.has_open || is_none l) c.line.ensures)
-    (c.in_ok-tell.ensures.lines ∙ ap (λ l. with_line c.args.found.now.has_open l (map line_view c.args.found.now.lines.items)) c.line.ensures)
-    (left-rule c.args.core.now.positions (kind_view c.args.kind) c.args.core.now.ranks c.requires.table c.args.walk.now.trail.members c.len-in-Rule-2.result c.in-Rule.rule c.in-Rule.count
+    (c.in_ok-tell.ensures.lines ∙ ap (λ l. with_line c.args.found.now.has_open l
+    (map line_view c.args.found.now.lines.items)) c.line.ensures)
+    (left-rule c.args.core.now.positions (kind_view c.args.kind) c.args.core.now.ranks c.requires.table
+    c.args.walk.now.trail.members c.len-in-Rule-2.result c.in-Rule.rule c.in-Rule.count
     c.args.pending.now.items c.add_choices.new.pending.items
     (subst (λ s. step_view c.args.core.now.positions (kind_view c.args.kind) (set_of c.args.walk.now.trail.members) s
-    ≡ next c.args.core.now.positions (kind_view c.args.kind) (set_of c.args.walk.now.trail.members)) c.in-Rule.is c.in_ok-step.ensures.step)
+    ≡ next c.args.core.now.positions (kind_view c.args.kind) (set_of c.args.walk.now.trail.members)) c.in-Rule.is
+    c.in_ok-step.ensures.step)
     f.1 eq)
     (omega (
       arith,
@@ -70,33 +94,46 @@ returns-in_ok-add_choices-clause-visits c =
       c.len.ensures,
       c.choice_count-more.ensures,
       ap choice_count c.in-Rule.is,
-      fewer-entries c.args.core.now.positions (kind_view c.args.kind) c.args.walk.now.trail.members c.len-in-Rule-2.result c.in-Rule.rule c.in-Rule.count c.args.pending.now.items c.add_choices.new.pending.items eq,
+      fewer-entries c.args.core.now.positions (kind_view c.args.kind) c.args.walk.now.trail.members
+          c.len-in-Rule-2.result c.in-Rule.rule c.in-Rule.count c.args.pending.now.items c.add_choices.new.pending.items
+          eq,
     ))
 
 pub returns-in_default : goal.returns-in_default
 returns-in_default c =
     let tr = c.in_ok-step.ensures.trail in
-    let m = matches c.args.core.now.positions (kind_view c.args.kind) c.args.walk.now.trail.members (map signed_view c.next_step.new.self.settled.items)
+    let m = matches c.args.core.now.positions (kind_view c.args.kind) c.args.walk.now.trail.members
+    (map signed_view c.next_step.new.self.settled.items)
     c.in_ok-step.step c.in_ok-step.ensures.step c.in_ok-step.ensures.follows in
     record {
       over = tt;
       trail = tr;
       stands = record {
-        in_table = subst (λ u. are_in_table c.args.core.now.positions u.members ≡ true) (sym tr) c.requires.stands.in_table;
+        in_table = subst (λ u. are_in_table c.args.core.now.positions u.members ≡ true)
+            (sym tr) c.requires.stands.in_table;
         room = ap (λ u. u.room) tr ∙ c.requires.stands.room;
         covered = c.in_ok-step.ensures.covered;
         fine =
-            subst (λ u. AreFine c.args.core.now.positions (kind_view c.args.kind) u.members c.next_step.new.self.settled.items (reverse c.args.pending.now.items)) (sym tr)
-            (fine-same c.args.core.now.positions (kind_view c.args.kind) (reverse c.args.pending.now.items) c.args.walk.now.trail.members c.args.walk.now.trail.members
-            c.args.walk.now.settled.items c.next_step.new.self.settled.items c.requires.stands.fine (omega arith) (λ k l. refl)
-            c.in_ok-step.ensures.more.0 (extends-take c.args.walk.now.settled.items c.next_step.new.self.settled.items c.in_ok-step.ensures.more));
+            subst (λ u. AreFine c.args.core.now.positions
+            (kind_view c.args.kind) u.members c.next_step.new.self.settled.items (reverse c.args.pending.now.items))
+            (sym tr)
+            (fine-same c.args.core.now.positions (kind_view c.args.kind)
+            (reverse c.args.pending.now.items) c.args.walk.now.trail.members c.args.walk.now.trail.members
+            c.args.walk.now.settled.items c.next_step.new.self.settled.items c.requires.stands.fine (omega arith)
+            (λ k l. refl)
+            c.in_ok-step.ensures.more.0 (extends-take c.args.walk.now.settled.items c.next_step.new.self.settled.items
+            c.in_ok-step.ensures.more));
       };
       visits =
-          visits c.args.core.now.positions (kind_view c.args.kind) c.args.core.now.ranks c.requires.table c.args.walk.now.trail.members c.in_ok-step.step
-          c.args.pending.now.items c.args.pending.now.items c.args.found.now c.tell.new.self c.requires.stands.in_table m
+          visits c.args.core.now.positions (kind_view c.args.kind) c.args.core.now.ranks c.requires.table
+          c.args.walk.now.trail.members c.in_ok-step.step
+          c.args.pending.now.items c.args.pending.now.items c.args.found.now c.tell.new.self c.requires.stands.in_table
+          m
           (c.in_ok-tell.ensures.ends ∙ ap (λ b. one_more b c.args.found.now.ends) c.is_end.ensures)
           (c.in_ok-tell.ensures.has_open ∙ ap (λ l. c.args.found.now.has_open || is_none l) c.line.ensures)
-          (c.in_ok-tell.ensures.lines ∙ ap (λ l. with_line c.args.found.now.has_open l (map line_view c.args.found.now.lines.items)) c.line.ensures)
-          (left-end c.args.core.now.positions (kind_view c.args.kind) c.args.core.now.ranks c.requires.table c.args.walk.now.trail.members c.in_ok-step.step c.args.pending.now.items c.in_default.not-Rule m)
+          (c.in_ok-tell.ensures.lines ∙ ap (λ l. with_line c.args.found.now.has_open l
+          (map line_view c.args.found.now.lines.items)) c.line.ensures)
+          (left-end c.args.core.now.positions (kind_view c.args.kind) c.args.core.now.ranks c.requires.table
+          c.args.walk.now.trail.members c.in_ok-step.step c.args.pending.now.items c.in_default.not-Rule m)
           (omega (arith, c.if-found-len-gt-MOST_ENDS.false, c.len.ensures));
     }

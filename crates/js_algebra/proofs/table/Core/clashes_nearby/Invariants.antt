@@ -6,5 +6,6 @@ use Rattle.js_algebra.proofs.table.Core.clashes_nearby.Given as goal
 
 abbrev pub invariant-loop-i : goal.invariant-loop-i
 invariant-loop-i l =
-    (clashes_nearby l.self.positions (map signed_view (drop l.i l.items)) ≡ clashes_nearby l.self.positions (map signed_view l.items))
+    (clashes_nearby l.self.positions (map signed_view (drop l.i l.items)) ≡ clashes_nearby l.self.positions
+    (map signed_view l.items))
     × (are_in_table l.self.positions (map signed_view (drop l.i l.items)) ≡ true)

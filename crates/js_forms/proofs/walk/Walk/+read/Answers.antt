@@ -54,7 +54,8 @@ pub read_keywords-returns-in_err-read_not-clause-walk :
     goal.read_keywords-returns-in_err-read_not-clause-walk
 read_keywords-returns-in_err-read_not-clause-walk t c =
     R.told-out _ _ _ _ _ c.from_residual-in_err-read_not.ensures.1
-    (R.inside-third _ _ _ _ _ _ _ c.in_ok-read_all.ensures.walk c.in_ok-read_any.ensures.walk c.in_err-read_not.ensures.walk)
+    (R.inside-third _ _ _ _ _ _ _ c.in_ok-read_all.ensures.walk c.in_ok-read_any.ensures.walk
+    c.in_err-read_not.ensures.walk)
 
 pub read_keywords-returns-clause-walk : goal.read_keywords-returns-clause-walk
 read_keywords-returns-clause-walk t c =
@@ -64,7 +65,8 @@ pub read_keywords-returns-clause-nodes : goal.read_keywords-returns-clause-nodes
 read_keywords-returns-clause-nodes t c =
     R.nodes-all
     (map_view c.args.members.now) _ _ _ _ _ _ _ _ c.in_ok-read_all.ensures.walk c.in_ok-read_any.ensures.walk
-    (ap (map node_view) c.new-nodes.ensures.items) c.in_ok-push_types.ensures c.in_ok-read_all.ensures.nodes c.in_ok-read_any.ensures.nodes
+    (ap (map node_view) c.new-nodes.ensures.items) c.in_ok-push_types.ensures c.in_ok-read_all.ensures.nodes
+    c.in_ok-read_any.ensures.nodes
     c.in_ok-read_not.ensures.nodes
 
 pub read_list-read_schema-requires : goal.read_list-read_schema-requires
@@ -86,7 +88,8 @@ read_list-returns-in_err-read_schema-clause-walk t c =
     (lower c.args.self.now.pointer (numbered c.args.word.now 0 ss)) in
     R.told-out _ _ _ _ _ c.from_residual-in_err-read_schema.ensures.1
     (subst F (sym all) (R.list-tells _ _ _ _ _ _ (view c.index-schemas-i.result) c.loop-i.i c.loop-i.invariant
-    (taken-length c.args.schemas.now c.loop-i.i c.loop-i-test.true) c.in_ok-descend_to.ensures _ _ c.in_err-read_schema.ensures))
+    (taken-length c.args.schemas.now c.loop-i.i c.loop-i-test.true) c.in_ok-descend_to.ensures _ _
+    c.in_err-read_schema.ensures))
 
 pub read_list-loop-i-preserved : goal.read_list-loop-i-preserved
 read_list-loop-i-preserved t c =
@@ -95,7 +98,8 @@ read_list-loop-i-preserved t c =
     let F : List D.Json → Type 0 =
     R.ReadsList c.args.self.now c.ascend.new.self c.args.word.now (places c.push.new.self.items) in
     subst F (sym more) (R.list-more _ _ _ _ _ _ (view c.index-schemas-i.result) c.loop-i.i c.loop-i.invariant
-    (taken-length c.args.schemas.now c.loop-i.i c.loop-i-test.true) c.in_ok-descend_to.ensures _ _ c.in_ok-read_schema.ensures c.ascend.ensures _
+    (taken-length c.args.schemas.now c.loop-i.i c.loop-i-test.true) c.in_ok-descend_to.ensures _ _
+    c.in_ok-read_schema.ensures c.ascend.ensures _
     (ap places c.in_ok-push.ensures.items ∙ map_push _ _ _
     ∙ ap (λ n. places c.loop-i.entries.items ++ n ∷ []) c.next_entry.ensures))
 

@@ -11,7 +11,12 @@ both_ranges a b h k = every_range-append a b (every_range-ranges 0 a h) (every_r
 
 pub from_ranges-requires : goal.from_ranges-requires
 from_ranges-requires c =
-    rw (c.in_ok-extend_from_slice.ensures.items, c.in_ok-ranges.ensures.items, c.deref.ensures.value, c.deref-2.ensures.value)
+    rw (
+      c.in_ok-extend_from_slice.ensures.items,
+      c.in_ok-ranges.ensures.items,
+      c.deref.ensures.value,
+      c.deref-2.ensures.value,
+    )
     (both_ranges c.self.inside.ranges.items c.other.inside.ranges.items c.self.invariant c.other.invariant)
 
 pub returns : goal.returns
@@ -19,7 +24,12 @@ returns c =
     let a = c.self.inside.ranges.items in
     let b = c.other.inside.ranges.items in
     let all : c.extend_from_slice.new.self.items ≡ a ++ b =
-    rw (c.in_ok-extend_from_slice.ensures.items, c.in_ok-ranges.ensures.items, c.deref.ensures.value, c.deref-2.ensures.value) refl in
+    rw (
+      c.in_ok-extend_from_slice.ensures.items,
+      c.in_ok-ranges.ensures.items,
+      c.deref.ensures.value,
+      c.deref-2.ensures.value,
+    ) refl in
     IfOk-weaker c.from_ranges.result (λ both. both ≡ set_of c.extend_from_slice.new.self.items)
     (λ both. (n : ℕ) → has both n ≡ has c.args.self.now n || has c.args.other.now n)
     (λ both e n. ap (λ s. has s n) (e ∙ ap set_of all)

@@ -22,5 +22,6 @@ invariant_of-self-else-low-lt55296 c = record {
       (every_range-tried (is_ok c.push-else-low-lt55296.result) c.args.self.now.ranges.items
       ((c.args.low, c.args.high) ∷ [])
       c.args.self.now.characters
-      (and_from _ _ (is_range-up c.args.low c.args.high c.ranges.low.0 c.ranges.high.0 c.requires c.else-low-lt55296.either) refl));
+      (and_from _ _ (is_range-up c.args.low c.args.high c.ranges.low.0 c.ranges.high.0 c.requires
+      c.else-low-lt55296.either) refl));
 }

@@ -6,4 +6,5 @@ use Rattle.js_trees.proofs.trail.Trail.go_back.Goals as goal
 
 pub returns-clause-members : goal.returns-clause-members
 returns-clause-members c =
-    ap (map signed_view) c.truncate.ensures.items ∙ map-take c.args.len c.self.inside.members.items ∙ ap (λ t. take c.args.len t.members) c.self.view_is
+    ap (map signed_view) c.truncate.ensures.items ∙ map-take c.args.len c.self.inside.members.items
+    ∙ ap (λ t. take c.args.len t.members) c.self.view_is

@@ -8,7 +8,8 @@ use Rattle.js_trees.proofs.waiting.Waiting.pop.Goals as goal
 
 pub returns : goal.returns
 returns c = (
-  sym c.self.view_is ∙ ap (map signed_at) c.in_ok-number.ensures.removal ∙ ap (λ x. x ∷ map signed_at c.pop_first.new.self.keys) (sym c.with_number.ensures),
+  sym c.self.view_is ∙ ap (map signed_at) c.in_ok-number.ensures.removal
+      ∙ ap (λ x. x ∷ map signed_at c.pop_first.new.self.keys) (sym c.with_number.ensures),
   subst (λ x. every (comes_before x) (map signed_at c.pop_first.new.self.keys) ≡ true) (sym c.with_number.ensures)
       (before-above c.in_ok-number.number c.pop_first.new.self.keys c.in_ok-number.ensures.all_above),
 )

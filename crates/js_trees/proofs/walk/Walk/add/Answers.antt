@@ -8,6 +8,8 @@ use Rattle.js_trees.proofs.walk.Walk.add.Goals as goal
 
 pub returns-clause-covered : goal.returns-clause-covered
 returns-clause-covered c = λ h.
-    subst (λ xs. Covers xs c.add.new.self (map signed_view c.args.self.now.settled.items)) (sym c.in_ok-add-2.ensures.members)
-    (subst (λ ws. Covers (with_member (signed_view c.args.x) c.args.self.now.trail.members) ws (map signed_view c.args.self.now.settled.items)) (sym c.in_ok-add.ensures)
+    subst (λ xs. Covers xs c.add.new.self (map signed_view c.args.self.now.settled.items))
+    (sym c.in_ok-add-2.ensures.members)
+    (subst (λ ws. Covers (with_member (signed_view c.args.x) c.args.self.now.trail.members) ws
+    (map signed_view c.args.self.now.settled.items)) (sym c.in_ok-add.ensures)
     (covers-add (signed_view c.args.x) c.args.self.now.trail.members c.args.self.now.waiting _ h))

@@ -9,5 +9,7 @@ use Rattle.js_trees.proofs.walk.Walk.add_all.Given as goal
 
 abbrev pub invariant-loop-x : goal.invariant-loop-x
 invariant-loop-x l =
-    (with_members (map signed_view (drop l.x-index l.list)) l.self.trail.members ≡ with_members (map signed_view l.list) l.fn.self.trail.members)
-    × (every (λ x. nat_lt (order_of x) l.fn.self.trail.room) (map signed_view (drop l.x-index l.list)) ≡ true) × Keeps l.fn.self l.self
+    (with_members (map signed_view (drop l.x-index l.list)) l.self.trail.members ≡ with_members
+    (map signed_view l.list) l.fn.self.trail.members)
+    × (every (λ x. nat_lt (order_of x) l.fn.self.trail.room) (map signed_view (drop l.x-index l.list)) ≡ true)
+    × Keeps l.fn.self l.self

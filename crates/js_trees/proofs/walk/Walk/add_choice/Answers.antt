@@ -18,28 +18,37 @@ one n b ps i l e = and_from _ _ (below_at n ps i nowhere l e) refl
 
 pub add_each-requires : goal.add_each-requires
 add_each-requires c =
-    subst (λ room. every (λ x. nat_lt (order_of x) room) (map (with_sign c.in-Together.plus) (places c.in-Together.positions.now)) ≡ true) (sym c.requires.room)
+    subst (λ room. every (λ x. nat_lt (order_of x) room)
+    (map (with_sign c.in-Together.plus) (places c.in-Together.positions.now)) ≡ true) (sym c.requires.room)
     (in_room _ c.in-Together.plus (places c.in-Together.positions.now) c.in-Together.ensures.named)
 
 pub add_all-requires : goal.add_all-requires
 add_all-requires c =
     let l = length_apart c.in-Apart.plus c.in-Apart.positions.now _ c.in-Apart.ensures.choices in
     let m : c.args.index < length c.in-Apart.positions.now = omega (arith, l, c.requires.index) in
-    subst (λ room. every (λ x. nat_lt (order_of x) room) (with_sign c.in-Apart.plus (get_or c.in-Apart.positions.now c.args.index nowhere).0 ∷ []) ≡ true) (sym c.requires.room)
-    (in_room _ c.in-Apart.plus ((get_or c.in-Apart.positions.now c.args.index nowhere).0 ∷ []) (one _ c.in-Apart.plus c.in-Apart.positions.now c.args.index m c.in-Apart.ensures.named))
+    subst (λ room. every (λ x. nat_lt (order_of x) room)
+    (with_sign c.in-Apart.plus (get_or c.in-Apart.positions.now c.args.index nowhere).0 ∷ []) ≡ true)
+    (sym c.requires.room)
+    (in_room _ c.in-Apart.plus ((get_or c.in-Apart.positions.now c.args.index nowhere).0 ∷ [])
+    (one _ c.in-Apart.plus c.in-Apart.positions.now c.args.index m c.in-Apart.ensures.named))
 
 pub returns-in-Together-clause-in_table : goal.returns-in-Together-clause-in_table
 returns-in-Together-clause-in_table c =
-    subst (λ C. are_in_table c.args.core.now.positions C ≡ true) (sym (choice_together _ _ c.args.index c.in-Together.ensures.choices c.requires.index))
+    subst (λ C. are_in_table c.args.core.now.positions C ≡ true)
+    (sym (choice_together _ _ c.args.index c.in-Together.ensures.choices c.requires.index))
     (signs_in_table _ c.in-Together.plus (places c.in-Together.positions.now) c.in-Together.ensures.named)
 
 pub returns-in-Apart-clause-in_table : goal.returns-in-Apart-clause-in_table
 returns-in-Apart-clause-in_table c =
     let l = length_apart c.in-Apart.plus c.in-Apart.positions.now _ c.in-Apart.ensures.choices in
     let m : c.args.index < length c.in-Apart.positions.now = omega (arith, l, c.requires.index) in
-    subst (λ C. are_in_table c.args.core.now.positions C ≡ true) (sym (choice_apart c.in-Apart.plus c.in-Apart.positions.now _ c.args.index nowhere c.in-Apart.ensures.choices c.requires.index))
-    (signs_in_table _ c.in-Apart.plus ((get_or c.in-Apart.positions.now c.args.index nowhere).0 ∷ []) (one _ c.in-Apart.plus c.in-Apart.positions.now c.args.index m c.in-Apart.ensures.named))
+    subst (λ C. are_in_table c.args.core.now.positions C ≡ true)
+    (sym (choice_apart c.in-Apart.plus c.in-Apart.positions.now _ c.args.index nowhere c.in-Apart.ensures.choices
+    c.requires.index))
+    (signs_in_table _ c.in-Apart.plus ((get_or c.in-Apart.positions.now c.args.index nowhere).0 ∷ [])
+    (one _ c.in-Apart.plus c.in-Apart.positions.now c.args.index m c.in-Apart.ensures.named))
 
 pub returns-in-Apart-clause-members : goal.returns-in-Apart-clause-members
 returns-in-Apart-clause-members c =
-    rw (choice_apart c.in-Apart.plus c.in-Apart.positions.now _ c.args.index nowhere c.in-Apart.ensures.choices c.requires.index) c.add_all.ensures.members
+    rw (choice_apart c.in-Apart.plus c.in-Apart.positions.now _ c.args.index nowhere c.in-Apart.ensures.choices
+    c.requires.index) c.add_all.ensures.members

@@ -11,5 +11,6 @@ abbrev pub invariant-loop-p : goal.invariant-loop-p
 invariant-loop-p l =
     (with_members (map (with_sign l.plus) (places (drop l.p-index l.positions))) l.self.trail.members
     ≡ with_members (map (with_sign l.plus) (places l.positions)) l.fn.self.trail.members)
-    × (every (λ x. nat_lt (order_of x) l.fn.self.trail.room) (map (with_sign l.plus) (places (drop l.p-index l.positions))) ≡ true)
+    × (every (λ x. nat_lt (order_of x) l.fn.self.trail.room)
+    (map (with_sign l.plus) (places (drop l.p-index l.positions))) ≡ true)
     × Keeps l.fn.self l.self

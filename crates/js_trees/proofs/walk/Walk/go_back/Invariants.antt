@@ -9,6 +9,7 @@ decreases-loop-self l = vec_len l.self.settled
 
 abbrev pub invariant-loop-self : goal.invariant-loop-self
 invariant-loop-self l =
-    (l.settled ≤ length l.self.settled.items) × (take l.settled l.self.settled.items ≡ take l.settled l.fn.self.settled.items)
+    (l.settled ≤ length l.self.settled.items) × (take l.settled l.self.settled.items ≡ take l.settled
+    l.fn.self.settled.items)
     × (l.self.trail.members ≡ take l.members l.fn.self.trail.members) × (l.self.trail.room ≡ l.fn.self.trail.room)
     × (IsCovered l.fn.self → IsCovered l.self)

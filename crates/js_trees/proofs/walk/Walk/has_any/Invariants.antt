@@ -7,5 +7,6 @@ use Rattle.js_trees.proofs.walk.Walk.has_any.Given as goal
 
 abbrev pub invariant-loop-p : goal.invariant-loop-p
 invariant-loop-p l =
-    some (λ C. every (λ x. has x l.self.trail.members) C) (map (λ q. with_sign l.plus q ∷ []) (places (drop l.p-index l.positions)))
+    some (λ C. every (λ x. has x l.self.trail.members) C)
+    (map (λ q. with_sign l.plus q ∷ []) (places (drop l.p-index l.positions)))
     ≡ some (λ C. every (λ x. has x l.self.trail.members) C) (map (λ q. with_sign l.plus q ∷ []) (places l.positions))

@@ -6,4 +6,5 @@ use Rattle.js_trees.proofs.walk.Walk.needs_choice.Goals as goal
 
 pub has_choice-requires : goal.has_choice-requires
 has_choice-requires c =
-    member_in_table _ c.args.self.now.trail.members (signed_view c.args.x) c.requires (sym c.has.ensures ∙ c.if-not-has.false)
+    member_in_table _ c.args.self.now.trail.members (signed_view c.args.x) c.requires
+    (sym c.has.ensures ∙ c.if-not-has.false)
