@@ -1,8 +1,8 @@
 -- The last piece is empty, and the others are the lines.
 use Rattle.std.proofs.Common.{map}
-use Rattle.js_check.proofs.TextLaws.{pieces-held, ended-says, not_ended-says, no_pieces-says}
-use Rattle.js_check.proofs.lines.read_lines.Goals as goal
-use Rattle.js_check.proofs.lines.read_lines.Goals.{in_default-via-in-Some+else-is_empty, in_default-via-in_default}
+use Rattle.js_cert.proofs.TextLaws.{pieces-held, ended-says, not_ended-says, no_pieces-says}
+use Rattle.js_cert.proofs.reading.read_lines.Goals as goal
+use Rattle.js_cert.proofs.reading.read_lines.Goals.{in_default-via-in-Some+else-is_empty, in_default-via-in_default}
 
 pub returns-in-Some-clause-read : goal.returns-in-Some-clause-read
 returns-in-Some-clause-read c =

@@ -7,8 +7,8 @@ use Rattle.std.proofs.lemmas.Bool.{eqb-false, true≢false, and_parts, and_from,
 use Rattle.std.proofs.lemmas.Str.Parse.{IsNumeralModel, numerals_by_fold}
 use Rattle.std.proofs.lemmas.Fmt.{digits_decimal, digits_value-decimal, decimal-digits_value, decimal_nonempty, first_decimal, decimal_digit}
 use Rattle.certificates.specs.Line.{is_small}
-use Rattle.js_check.specs.Reading.{is_plain, digits_from, number_of}
-use Rattle.js_check.proofs.PieceLaws.{lacks}
+use Rattle.js_cert.specs.Reading.{is_plain, digits_from, number_of}
+use Rattle.js_cert.proofs.PieceLaws.{lacks}
 
 abbrev read_on : ℕ → List ℕ → ℕ
 read_on n [] = n

@@ -5,7 +5,7 @@ use Rattle.std.specs.Char.{is_ascii_digit}
 use Rattle.documents.specs.Kind.{Kind, all_kinds}
 use Rattle.goals.specs.Signed.{Signed, Plus, Minus}
 use Rattle.certificates.specs.Line.{Line, Version, Goals, Goal, Entry, At, Rule, Clash, OfKind, End, kind_word}
-use Rattle.js_check.specs.Pieces.{pieces, after_word, is_at_end}
+use Rattle.js_cert.specs.Pieces.{pieces, after_word, is_at_end}
 
 -- a list of what each text stands for; none where one stands for nothing
 abbrev pub read_all : {A : Type 0} → (List ℕ → Option A) → List (List ℕ) → Option (List A)

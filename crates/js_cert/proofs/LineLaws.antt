@@ -11,10 +11,10 @@ use Rattle.documents.specs.Kind.{Kind, Null, Boolean, Number, Text, Array, Objec
 use Rattle.position_laws.proofs.Lists.{every-append}
 use Rattle.goals.specs.Signed.{Signed, Plus, Minus, position_of}
 use Rattle.certificates.specs.Line.{Line, Version, Goals, Goal, Entry, At, Rule, Clash, OfKind, End, kind_word, signed_text, signed_list_text, words_text, is_small, is_line, is_short}
-use Rattle.js_check.specs.Pieces.{pieces, after_word, is_at_end}
-use Rattle.js_check.specs.Reading.{read_all, number_of, or_else, headed, signed_of, is_word, kind_among, kind_of_word, after_first, list_of, bare_line, counted_line, signed_line, kind_line, goal_line, any_line, short_line}
-use Rattle.js_check.proofs.PieceLaws.{after_word-text, pieces-begun, pieces-of_begun, lacks}
-use Rattle.js_check.proofs.NumberLaws.{number_of-text, number_of-decimal, decimal-lacks}
+use Rattle.js_cert.specs.Pieces.{pieces, after_word, is_at_end}
+use Rattle.js_cert.specs.Reading.{read_all, number_of, or_else, headed, signed_of, is_word, kind_among, kind_of_word, after_first, list_of, bare_line, counted_line, signed_line, kind_line, goal_line, any_line, short_line}
+use Rattle.js_cert.proofs.PieceLaws.{after_word-text, pieces-begun, pieces-of_begun, lacks}
+use Rattle.js_cert.proofs.NumberLaws.{number_of-text, number_of-decimal, decimal-lacks}
 
 -- what an answer came from
 

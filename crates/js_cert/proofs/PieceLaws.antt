@@ -6,7 +6,7 @@ use Rattle.std.proofs.lemmas.List.{append-nil, map-append, drop_more}
 use Rattle.std.proofs.lemmas.List.Edits.{between_more, between_none}
 use Rattle.std.proofs.lemmas.Bool.{eqb-true, true≢false, and_parts, not-true, ne_eqb}
 use Rattle.documents.specs.Tests.{every}
-use Rattle.js_check.specs.Pieces.{pieces, pieces_on, after_word}
+use Rattle.js_cert.specs.Pieces.{pieces, pieces_on, after_word}
 
 -- reading on
 

@@ -1,7 +1,7 @@
 -- The digits that are left say the number that all of them say.
 use Rattle.std.proofs.Common.{◌≡◌, ◌<◌, drop}
-use Rattle.js_check.specs.Reading.{digits_from}
-use Rattle.js_check.proofs.words.digits.Given as goal
+use Rattle.js_cert.specs.Reading.{digits_from}
+use Rattle.js_cert.proofs.words.digits.Given as goal
 
 abbrev pub invariant-loop-digit : goal.invariant-loop-digit
 invariant-loop-digit l = record {

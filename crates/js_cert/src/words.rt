@@ -2,8 +2,8 @@
 
 ghost use Rattle.std.specs.Prelude.{◌≡◌, map, IfOk, option_map, option_and_then};
 ghost use Rattle.js_algebra.specs.View.{signed_view, kind_view};
-ghost use Rattle.js_check.specs.Pieces.{after_word};
-ghost use Rattle.js_check.specs.Reading.{is_plain, digits_from, number_of, signed_of, kind_of_word, list_of, read_all};
+ghost use Rattle.js_cert.specs.Pieces.{after_word};
+ghost use Rattle.js_cert.specs.Reading.{is_plain, digits_from, number_of, signed_of, kind_of_word, list_of, read_all};
 
 use crate::pieces::{after, is_word, pieces};
 use js_algebra::{JsonKind, Pos, Signed, SignedList};

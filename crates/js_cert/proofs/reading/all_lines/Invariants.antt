@@ -2,8 +2,8 @@
 use Rattle.std.proofs.Common.{◌≡◌, ◌++◌, map, drop}
 use Rattle.std.specs.Option.{option_map}
 use Rattle.js_cert.specs.View.{line_view}
-use Rattle.js_check.specs.Reading.{read_all, short_line}
-use Rattle.js_check.proofs.lines.all_lines.Given as goal
+use Rattle.js_cert.specs.Reading.{read_all, short_line}
+use Rattle.js_cert.proofs.reading.all_lines.Given as goal
 
 abbrev pub invariant-loop-text : goal.invariant-loop-text
 invariant-loop-text l =

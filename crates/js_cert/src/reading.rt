@@ -1,9 +1,9 @@
-//! The lines of a certificate: each ends with a line feed, and each has one spelling.
+//! Lines from their text: each ends with a line feed, and each has one spelling.
 
 ghost use Rattle.std.specs.Prelude.{◌≡◌, map, IfOk, IfSome, IfNone, option_map};
 ghost use Rattle.certificates.specs.Line.{IsText};
 ghost use Rattle.js_cert.specs.View.{line_view};
-ghost use Rattle.js_check.specs.Reading.{
+ghost use Rattle.js_cert.specs.Reading.{
   bare_line,
   counted_line,
   signed_line,
@@ -12,12 +12,12 @@ ghost use Rattle.js_check.specs.Reading.{
   short_line,
   read_all,
 };
-ghost use Rattle.js_check.specs.Text.{HasNoLines};
+ghost use Rattle.js_cert.specs.Text.{HasNoLines};
 
+use crate::lines::{CertLine, CertLines, Version};
 use crate::pieces::{after, is_word, pieces};
 use crate::words::{kind, number_after, signed_after, signed_list};
 use js_algebra::Pos;
-use js_cert::{CertLine, CertLines, Version};
 use js_doc::Memory;
 use std::alloc::Global;
 
