@@ -1,2 +1,5 @@
-pub mod SetLaws
+pub mod Indexed
+pub mod GrowingLaws
+pub mod WalkLaws
+pub mod TreeLaws
 pub mod VerdictLaws

@@ -1,3 +1,5 @@
--- What a reader must believe stands in `certificates`. This says how the judge comes to its answer, and no public clause
--- cites it.
+-- What a reader must believe stands in `certificates`. These say how the judge comes to its answer; no public clause
+-- cites them.
+pub mod Growing
+pub mod Walking
 pub mod Judging

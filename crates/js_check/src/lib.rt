@@ -1,12 +1,13 @@
 //! Certificates judged: a checker that knows nothing of the search and of its trees.
 //!
-//! Lines are a good certificate or not, and judging says which. It keeps a copy of the set for each choice of a rule that
-//! is still to be shown dead. Nothing recurses.
+//! Lines are a good certificate or not, and judging says which. A line costs what it adds to the set at hand, so judging is
+//! linear in the lines with the members that their rules name. Nothing recurses.
 #![tactic(auto)]
 
-mod sets;
+mod growing;
 mod trees;
 mod verdict;
+mod walk;
 
 pub use verdict::judge;
 
