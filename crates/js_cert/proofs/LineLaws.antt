@@ -50,7 +50,8 @@ is_word-text word xs h = go (after_word word xs) refl h where
 
 -- signed positions
 
-signed_of-text : (xs : List ℕ) (x : Signed) → signed_of xs ≡ Some x → (signed_text x ≡ xs) × (is_small (position_of x) ≡ true)
+signed_of-text : (xs : List ℕ) (x : Signed) → signed_of xs ≡ Some x
+    → (signed_text x ≡ xs) × (is_small (position_of x) ≡ true)
 signed_of-text xs x e =
     ⊎_elim
     (λ h. let (n, m, p) = headed-some (codes "+") number_of Plus xs x h in
@@ -72,11 +73,13 @@ pub read_all-cons : {A : Type 0} (read : List ℕ → Option A) (p : List ℕ) (
     → (x : A) × (xs : List A) × (ys ≡ x ∷ xs) × (read p ≡ Some x) × (read_all read ps ≡ Some xs)
 read_all-cons {A} read p ps ys e = at_first (read p) refl e where
   at_rest : (x : A) → read p ≡ Some x → (o : Option (List A)) → read_all read ps ≡ o
-      → option_map (λ xs. x ∷ xs) o ≡ Some ys → (x : A) × (xs : List A) × (ys ≡ x ∷ xs) × (read p ≡ Some x) × (read_all read ps ≡ Some xs)
+      → option_map (λ xs. x ∷ xs) o ≡ Some ys → (x : A) × (xs : List A) × (ys ≡ x ∷ xs) × (read p ≡ Some x)
+      × (read_all read ps ≡ Some xs)
   at_rest x r None s f = cc
   at_rest x r (Some xs) s f = (x, xs, cc, r, s)
 
-  at_first : (o : Option A) → read p ≡ o → option_and_then (λ x. option_map (λ xs. x ∷ xs) (read_all read ps)) o ≡ Some ys
+  at_first : (o : Option A) → read p ≡ o → option_and_then (λ x. option_map (λ xs. x ∷ xs) (read_all read ps)) o
+      ≡ Some ys
       → (x : A) × (xs : List A) × (ys ≡ x ∷ xs) × (read p ≡ Some x) × (read_all read ps ≡ Some xs)
   at_first None r f = cc
   at_first (Some x) r f = at_rest x r (read_all read ps) refl f
@@ -89,7 +92,8 @@ signed_all-text (p ∷ ps) ys e =
     let (x, xs, same, first, more) = read_all-cons signed_of p ps ys e in
     let (t, s) = signed_of-text p x first in
     let (ts, ss) = signed_all-text ps xs more in
-    subst (λ zs. (flat_map (λ p. 32 ∷ p) (p ∷ ps) ≡ signed_list_text zs) × (every (λ x. is_small (position_of x)) zs ≡ true)) (sym same)
+    subst (λ zs. (flat_map (λ p. 32 ∷ p) (p ∷ ps) ≡ signed_list_text zs)
+    × (every (λ x. is_small (position_of x)) zs ≡ true)) (sym same)
     ((λ i. (32 ∷ sym t i) ++ ts i), and_from (is_small (position_of x)) _ s ss)
 
 pub read_all-map : {A : Type 0} (read : List ℕ → Option A) (write : A → List ℕ) (good : A → Bool)
@@ -130,7 +134,8 @@ list_of-text xs ys e = go (pieces 32 xs) refl e where
       (sym t ∙ pieces-begun 32 xs ps s, u)
   go ((p ∷ q) ∷ ps) s f = cc
 
-list_of-of : (ys : List Signed) → every (λ x. is_small (position_of x)) ys ≡ true → list_of (signed_list_text ys) ≡ Some ys
+list_of-of : (ys : List Signed) → every (λ x. is_small (position_of x)) ys ≡ true
+    → list_of (signed_list_text ys) ≡ Some ys
 list_of-of ys h =
     ap (λ xs. after_first (pieces 32 xs)) (sym (flat_map-map (λ p. 32 ∷ p) signed_text ys))
     ∙ ap after_first (pieces-of_begun 32 (map signed_text ys)
@@ -171,7 +176,8 @@ by_number word make xs l spelt small e =
     subst (λ z. Spells z xs) m (record { small = small n ∙ s; text = spelt n ∙ ap (λ ys. word ++ ys) d ∙ p.text })
 
 by_signed : (word : List ℕ) (make : Signed → Line) (xs : List ℕ) (l : Line)
-    → ((x : Signed) → words_text (make x) ≡ word ++ signed_text x) → ((x : Signed) → is_line (make x) ≡ is_small (position_of x))
+    → ((x : Signed) → words_text (make x) ≡ word ++ signed_text x)
+    → ((x : Signed) → is_line (make x) ≡ is_small (position_of x))
     → headed word signed_of make xs ≡ Some l → Spells l xs
 by_signed word make xs l spelt small e =
     let (x, m, p) = headed-some word signed_of make xs l e in
@@ -229,7 +235,8 @@ any-spells xs l e =
 -- a line that is read is short, and the text is its words
 pub short_line-text : (xs : List ℕ) (l : Line) → short_line xs ≡ Some l → (is_short l ≡ true) × Spells l xs
 short_line-text xs l e = go (nat_le (length xs) 1048576) refl e where
-  go : (b : Bool) → nat_le (length xs) 1048576 ≡ b → cond b (any_line xs) None ≡ Some l → (is_short l ≡ true) × Spells l xs
+  go : (b : Bool) → nat_le (length xs) 1048576 ≡ b → cond b (any_line xs) None ≡ Some l
+      → (is_short l ≡ true) × Spells l xs
   go true h f =
       let spells = any-spells xs l f in
       (ap (λ ys. nat_le (length ys) 1048576) spells.text ∙ h, spells)

@@ -52,16 +52,22 @@ record Says (n : ℕ) (ds : List ℕ) (m : ℕ) : Type 0 where
   bound : m < 4294967296
 
 digits_from-says : (n : ℕ) (ds : List ℕ) (m : ℕ) → n < 4294967296 → digits_from n ds ≡ Some m → Says n ds m
-digits_from-says n [] m l e = record { digits = refl; value = cc; bound = let same : n ≡ m = cc in omega (arith, l, same) }
+digits_from-says n [] m l e =
+    record { digits = refl; value = cc; bound = let same : n ≡ m = cc in omega (arith, l, same) }
 digits_from-says n (d ∷ ds) m l e =
-    go (digits_from-says (n * 10 + (d - 48)) ds m) (is_ascii_digit d) refl (nat_lt (n * 10 + (d - 48)) 4294967296) refl e
+    go (digits_from-says (n * 10 + (d - 48)) ds m) (is_ascii_digit d) refl
+    (nat_lt (n * 10 + (d - 48)) 4294967296) refl e
   where
     go : (n * 10 + (d - 48) < 4294967296 → digits_from (n * 10 + (d - 48)) ds ≡ Some m → Says (n * 10 + (d - 48)) ds m)
         → (s : Bool) → is_ascii_digit d ≡ s → (t : Bool) → nat_lt (n * 10 + (d - 48)) 4294967296 ≡ t
         → cond (s && t) (digits_from (n * 10 + (d - 48)) ds) None ≡ Some m → Says n (d ∷ ds) m
     go next true p true q f =
         let more = next (ltb-true _ _ q) f in
-        record { digits = and_from (is_ascii_digit d) (all_ascii_digits ds) p more.digits; value = more.value; bound = more.bound }
+        record {
+          digits = and_from (is_ascii_digit d) (all_ascii_digits ds) p more.digits;
+          value = more.value;
+          bound = more.bound;
+        }
     go next true p false q f = cc
     go next false p t q f = cc
 
@@ -92,7 +98,8 @@ one-plain (d ∷ e ∷ ds) l h =
 
 decimal-plain : (n : ℕ) → n < 2 ^ 64 → is_plain (decimal n) ≡ true
 decimal-plain zero l = ap is_plain (decimal_digit 0 (omega arith))
-decimal-plain (suc n) l = one-plain (decimal (suc n)) (decimal_nonempty (suc n) l) (inr (first_decimal (suc n) (omega arith) l))
+decimal-plain (suc n) l = one-plain (decimal (suc n)) (decimal_nonempty (suc n) l)
+    (inr (first_decimal (suc n) (omega arith) l))
 
 -- both ways
 

@@ -130,7 +130,8 @@ pub after_word-text : (w xs r : List ℕ) → after_word w xs ≡ Some r → w +
 after_word-text [] xs r e = sym (cc)
 after_word-text (c ∷ w) [] r e = cc
 after_word-text (c ∷ w) (x ∷ xs) r e = go (after_word-text w xs r) (nat_eq x c) refl e where
-  go : (after_word w xs ≡ Some r → w ++ r ≡ xs) → (t : Bool) → nat_eq x c ≡ t → cond t (after_word w xs) None ≡ Some r → (c ∷ w) ++ r ≡ x ∷ xs
+  go : (after_word w xs ≡ Some r → w ++ r ≡ xs) → (t : Bool) → nat_eq x c ≡ t → cond t (after_word w xs) None ≡ Some r
+      → (c ∷ w) ++ r ≡ x ∷ xs
   go next true s f = ap (λ ys. c ∷ ys) (next f) ∙ ap (λ d. d ∷ xs) (sym (eqb-true x c s))
   go next false s f = cc
 
@@ -148,21 +149,24 @@ after_word-other : (w xs : List ℕ) → pointwise nat_eq (take (length w) xs) w
 after_word-other [] xs h = absurd (true≢false h)
 after_word-other (c ∷ w) [] h = refl
 after_word-other (c ∷ w) (x ∷ xs) h = go (after_word-other w xs) (nat_eq x c) h where
-  go : (pointwise nat_eq (take (length w) xs) w ≡ false → None ≡ after_word w xs) → (t : Bool) → (t && pointwise nat_eq (take (length w) xs) w) ≡ false
+  go : (pointwise nat_eq (take (length w) xs) w ≡ false → None ≡ after_word w xs) → (t : Bool)
+      → (t && pointwise nat_eq (take (length w) xs) w) ≡ false
       → None ≡ cond t (after_word w xs) None
   go next true f = next f
   go next false f = refl
 
 pub after_word-says : (w xs : List ℕ) (o : Option (Bor (List ℕ))) → MatchOption o
     (pointwise nat_eq (take (length w) xs) w ≡ false)
-    (λ r. (pointwise nat_eq (take (length w) xs) w ≡ true) × (r.now ≡ drop (length w) xs) × (length r.now + length w ≡ length xs))
+    (λ r. (pointwise nat_eq (take (length w) xs) w ≡ true) × (r.now ≡ drop (length w) xs)
+    × (length r.now + length w ≡ length xs))
     → option_map (λ r. r.now) o ≡ after_word w xs
 after_word-says w xs None h = after_word-other w xs h
 after_word-says w xs (Some r) h = ap Some h.1 ∙ after_word-same w xs h.0
 
 -- the pieces so far, and one more
 
-pub cut-preserved : (b : ℕ) (xs : List ℕ) (s i t : ℕ) (found more : List (Bor (List ℕ))) (x : Bor (List ℕ)) (all : List (List ℕ))
+pub cut-preserved : (b : ℕ) (xs : List ℕ) (s i t : ℕ) (found more : List (Bor (List ℕ))) (x : Bor (List ℕ))
+    (all : List (List ℕ))
     → i < length xs → get_or xs i 0 ≡ b → x.now ≡ between s i xs → more ≡ found ++ x ∷ [] → t ≡ i + 1
     → map (λ p. p.now) found ++ pieces_on b (between s i xs) (drop i xs) ≡ all
     → map (λ p. p.now) more ++ pieces_on b (between t (i + 1) xs) (drop (i + 1) xs) ≡ all

@@ -78,7 +78,9 @@ abbrev pub goal_line : List ℕ → Option Line
 goal_line xs = headed (codes "goal") list_of Goal xs
 
 abbrev pub any_line : List ℕ → Option Line
-any_line xs = or_else (bare_line xs) (or_else (counted_line xs) (or_else (signed_line xs) (or_else (kind_line xs) (goal_line xs))))
+any_line xs =
+    or_else (bare_line xs)
+    (or_else (counted_line xs) (or_else (signed_line xs) (or_else (kind_line xs) (goal_line xs))))
 
 -- the line of a text of at most 1048576 bytes
 abbrev pub short_line : List ℕ → Option Line

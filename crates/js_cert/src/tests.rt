@@ -1,6 +1,6 @@
 //! The text of a short certificate, texts that are nearly one, and what reading each gives.
 
-use crate::{CertLine, CertLines, Version, cert_text, read_lines};
+use crate::{CertLine, CertLines, Version, cert_text, read_lines, write_line};
 use js_algebra::{JsonKind, Pos, Signed, SignedList};
 use std::test::Fail;
 
@@ -19,6 +19,8 @@ fn text_of_a_certificate(rt: HostRuntime) -> Result<(), Fail> {
     let text = cert_text(alloc, &CertLines::from_vec(lines))?;
     let wanted = "certificate 1\ngoal +0 -12\nat string\nclash 7\nkind -3\nend\n";
     assert_eq!(rt; text.as_slice(), wanted.as_bytes());
+    let line = write_line(alloc, &CertLine::Rule(Signed::minus(Pos(4294967295))))?;
+    assert_eq!(rt; line.as_slice(), b"rule -4294967295\n".as_slice());
     Ok(())
 }
 

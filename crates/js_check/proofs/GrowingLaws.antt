@@ -53,7 +53,7 @@ has-set_of z xs = some-add_all (same_signed z) xs [] ∙ or-false (has z xs)
 pub set-with_members : (C xs : List G.Signed) → set_of (with_members C xs) ≡ add_all C (set_of xs)
 set-with_members C xs =
     rising-unique _ _ (rising-add_all (with_members C xs) [] refl)
-        (rising-add_all C (set_of xs) (rising-add_all xs [] refl))
+    (rising-add_all C (set_of xs) (rising-add_all xs [] refl))
     (λ z. has-set_of z (with_members C xs) ∙ has-with_members z C xs ∙ ap (λ b. has z C || b) (sym (has-set_of z xs))
     ∙ sym (some-add_all (same_signed z) C (set_of xs)))
 
@@ -127,7 +127,7 @@ one_in_table T b (p ∷ ps) zero d l e =
     sign_in_table T b p.0 (and_parts (nat_lt p.0 (length T)) (every (λ q. nat_lt q (length T)) (places ps)) e).0
 one_in_table T b (p ∷ ps) (suc i) d l e =
     one_in_table T b ps i d (omega (arith, l)) (and_parts (nat_lt p.0 (length T))
-        (every (λ q. nat_lt q (length T)) (places ps)) e).1
+    (every (λ q. nat_lt q (length T)) (places ps)) e).1
 
 -- the choices of a rule, one by one
 

@@ -71,8 +71,8 @@ module _ (xs : List Signed) (places : List ℕ) (indexed : IsIndexed xs places) 
         let (w, m, a, t) = at_place x h in
         let q : w ≡ y = a ∙ same_place xs _ w y l ∙ sym e in
         true≢false (sym (subst (λ v. same_signed (signed_view v) (signed_view x) ≡ true) q
-            (subst (λ z. same_signed (signed_view w) z ≡ true) (sym (same-true _ _ t)) (same-itself (signed_view w))))
-            ∙ s)))
+        (subst (λ z. same_signed (signed_view w) z ≡ true) (sym (same-true _ _ t)) (same-itself (signed_view w))))
+        ∙ s)))
 
   -- one more member has the next place
   pub indexed-push : (x : Signed) → has (signed_view x) (map signed_view xs) ≡ false
@@ -82,14 +82,18 @@ module _ (xs : List Signed) (places : List ℕ) (indexed : IsIndexed xs places) 
       ⊎_elim
       (λ m. let a : y ≡ get_or xs i y = e ∙ before m in
       let (r, p) = indexed i y m a in
-      let ne : order_of (signed_view y) ≢ order_of (signed_view x) = λ q. absurd (differs m a q) in
-      (rw length-set r, get_or-set_other places (order_of (signed_view x)) (order_of (signed_view y)) (length xs) 0 ne
-      ∙ p))
+      let ne : order_of (signed_view y) ≢ order_of (signed_view x) = λ q. absurd (differs m a q) in (
+        rw length-set r,
+        get_or-set_other places (order_of (signed_view x)) (order_of (signed_view y)) (length xs) 0 ne
+            ∙ p,
+      ))
       (λ m. let k : i ≡ length xs = omega (arith, l, m, length-append xs (x ∷ [])) in
-      let a : y ≡ x = e ∙ last k in
-      (rw (a, length-set) room, ap (λ n. get_or (set places (order_of (signed_view x)) (length xs)) n 0)
-      (ap (λ v. order_of (signed_view v)) a) ∙ get_or-set_same places (order_of (signed_view x)) (length xs) 0 room
-      ∙ sym k))
+      let a : y ≡ x = e ∙ last k in (
+        rw (a, length-set) room,
+        ap (λ n. get_or (set places (order_of (signed_view x)) (length xs)) n 0)
+            (ap (λ v. order_of (signed_view v)) a) ∙ get_or-set_same places (order_of (signed_view x)) (length xs) 0 room
+            ∙ sym k,
+      ))
       (cases_lt i (length xs))
     where
       before : i < length xs → get_or (xs ++ x ∷ []) i y ≡ get_or xs i y

@@ -23,30 +23,30 @@ module _ (T : List Position) (t : Kind) (goal : List G.Signed) (all : List Line)
     (before between : List Duty) (ok : Bool) (first : rest ≡ l ∷ ls)
     (settles : option_map (λ es. es ++ before) (after T (OfSet t S) l) ≡ cond ok (Some between) None)
     (left : (ds : List Duty) → do_duties T (OfSet t S ∷ (before ++ ds)) rest ≡ do_duties T (OfSet t goal ∷ ds) all)
-    where
-  step : (ds : List Duty) → do_duties T (OfSet t goal ∷ ds) all ≡ cond ok (do_duties T (between ++ ds) ls) false
-  step ds =
-      sym (left ds) ∙ ap (do_duties T (OfSet t S ∷ (before ++ ds))) first
-      ∙ goes_on (λ es. do_duties T es ls) before between ds (after T (OfSet t S) l) ok settles
+  where
+    step : (ds : List Duty) → do_duties T (OfSet t goal ∷ ds) all ≡ cond ok (do_duties T (between ++ ds) ls) false
+    step ds =
+        sym (left ds) ∙ ap (do_duties T (OfSet t S ∷ (before ++ ds))) first
+        ∙ goes_on (λ es. do_duties T es ls) before between ds (after T (OfSet t S) l) ok settles
 
-  settled : ok ≡ true → (ds : List Duty) → do_duties T (OfSet t goal ∷ ds) all ≡ do_duties T (between ++ ds) ls
-  settled e ds = step ds ∙ ap (λ b. cond b (do_duties T (between ++ ds) ls) false) e
+    settled : ok ≡ true → (ds : List Duty) → do_duties T (OfSet t goal ∷ ds) all ≡ do_duties T (between ++ ds) ls
+    settled e ds = step ds ∙ ap (λ b. cond b (do_duties T (between ++ ds) ls) false) e
 
-  -- the line breaks a rule
-  pub line-refused : ok ≡ false → (ds : List Duty) → do_duties T (OfSet t goal ∷ ds) all ≡ false
-  line-refused e ds = step ds ∙ ap (λ b. cond b (do_duties T (between ++ ds) ls) false) e
+    -- the line breaks a rule
+    pub line-refused : ok ≡ false → (ds : List Duty) → do_duties T (OfSet t goal ∷ ds) all ≡ false
+    line-refused e ds = step ds ∙ ap (λ b. cond b (do_duties T (between ++ ds) ls) false) e
 
-  -- after it no set is left
-  pub line-last : (d : Duty) (es : List Duty) (more : Bool) → ok ≡ true → between ≡ cond more (d ∷ es) [] → more ≡ false
-      → (ds : List Duty) → do_duties T (OfSet t goal ∷ ds) all ≡ do_duties T ds ls
-  line-last d es more e goes none ds =
-      settled e ds ∙ ap (λ fs. do_duties T (fs ++ ds) ls) (goes ∙ ap (λ b. cond b (d ∷ es) []) none)
+    -- after it no set is left
+    pub line-last : (d : Duty) (es : List Duty) (more : Bool) → ok ≡ true → between ≡ cond more (d ∷ es) [] → more ≡ false
+        → (ds : List Duty) → do_duties T (OfSet t goal ∷ ds) all ≡ do_duties T ds ls
+    line-last d es more e goes none ds =
+        settled e ds ∙ ap (λ fs. do_duties T (fs ++ ds) ls) (goes ∙ ap (λ b. cond b (d ∷ es) []) none)
 
-  -- after it comes the next set
-  pub line-next : (d : Duty) (es : List Duty) (more : Bool) → ok ≡ true → between ≡ cond more (d ∷ es) [] → more ≡ true
-      → (ds : List Duty) → do_duties T (d ∷ (es ++ ds)) ls ≡ do_duties T (OfSet t goal ∷ ds) all
-  line-next d es more e goes some ds =
-      sym (settled e ds ∙ ap (λ fs. do_duties T (fs ++ ds) ls) (goes ∙ ap (λ b. cond b (d ∷ es) []) some))
+    -- after it comes the next set
+    pub line-next : (d : Duty) (es : List Duty) (more : Bool) → ok ≡ true → between ≡ cond more (d ∷ es) [] → more ≡ true
+        → (ds : List Duty) → do_duties T (d ∷ (es ++ ds)) ls ≡ do_duties T (OfSet t goal ∷ ds) all
+    line-next d es more e goes some ds =
+        sym (settled e ds ∙ ap (λ fs. do_duties T (fs ++ ds) ls) (goes ∙ ap (λ b. cond b (d ∷ es) []) some))
 
 -- the next goal's lines
 pub goal-done : (T : List Position) (goals : List (List G.Signed)) (n : ℕ) (g : List G.Signed) (rest next : List Line)

@@ -38,7 +38,7 @@ pub listed-goal : (T : List Position) (l : Line) (xs h : List G.Signed) → l �
     → same_goal xs (Some h) ≡ true → form T xs ≡ Some h → Some h ≡ goal_line T l
 listed-goal T l xs h line inside same formed =
     ap Some (sym (same-equal xs h same)) ∙ sym (own (is_goal T xs)
-        (and_from (are_in_table T xs) _ inside (ap (same_goal xs) formed ∙ same)))
+    (and_from (are_in_table T xs) _ inside (ap (same_goal xs) formed ∙ same)))
     ∙ ap (goal_line T) (sym line)
   where
     own : (b : Bool) → b ≡ true → cond b (Some xs) None ≡ Some xs

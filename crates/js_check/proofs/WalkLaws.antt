@@ -1,5 +1,5 @@
 -- What a walk has left, after a line and after its next set.
-use Rattle.std.proofs.Common.{◌≡◌, ℕ, zero, suc, ◌+◌, ◌<◌, ◌≤◌, Bool, true, false, ◌&&◌, cond, nat_le, List, [], ◌∷◌, ◌++◌, map, take, drop, length, get_or, reverse, Option, Some, None, option_map, refl, arith, ap, ap₂, sym, ◌∙◌, subst}
+use Rattle.std.proofs.Common.{◌≡◌, ℕ, ◌+◌, ◌<◌, ◌≤◌, Bool, true, false, ◌&&◌, cond, nat_le, List, [], ◌∷◌, ◌++◌, take, drop, length, reverse, Option, Some, None, option_map, refl, arith, ap, ap₂, sym, ◌∙◌, subst}
 use Rattle.std.proofs.lemmas.Bool.{true≢false, and_parts, and_from, leb-true, le-leb}
 use Rattle.std.proofs.lemmas.List.{reverse-append, drop_more, take_all, take-take, length-take-le}
 use Rattle.std.proofs.Math.ListN.{drop_of_length-le}
@@ -42,7 +42,7 @@ module _ (T : List Position) (t : Kind) where
       ≡ Some (duties_left T t xs (reverse new))
   rule-settles xs x old new n count member some put =
       ap (λ b. option_map (λ ds. ds ++ duties_left T t xs (reverse old))
-          (by_rule t (set_of xs) b (choices T t (signed_view x))))
+      (by_rule t (set_of xs) b (choices T t (signed_view x))))
       (has-set_of (signed_view x) xs ∙ sym member)
       ∙ go (choices T t (signed_view x)) refl some
       ∙ ap (λ es. Some (duties_left T t xs es)) (sym (ap reverse put ∙ reverse-push old _))
@@ -143,12 +143,17 @@ module _ (T : List Position) (t : Kind) where
       kept : take e.members zs ≡ take e.members xs
       kept =
           ap (take e.members) all ∙ take-with_members e.members (choice_at T t (signed_view e.rule) e.next)
-              (take e.members xs) (omega (arith, length-back))
+          (take e.members xs) (omega (arith, length-back))
           ∙ take-take e.members e.members xs (omega arith)
 
       longer : e.members ≤ length zs
-      longer = omega (arith, length-back, length-with_members (choice_at T t (signed_view e.rule) e.next)
-          (take e.members xs), ap length all)
+      longer = omega (
+        arith,
+        length-back,
+        length-with_members (choice_at T t (signed_view e.rule) e.next)
+            (take e.members xs),
+        ap length all,
+      )
 
       new_turned : reverse new ≡ record { members = e.members; rule = e.rule; next = e.next + 1 } ∷ reverse es
       new_turned = ap reverse put ∙ reverse-push es _

@@ -1,12 +1,12 @@
 -- Lines that do some duties and leave the others.
-use Rattle.std.specs.Prelude.{◌≡◌, ℕ, List, [], ◌∷◌, ◌++◌, map, Bool, true, false, ◌&&◌, cond, nat_eq, Option, Some, None, option_map}
+use Rattle.std.specs.Prelude.{◌≡◌, ℕ, List, [], ◌∷◌, ◌++◌, map, Bool, true, false, ◌&&◌, cond, nat_eq, Option, Some, None}
 use Rattle.documents.specs.Kind.{Kind, same_kind}
 use Rattle.documents.specs.Tests.{every}
 use Rattle.positions.specs.Position.{Position}
 use Rattle.goals.specs.Signed.{Signed}
 use Rattle.js_algebra.specs.View.{are_in_table}
 use Rattle.certificates.specs.Line.{Line, Goal, Entry, At, End}
-use Rattle.certificates.specs.Good.{Duty, OfSet, OfKindOf, after, do_duties, is_goal, root_is_listed, entry_duties}
+use Rattle.certificates.specs.Good.{Duty, OfKindOf, do_duties, is_goal, root_is_listed, entry_duties}
 
 -- the lines that are left do the duties that are left
 abbrev pub rest_does : List Position → List Duty → Option (List Line) → Bool

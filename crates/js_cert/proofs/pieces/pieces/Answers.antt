@@ -15,7 +15,8 @@ loop-i-preserved c =
       }
       | else-byte-at w ↦ record {
         behind = omega (arith, w.start-is, c.loop-i.invariant.behind);
-        same = grown-preserved c.args.at c.args.text.now c.loop-i.start c.loop-i.i c.if-byte-at.start c.loop-i.found.items
+        same = grown-preserved c.args.at c.args.text.now c.loop-i.start c.loop-i.i c.if-byte-at.start
+            c.loop-i.found.items
             c.if-byte-at.found.items _ c.loop-i.invariant.behind c.loop-i-test.true w.if-byte-at.false
             (ap (λ v. v.items) w.found-is) w.start-is c.loop-i.invariant.same;
       }

@@ -7,5 +7,6 @@ use Rattle.js_cert.proofs.reading.all_lines.Given as goal
 
 abbrev pub invariant-loop-text : goal.invariant-loop-text
 invariant-loop-text l =
-    option_map (λ ls. map line_view l.lines.items ++ ls) (read_all short_line (map (λ text. text.now) (drop l.text-index l.texts)))
+    option_map (λ ls. map line_view l.lines.items ++ ls)
+    (read_all short_line (map (λ text. text.now) (drop l.text-index l.texts)))
     ≡ read_all short_line (map (λ text. text.now) l.texts)

@@ -23,7 +23,8 @@ returns-clause-refused c = elim c.in_default.branch [
   | in_default-via-in-Some+else-is_empty w ↦
       let cut = pieces-held c.args.bytes.now c.in_ok-parts.parts.items c.as_slice.result.now w.in-Some.lines.now
       w.in-Some.last.now c.in_ok-parts.ensures c.as_slice.ensures.value w.in-Some.ensures.cases.0 in
-      not_ended-says c.args.bytes.now w.in-Some.last.now.now (map (λ p. p.now) w.in-Some.lines.now) cut w.if-is_empty.ensures
+      not_ended-says c.args.bytes.now w.in-Some.last.now.now
+      (map (λ p. p.now) w.in-Some.lines.now) cut w.if-is_empty.ensures
   | in_default-via-in_default w ↦
       no_pieces-says c.args.bytes.now c.in_ok-parts.parts.items c.as_slice.result.now c.in_ok-parts.ensures
       c.as_slice.ensures.value w.in_default.ensures.cases

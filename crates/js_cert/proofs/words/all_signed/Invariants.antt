@@ -7,5 +7,6 @@ use Rattle.js_cert.proofs.words.all_signed.Given as goal
 
 abbrev pub invariant-loop-word : goal.invariant-loop-word
 invariant-loop-word l =
-    option_map (λ xs. map signed_view l.list.items ++ xs) (read_all signed_of (map (λ word. word.now) (drop l.word-index l.words)))
+    option_map (λ xs. map signed_view l.list.items ++ xs)
+    (read_all signed_of (map (λ word. word.now) (drop l.word-index l.words)))
     ≡ read_all signed_of (map (λ word. word.now) l.words)

@@ -17,7 +17,7 @@ returns-then-not-branch-2-clause-does c =
     let i = c.loop-i.i in
     λ ds.
     line-last T t c.args.goal.now (map line_view lines) (set_of c.loop-i.walk.set.members)
-        (line_view c.index-lines-i.result)
+    (line_view c.index-lines-i.result)
     (map line_view (drop i lines)) (map line_view (drop (i + 1) lines)) (duties_after T t c.loop-i.walk)
     (duties_after T t c.settle.new.self) c.in_ok-settle.field-0
     (ap (map line_view) (drop_more lines i c.index-lines-i.result c.loop-i-test.true

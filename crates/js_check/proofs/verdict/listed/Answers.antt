@@ -23,7 +23,7 @@ pub loop-i-preserved : goal.loop-i-preserved
 loop-i-preserved c = record {
   left = λ root.
       ap (λ gs. judge_goals c.args.core.now.positions root (c.args.count - (c.loop-i.i + 1)) gs
-          (map line_view c.in-Some.next.now)) c.in_ok-push.ensures.items
+      (map line_view c.in-Some.next.now)) c.in_ok-push.ensures.items
       ∙ next-goal c.args.core.now.positions root c.loop-i.goals.items (c.args.count - c.loop-i.i)
       (c.args.count - (c.loop-i.i + 1))
       (line_view c.in-Some.line.now) (map line_view c.loop-i.rest.now)

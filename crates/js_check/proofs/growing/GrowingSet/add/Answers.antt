@@ -21,8 +21,8 @@ pushed xs ys places x i n indexed new room e a b =
 pub invariant_of-self-2 : goal.invariant_of-self-2
 invariant_of-self-2 c =
     let room : order_of (signed_view c.args.x) < length c.self.inside.places.items =
-        omega (arith, ap (λ t. t.room) c.self.view_is, c.requires) in
+    omega (arith, ap (λ t. t.room) c.self.view_is, c.requires) in
     pushed c.self.inside.members.items c.push.new.self.items c.self.inside.places.items c.args.x c.order.result
-        c.len-place.result c.self.invariant
+    c.len-place.result c.self.invariant
     (ap (λ t. has (signed_view c.args.x) t.members) c.self.view_is ∙ sym c.if-has.ensures) room
     c.in_ok-push.ensures.items c.order.ensures.value (omega (arith, c.len-place.ensures))

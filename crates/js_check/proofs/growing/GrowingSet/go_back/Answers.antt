@@ -7,4 +7,4 @@ use Rattle.js_check.proofs.growing.GrowingSet.go_back.Goals as goal
 pub returns-clause-members : goal.returns-clause-members
 returns-clause-members c =
     ap (map signed_view) c.truncate.ensures.items ∙ map-take c.args.len c.self.inside.members.items
-        ∙ ap (λ t. take c.args.len t.members) c.self.view_is
+    ∙ ap (λ t. take c.args.len t.members) c.self.view_is

@@ -22,7 +22,7 @@ inside : (xs : List Signed) (places : List ℕ) (p : ℕ) (x y : Signed) (b : Bo
     → b ≡ has (signed_view x) (map signed_view xs)
 inside xs places p x y b indexed e l a t =
     t ∙ same_fields y.plus x.plus y.pos.0 x.pos.0 ∙ has_there xs places indexed x y (omega (arith, e, l))
-        (a ∙ ap (λ i. get_or xs i y) e)
+    (a ∙ ap (λ i. get_or xs i y) e)
 
 beyond : (xs : List Signed) (places : List ℕ) (p n : ℕ) (x : Signed) → IsIndexed xs places
     → p ≡ get_or places (order_of (signed_view x)) 0
@@ -32,26 +32,26 @@ beyond xs places p n x indexed e k l = le-ltb p n l ∙ has_beyond xs places ind
 pub returns-then-number-len : goal.returns-then-number-len
 returns-then-number-len c =
     has_no_room c.self.inside.members.items c.self.inside.places.items c.self.invariant c.args.x
-        (omega (arith, c.len.ensures, c.order-number.ensures.value))
+    (omega (arith, c.len.ensures, c.order-number.ensures.value))
     ∙ ap (λ t. has (signed_view c.args.x) t.members) c.self.view_is
 
 pub returns-then-place-len : goal.returns-then-place-len
 returns-then-place-len c =
     let room : order_of (signed_view c.args.x) < length c.self.inside.places.items =
-        omega (arith, c.len.ensures, c.order-number.ensures.value) in
+    omega (arith, c.len.ensures, c.order-number.ensures.value) in
     let p = place_read c.self.inside.places.items _ _
-        (order_of (signed_view c.args.x)) c.index-place.ensures c.order-number.ensures.value room in
+    (order_of (signed_view c.args.x)) c.index-place.ensures c.order-number.ensures.value room in
     inside c.self.inside.members.items c.self.inside.places.items c.index-place.result.now c.args.x c.index.result.now
-        c.eq.result c.self.invariant p
+    c.eq.result c.self.invariant p
     (omega (arith, c.len-2.ensures)) c.index.ensures c.eq.ensures
     ∙ ap (λ t. has (signed_view c.args.x) t.members) c.self.view_is
 
 pub returns-else-place-len : goal.returns-else-place-len
 returns-else-place-len c =
     let room : order_of (signed_view c.args.x) < length c.self.inside.places.items =
-        omega (arith, c.len.ensures, c.order-number.ensures.value) in
+    omega (arith, c.len.ensures, c.order-number.ensures.value) in
     let p = place_read c.self.inside.places.items _ _
-        (order_of (signed_view c.args.x)) c.index-place.ensures c.order-number.ensures.value room in
+    (order_of (signed_view c.args.x)) c.index-place.ensures c.order-number.ensures.value room in
     beyond c.self.inside.members.items c.self.inside.places.items c.index-place.result.now c.len-2.result c.args.x
-        c.self.invariant p (omega (arith, c.len-2.ensures)) c.if-place-len.false
+    c.self.invariant p (omega (arith, c.len-2.ensures)) c.if-place-len.false
     ∙ ap (λ t. has (signed_view c.args.x) t.members) c.self.view_is

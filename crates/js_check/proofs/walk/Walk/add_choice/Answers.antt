@@ -24,9 +24,9 @@ add-requires c =
     let l = length_apart c.in-Apart.plus c.in-Apart.positions.now _ c.in-Apart.ensures.choices in
     let m : c.args.index < length c.in-Apart.positions.now = omega (arith, l, c.requires.index) in
     let inside = one_in_table c.args.core.now.positions c.in-Apart.plus c.in-Apart.positions.now c.args.index nowhere
-        m c.in-Apart.ensures.named in
+    m c.in-Apart.ensures.named in
     let room = has_room c.args.core.now.positions (with_sign c.in-Apart.plus
-        (get_or c.in-Apart.positions.now c.args.index nowhere).0) inside in
+    (get_or c.in-Apart.positions.now c.args.index nowhere).0) inside in
     omega (arith, room, c.requires.room)
 
 pub returns-in-Together-clause-in_table : goal.returns-in-Together-clause-in_table
@@ -39,7 +39,7 @@ returns-in-Together-clause-in_table c =
 pub returns-in-Apart-clause-members : goal.returns-in-Apart-clause-members
 returns-in-Apart-clause-members c =
     rw (choice_apart c.in-Apart.plus c.in-Apart.positions.now _ c.args.index nowhere c.in-Apart.ensures.choices
-        c.requires.index)
+    c.requires.index)
     c.add.ensures.members
 
 pub returns-in-Apart-clause-in_table : goal.returns-in-Apart-clause-in_table

@@ -52,6 +52,6 @@ loop-last-preserved c =
           none_left T (kind_view c.args.kind) c.loop-last.self.set.members c.pop.new.self.items
           c.loop-last.self.pending.items c.in-Some.last c.in-Some.ensures.items c.loop-last.invariant.ready.fine
           c.go_back.new.self.members c.go_back.ensures.members
-              (omega (arith, c.choice_count.ensures, c.if-last-choice_count.false))
+          (omega (arith, c.choice_count.ensures, c.if-last-choice_count.false))
           ∙ c.loop-last.invariant.left;
     }

@@ -10,7 +10,7 @@ use Rattle.js_check.proofs.walk.Walk.begin.Goals as goal
 pub returns-clause-set : goal.returns-clause-set
 returns-clause-set c =
     first_set c.args.goal.now c.add_all.new.self.members c.go_back.new.self.members
-        (map signed_view c.as_slice.result.now)
+    (map signed_view c.as_slice.result.now)
     c.as_slice.ensures.rising c.in_ok-add_all.ensures.members c.go_back.ensures.members c.as_slice.ensures.list
 
 pub returns-clause-ready : goal.returns-clause-ready
@@ -20,7 +20,7 @@ returns-clause-ready c =
       room = c.in_ok-add_all.ensures.room ∙ c.go_back.ensures.room ∙ c.requires.room;
       in_table =
           ap (are_in_table T) (c.in_ok-add_all.ensures.members
-              ∙ ap (with_members (map signed_view c.as_slice.result.now)) c.go_back.ensures.members
+          ∙ ap (with_members (map signed_view c.as_slice.result.now)) c.go_back.ensures.members
           ∙ ap (λ C. with_members C []) c.as_slice.ensures.list)
           ∙ members_in_table T c.args.goal.now [] 0 c.requires.in_table refl;
       fine = ap (λ es. are_fine T (length c.add_all.new.self.members) (reverse es)) c.clear.ensures.items;
