@@ -1,6 +1,5 @@
 -- The certificate that is written from the trees of a goal is in the grammar: its numbers are positions of the table,
--- and
--- a goal formed from two positions has a short line.
+-- and a goal formed from two positions has a short line.
 use Rattle.std.proofs.Common.{◌≡◌, ℕ, ◌*◌, ◌<◌, ◌≤◌, Bool, true, false, List, [], ◌∷◌, map, flat_map, length, cond, nat_lt, Option, Some, None, IfSome, refl, ◌∙◌, subst, arith}
 use Rattle.std.specs.Fmt.{decimal}
 use Rattle.std.specs.List.{AllByRecursion}
@@ -21,7 +20,7 @@ use Rattle.goal_laws.proofs.Rules.{AreNames, choices-names}
 use Rattle.goal_laws.proofs.Steps.{Told, EachChoice, steps-induction}
 use Rattle.goal_laws.proofs.Forms.{form-inside}
 use Rattle.certificates.specs.Line as L
-use Rattle.certificates.specs.Line.{Line, Version, Goals, Goal, Entry, At, End, signed_text, signed_list_text, words_text, is_small, is_line, is_short, lines_text, IsText}
+use Rattle.certificates.specs.Line.{Line, Version, Goals, Goal, Entry, At, End, signed_text, signed_list_text, words_text, is_small, is_line, is_short, lines_text, IsText, longest_line}
 use Rattle.certificates.specs.TreeLines.{line_of, tree_lines, written}
 
 -- a line within the format's bounds
@@ -37,8 +36,8 @@ signed-length : (x : Signed) → position_of x < 4294967296 → length (signed_t
 signed-length (Plus p) l = omega (arith, decimal-length p l)
 signed-length (Minus p) l = omega (arith, decimal-length p l)
 
-short : (l : Line) → length (words_text l) ≤ 1048576 → is_short l ≡ true
-short l h = le-leb _ 1048576 h
+short : (l : Line) → length (words_text l) ≤ longest_line → is_short l ≡ true
+short l h = le-leb _ longest_line h
 
 signed_list-length : (xs : List Signed) → AllByRecursion (λ x. position_of x < 4294967296) xs
     → length (signed_list_text xs) ≤ 12 * length xs

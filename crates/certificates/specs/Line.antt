@@ -65,9 +65,12 @@ is_line (Clash p) = is_small p
 is_line (OfKind x) = is_small (position_of x)
 is_line _ = true
 
--- without its line feed a line has at most 1048576 bytes
+-- the most bytes of a line, without its line feed
+abbrev pub longest_line : ℕ
+longest_line = 1048576
+
 abbrev pub is_short : Line → Bool
-is_short l = nat_le (length (words_text l)) 1048576
+is_short l = nat_le (length (words_text l)) longest_line
 
 -- the bytes are in the grammar, as the text of these lines: each line has one spelling
 pub record IsText (bytes : List ℕ) (ls : List Line) : Type 0 where

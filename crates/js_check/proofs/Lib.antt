@@ -1,6 +1,5 @@
-pub mod PieceLaws
-pub mod NumberLaws
-pub mod LineLaws
-pub mod TextLaws
-pub mod SetLaws
+pub mod Indexed
+pub mod GrowingLaws
+pub mod WalkLaws
+pub mod TreeLaws
 pub mod VerdictLaws

@@ -37,7 +37,8 @@ same-equal (x ∷ g) (y ∷ h) e =
 pub listed-goal : (T : List Position) (l : Line) (xs h : List G.Signed) → l ≡ Goal xs → are_in_table T xs ≡ true
     → same_goal xs (Some h) ≡ true → form T xs ≡ Some h → Some h ≡ goal_line T l
 listed-goal T l xs h line inside same formed =
-    ap Some (sym (same-equal xs h same)) ∙ sym (own (is_goal T xs) (and_from (are_in_table T xs) _ inside (ap (same_goal xs) formed ∙ same)))
+    ap Some (sym (same-equal xs h same)) ∙ sym (own (is_goal T xs)
+    (and_from (are_in_table T xs) _ inside (ap (same_goal xs) formed ∙ same)))
     ∙ ap (goal_line T) (sym line)
   where
     own : (b : Bool) → b ≡ true → cond b (Some xs) None ≡ Some xs
@@ -59,7 +60,8 @@ module _ (T : List Position) (root : Option (List G.Signed)) (gs : List (List G.
       → judge_goals T root n gs rest ≡ false
   no-goal zero l rest ls s e none = absurd (omega (arith, s))
   no-goal (suc n) l rest ls s e none = ap (judge_goals T root (suc n) gs) e ∙ at_line l none where
-    refused : (g : List G.Signed) (b : Bool) → cond b (Some g) None ≡ None → (b && judge_goals T root n (gs ++ g ∷ []) ls) ≡ false
+    refused : (g : List G.Signed) (b : Bool) → cond b (Some g) None ≡ None
+        → (b && judge_goals T root n (gs ++ g ∷ []) ls) ≡ false
     refused g true h = cc
     refused g false h = refl
 
@@ -74,7 +76,8 @@ module _ (T : List Position) (root : Option (List G.Signed)) (gs : List (List G.
     at_line (OfKind x) h = refl
     at_line End h = refl
 
-  pub next-goal : (n m : ℕ) (l : Line) (rest ls : List Line) (g : List G.Signed) → n ≡ suc m → rest ≡ l ∷ ls → goal_line T l ≡ Some g
+  pub next-goal : (n m : ℕ) (l : Line) (rest ls : List Line) (g : List G.Signed) → n ≡ suc m → rest ≡ l ∷ ls
+      → goal_line T l ≡ Some g
       → judge_goals T root m (gs ++ g ∷ []) ls ≡ judge_goals T root n gs rest
   next-goal n m l rest ls g count e some =
       at_line l some ∙ (λ i. judge_goals T root (sym count i) gs (sym e i))
@@ -84,7 +87,8 @@ module _ (T : List Position) (root : Option (List G.Signed)) (gs : List (List G.
       taken h true k = let same : h ≡ g = cc in ap (λ f. judge_goals T root m (gs ++ f ∷ []) ls) (sym same)
       taken h false k = cc
 
-      at_line : (l : Line) → goal_line T l ≡ Some g → judge_goals T root m (gs ++ g ∷ []) ls ≡ judge_goals T root (suc m) gs (l ∷ ls)
+      at_line : (l : Line) → goal_line T l ≡ Some g
+          → judge_goals T root m (gs ++ g ∷ []) ls ≡ judge_goals T root (suc m) gs (l ∷ ls)
       at_line (Goal h) k = taken h (is_goal T h) k
       at_line Version k = cc
       at_line (Goals a) k = cc
@@ -122,7 +126,8 @@ done T (Clash p ∷ ls) = refl
 done T (OfKind x ∷ ls) = refl
 
 -- the verdict is what is left to say after the last tree
-pub verdict-rest : (T : List Position) (root : Option (List G.Signed)) (gs : List (List G.Signed)) (verdict : Bool) (ls : List Line)
+pub verdict-rest : (T : List Position) (root : Option (List G.Signed)) (gs : List (List G.Signed)) (verdict : Bool)
+    (ls : List Line)
     (o : Option (List Line)) → verdict ≡ (root_is_listed root gs && do_duties T (entry_duties 0 gs) ls)
     → true ≡ root_is_listed root gs → Does T (entry_duties 0 gs) ls o → rest_does T [] o ≡ verdict
 verdict-rest T root gs verdict ls o e listed does =

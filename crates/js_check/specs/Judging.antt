@@ -1,17 +1,12 @@
--- Sets that are still to be shown dead at a kind, and lines that do some duties and leave the others.
-use Rattle.std.specs.Prelude.{◌≡◌, ℕ, List, [], ◌∷◌, ◌++◌, map, Bool, true, false, ◌&&◌, cond, nat_eq, Option, Some, None, option_map}
+-- Lines that do some duties and leave the others.
+use Rattle.std.specs.Prelude.{◌≡◌, ℕ, List, [], ◌∷◌, ◌++◌, map, Bool, true, false, ◌&&◌, cond, nat_eq, Option, Some, None}
 use Rattle.documents.specs.Kind.{Kind, same_kind}
 use Rattle.documents.specs.Tests.{every}
 use Rattle.positions.specs.Position.{Position}
 use Rattle.goals.specs.Signed.{Signed}
 use Rattle.js_algebra.specs.View.{are_in_table}
 use Rattle.certificates.specs.Line.{Line, Goal, Entry, At, End}
-use Rattle.certificates.specs.Good.{Duty, OfSet, OfKindOf, after, do_duties, is_goal, root_is_listed, entry_duties}
-
--- a duty for each set, the last set first, and then the others
-abbrev pub stacked : Kind → List (List Signed) → List Duty → List Duty
-stacked t [] ds = ds
-stacked t (S ∷ Ss) ds = stacked t Ss (OfSet t S ∷ ds)
+use Rattle.certificates.specs.Good.{Duty, OfKindOf, do_duties, is_goal, root_is_listed, entry_duties}
 
 -- the lines that are left do the duties that are left
 abbrev pub rest_does : List Position → List Duty → Option (List Line) → Bool
@@ -21,11 +16,6 @@ rest_does T ds (Some ls) = do_duties T ds ls
 -- the first lines do these duties, whatever is to be done after them, and those are left
 abbrev pub Does : List Position → List Duty → List Line → Option (List Line) → Type 0
 Does T es ls rest = (ds : List Duty) → do_duties T (es ++ ds) ls ≡ rest_does T ds rest
-
--- a line for a set leaves the new sets in place of the old ones, or breaks a rule
-abbrev pub Settles : List Position → Kind → List Signed → Line → List (List Signed) → List (List Signed) → Bool → Type 0
-Settles T t S l old new ok = (ds : List Duty)
-    → option_map (λ es. es ++ stacked t old ds) (after T (OfSet t S) l) ≡ cond ok (Some (stacked t new ds)) None
 
 -- every position of the sets is in the table
 abbrev pub sets_in_table : List Position → List (List Signed) → Bool

@@ -1,6 +1,5 @@
--- What a reader must believe: `Text.HasNoLines`, beside the text of lines in `certificates`. The others say how the
--- reader comes to its answer, and no public clause cites them.
-pub mod Text
-pub mod Pieces
-pub mod Reading
+-- What a reader must believe stands in `certificates`. These say how the judge comes to its answer; no public clause
+-- cites them.
+pub mod Growing
+pub mod Walking
 pub mod Judging

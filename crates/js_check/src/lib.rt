@@ -1,18 +1,14 @@
-//! Certificates read from bytes, and judged: a checker that knows nothing of the search and of its trees.
+//! Certificates judged: a checker that knows nothing of the search and of its trees.
 //!
-//! Bytes are the text of at most one list of lines, and reading finds it; lines are a good certificate or not, and
-//! judging says which. Reading is linear in the bytes. Judging keeps a copy of the set for each choice of a rule that is
-//! still to be shown dead. Nothing recurses.
+//! Lines are a good certificate or not, and judging says which. A line costs what it adds to the set at hand, so judging is
+//! linear in the lines with the members that their rules name. Nothing recurses.
 #![tactic(auto)]
 
-mod lines;
-mod pieces;
-mod sets;
+mod growing;
 mod trees;
 mod verdict;
-mod words;
+mod walk;
 
-pub use lines::read_lines;
 pub use verdict::judge;
 
 #[cfg(test)]

@@ -1,10 +1,10 @@
-//! The certificate of a small inclusion, texts that are nearly one, and what reading each gives.
+//! The certificate of a small inclusion, and what judging it gives.
 
 ghost use Rattle.std.specs.Prelude.{◌≡◌, IfOk, length};
 
-use crate::{judge, read_lines};
+use crate::judge;
 use js_algebra::{Core, JsonKind, KindList, Node, NodeList, Pos, PosList, RankList};
-use js_cert::cert_text;
+use js_cert::read_lines;
 use std::alloc::Global;
 use std::test::Fail;
 
@@ -34,39 +34,6 @@ rule +0
 kind +1
 end
 ";
-
-#[test]
-fn texts_and_their_lines(rt: HostRuntime) -> Result<(), Fail> {
-    let alloc = rt.alloc();
-    for text in [WHOLE, "", "goal\n", "goals 4294967295\n", "clash 0\nend\n"] {
-        let lines = read_lines(alloc, text.as_bytes())?.ok_or(text)?;
-        assert_eq!(rt; cert_text(alloc, &lines)?.as_slice(), text.as_bytes());
-    }
-    for text in [
-        "end",
-        "\n",
-        "end\n\n",
-        "end\r\n",
-        "goals 01\n",
-        "goals 4294967296\n",
-        "goals  1\n",
-        "goals \n",
-        "goal \n",
-        "goal +1 \n",
-        "goal  +1\n",
-        "rule 1\n",
-        "at text\n",
-        "certificate 2\n",
-        "kind -\n",
-        "clash +1\n",
-        "entry 1 2\n",
-    ] {
-        assert!(rt; read_lines(alloc, text.as_bytes())?.is_none(), "{text:?}");
-    }
-    let cut = &WHOLE.as_bytes()[..40];
-    assert!(rt; read_lines(alloc, cut)?.is_none());
-    Ok(())
-}
 
 /// `{"type":"string"}` at 0 and `{"type":["string","null"]}` at 2.
 fn table(alloc: Global) -> Result<Core, Fail>

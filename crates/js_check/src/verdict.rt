@@ -24,6 +24,7 @@ ghost use Rattle.js_cert.specs.View.{line_view};
 ghost use Rattle.js_check.specs.Judging.{goal_line, sets_in_table, listed_says, ends_alone, rest_of};
 
 use crate::trees::entries;
+use crate::walk::Walk;
 use js_algebra::{Core, Goal, Pos, Signed, contains, form};
 use js_cert::{CertLine, CertLines};
 use js_doc::Memory;
@@ -60,7 +61,8 @@ fn judge_goals(
     if !root_is_listed(root, goals.as_slice()) {
         return Ok(false);
     }
-    match entries(alloc, core, goals.as_slice(), rest)? {
+    let mut walk = Walk::new(alloc, core)?;
+    match entries(core, &mut walk, goals.as_slice(), rest)? {
         Some(last) => Ok(ends_alone(last)),
         None => Ok(false),
     }

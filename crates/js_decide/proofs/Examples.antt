@@ -43,9 +43,8 @@ no_null_in_nothing : verdict negation 0 2 ≡ Document Boolean
 unfolding negation follow steps
 no_null_in_nothing = refl
 
--- each of two kinds in one of them, where the second choice is closed: {"anyOf":[{"type":"null"},{"type":"array"}]} at
--- 0,
--- true at 3
+-- each of two kinds in one of them, where at array the first choice is closed:
+-- {"anyOf":[{"type":"null"},{"type":"array"}]} at 0, true at 3
 choice : List Position
 choice = Any (1 ∷ 2 ∷ []) ∷ Types (Null ∷ []) ∷ Types (Array ∷ []) ∷ True ∷ []
 

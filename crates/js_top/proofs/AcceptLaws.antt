@@ -10,7 +10,7 @@ use Rattle.certificates.specs.Good.{is_good}
 use Rattle.certificate_laws.proofs.GoodSound.{is_good-holds}
 use Rattle.js_algebra.specs.View.{Table}
 use Rattle.js_forms.specs.Table.{table_of}
-use Rattle.js_check.proofs.TextLaws.{one-text}
+use Rattle.js_cert.proofs.TextLaws.{one-text}
 use Rattle.js_top.specs.Reading.{Read, reading}
 use Rattle.js_top.specs.Meaning.{IsGoodText}
 use Rattle.js_top.specs.Loading.{IsTableOf}

@@ -12,7 +12,8 @@ use Rattle.js_decide.specs.Verdict.{Verdict, Document, Limit, Certificate, verdi
 use Rattle.js_top.specs.Command.{command}
 use Rattle.js_top.specs.Reading.{Reading, Refused, Read, of_fault, of_value, reading, IsSchema}
 use Rattle.js_top.specs.Report.{Report, printed, verdict_report, include_report, of_reading, of_file, of_command, AreFiles, IsReport}
-use Rattle.js_top.specs.Meaning.{AreSchemas, WhereTold, PassesLimit, Settles, IsRefusal, IsSecondRefusal, IsFirstRefusal}
+use Rattle.js_top.specs.Meaning.{AreSchemas, WhereTold, PassesLimit, IsCertificate, Settles, IsRefusal, IsSecondRefusal, IsFirstRefusal}
+use Rattle.js_top.specs.Accepting.{IsAcceptedFor}
 use Rattle.js_top.specs.Preparing.{report_of, PreparedSays}
 use Rattle.js_top.specs.declared.prepare.Prepared.{Prepared}
 use Rattle.js_top.specs.declared.prepare.Prepared.TheVariants.{Usage, Unread, Made}
@@ -169,6 +170,30 @@ module _ (told : Option Files) (words : List (List ℕ)) (before after : ℕ) (p
       means told words text status
       (prepared-report told words before after p text status says t e
       (λ h. let wrong = sym answers ∙ ap is_verdict h in cc)) answers
+
+-- and where it is a certificate, it is accepted for the bytes of the files
+pub means-accepted : (told : Option Files) (words : List (List ℕ)) (text : List ℕ)
+    → (a : Json) × (b : Json) × AreSchemas told words a b × IsCertificate a b text → IsAcceptedFor told words text
+means-accepted told words text (a, b, s, is) =
+    record {
+      first = s.first;
+      second = s.second;
+      named = s.named;
+      files = s.files;
+      later = s.later;
+      are_files = s.are_files;
+      a = s.is_first.bytes;
+      b = s.is_second.bytes;
+      told_first = s.is_first.told;
+      told_second = s.is_second.told;
+      accepted = record {
+        first = a;
+        second = b;
+        is_first = s.is_first.read;
+        is_second = s.is_second.read;
+        good = is.good;
+      };
+    }
 
 -- the report that was begun to be written: that of a failed read, or that of files
 pub prepared-part : (told : Option Files) (words : List (List ℕ)) (before after : ℕ) (p : Prepared)

@@ -205,16 +205,6 @@ module _ (a b : Json) where
             (certificate ls text h sound_a sound_b (ap (λ r. r.text) e))
         go (Limit g) h e = subst (λ s. OfStatus s text) (ap (λ r. r.status) e) (limited g text h (ap (λ r. r.text) e))
 
-  pub include_report-settles : (text : List ℕ) (status : Status) → first_fault a ≡ None → first_fault b ≡ None
-      → include_report a b ≡ record { text = text; status = status } → Settles a b text
-  include_report-settles text status sound_a sound_b e =
-      go (verdict (joined (table_of a) (table_of b)) 0 (length (table_of a))) refl e where
-        go : (v : Verdict) → verdict (joined (table_of a) (table_of b)) 0 (length (table_of a)) ≡ v
-            → verdict_report v ≡ record { text = text; status = status } → Settles a b text
-        go (OfKind t) h e = inl (counterexample t text h (ap (λ r. r.text) e))
-        go (Certificate ls) h e = inr (inl (certificate ls text h sound_a sound_b (ap (λ r. r.text) e)))
-        go (Limit g) h e = inr (inr (limited g text h (ap (λ r. r.text) e)))
-
 -- where none passes a test there is no first
 first-absent : (p : Kind → Bool) (ts : List Kind) → some p ts ≡ false → first p ts ≡ None
 first-absent p [] e = refl
@@ -232,3 +222,22 @@ passes-report a b x =
     (first-absent (is_open (joined (table_of a) (table_of b)) x.goal) all_kinds x.none_open)
     ∙ ap (λ c. (verdict_report (cond c (Limit x.goal)
     (Certificate (written (joined (table_of a) (table_of b)) (Some x.goal))))).status) x.over
+
+-- the report of two schemas settles their question
+module _ (a b : Json) where
+  unpassed : (v : Verdict) → verdict (joined (table_of a) (table_of b)) 0 (length (table_of a)) ≡ v
+      → ((verdict_report v).status ≡ S.Limit → ⊥) → PassesLimit a b → ⊥
+  unpassed v h other x = other (ap (λ w. (verdict_report w).status) (sym h) ∙ passes-report a b x)
+
+  pub include_report-settles : (text : List ℕ) (status : Status) → first_fault a ≡ None → first_fault b ≡ None
+      → include_report a b ≡ record { text = text; status = status } → Settles a b text
+  include_report-settles text status sound_a sound_b e =
+      go (verdict (joined (table_of a) (table_of b)) 0 (length (table_of a))) refl e where
+        go : (v : Verdict) → verdict (joined (table_of a) (table_of b)) 0 (length (table_of a)) ≡ v
+            → verdict_report v ≡ record { text = text; status = status } → Settles a b text
+        go (OfKind t) h e =
+            inr (unpassed (OfKind t) h (λ w. cc), inl (counterexample a b t text h (ap (λ r. r.text) e)))
+        go (Certificate ls) h e =
+            inr (unpassed (Certificate ls) h (λ w. cc),
+                inr (certificate a b ls text h sound_a sound_b (ap (λ r. r.text) e)))
+        go (Limit g) h e = inl (limited a b g text h (ap (λ r. r.text) e))

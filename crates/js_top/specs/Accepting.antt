@@ -1,9 +1,12 @@
 -- When a certificate is accepted, from the bytes of both schema files and its own.
-use Rattle.std.specs.Prelude.{◌≡◌, ℕ, List, Option, Some, None}
+use Rattle.std.specs.Prelude.{◌≡◌, ℕ, List, Option, Some, None, encode_utf8_all}
 use Rattle.documents.specs.Json.{Json}
 use Rattle.validity.specs.Validity.{Included}
 use Rattle.js_algebra.specs.View.{Table}
+use Rattle.js_outside.specs.Told.{Files}
+use Rattle.js_top.specs.Command.{command}
 use Rattle.js_top.specs.Reading.{Read, reading}
+use Rattle.js_top.specs.Report.{AreFiles}
 use Rattle.js_top.specs.Meaning.{IsGoodText}
 use Rattle.js_top.specs.Loading.{IsTableOf}
 
@@ -18,6 +21,20 @@ pub record IsAccepted (a b certificate : List ℕ) : Type 0 where
 -- every document with whole numbers that is valid for the schema of the bytes `a` is valid for that of `b`
 abbrev pub AreIncluded : List ℕ → List ℕ → Type 0
 AreIncluded a b = (x y : Json) → reading a ≡ Read x → reading b ≡ Read y → Included x y
+
+-- the words name two files, and for their bytes the text is accepted
+pub record IsAcceptedFor (told : Option Files) (words : List (List ℕ)) (text : List ℕ) : Type 0 where
+  pub first : List ℕ
+  pub second : List ℕ
+  pub named : command words ≡ Some (first, second)
+  pub files : Files
+  pub later : Files
+  pub are_files : AreFiles told files later
+  pub a : List ℕ
+  pub b : List ℕ
+  pub told_first : files (encode_utf8_all first) ≡ Some a
+  pub told_second : later (encode_utf8_all second) ≡ Some b
+  pub accepted : IsAccepted a b text
 
 -- the table of the schema of the bytes, where they are one that is read
 abbrev pub IsTableFrom : List ℕ → Option Table → Type 0

@@ -69,10 +69,6 @@ pub record IsLimit (a b : Json) (text : List ℕ) : Type 0 where
   pub over : some (is_over (joined (table_of a) (table_of b)) goal) all_kinds ≡ true
   pub none_open : some (is_open (joined (table_of a) (table_of b)) goal) all_kinds ≡ false
 
--- what settles the question of two schemas: a document, a certificate, or the limit
-abbrev pub Settles : Json → Json → List ℕ → Type 0
-Settles a b text = IsCounterexample a b text ⊎ (IsCertificate a b text ⊎ IsLimit a b text)
-
 -- the words name two files, and both are schemas that are read, with these values
 pub record AreSchemas (told : Option Files) (words : List (List ℕ)) (a b : Json) : Type 0 where
   pub first : List ℕ
@@ -90,13 +86,16 @@ WhereTold None words P = Unit {0}
 WhereTold (Some files) words P = (a b : Json) → AreSchemas (Some files) words a b → P a b
 
 -- the trees of two schemas pass the limit: they form a goal, some kind's tree of it has more ends than are looked at,
--- and
--- no tree that is looked at has a branch
+-- and no tree that is looked at has a branch
 pub record PassesLimit (a b : Json) : Type 0 where
   pub goal : List Signed
   pub formed : form (joined (table_of a) (table_of b)) (Plus 0 ∷ Minus (length (table_of a)) ∷ []) ≡ Some goal
   pub over : some (is_over (joined (table_of a) (table_of b)) goal) all_kinds ≡ true
   pub none_open : some (is_open (joined (table_of a) (table_of b)) goal) all_kinds ≡ false
+
+-- what settles the question of two schemas: the limit where it is passed, and else a document or a certificate
+abbrev pub Settles : Json → Json → List ℕ → Type 0
+Settles a b text = IsLimit a b text ⊎ ((PassesLimit a b → ⊥) × (IsCounterexample a b text ⊎ IsCertificate a b text))
 
 -- the file of that name is refused, with this line
 pub record IsRefusal (files : List ℕ → Option (List ℕ)) (role name text : List ℕ) : Type 0 where

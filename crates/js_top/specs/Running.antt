@@ -7,6 +7,7 @@ use Rattle.js_outside.specs.Told.{Files}
 use Rattle.js_report.specs.Written.{AppendsPrefix}
 use Rattle.js_top.specs.Report.{Report, printed, IsReport}
 use Rattle.js_top.specs.Meaning.{AreSchemas, WhereTold, Settles, IsFirstRefusal}
+use Rattle.js_top.specs.Accepting.{IsAcceptedFor}
 use Rattle.js_top.specs.declared.status.Status.{Status}
 use Rattle.js_top.specs.declared.status.Status.TheVariants.{ReadFault}
 
@@ -30,6 +31,10 @@ abbrev pub WritesMeaning : Option Files → List (List ℕ) → Option (List ℕ
     → (Json → Json → List ℕ → Type 0) → Type 0
 WritesMeaning told words old new P =
     (text : List ℕ) × Appends old new text × ((a : Json) × (b : Json) × AreSchemas told words a b × P a b text)
+
+-- a text that is accepted as a certificate for the bytes of the two files
+abbrev pub WritesAccepted : Option Files → List (List ℕ) → Option (List ℕ) → Option (List ℕ) → Type 0
+WritesAccepted told words old new = (text : List ℕ) × Appends old new text × IsAcceptedFor told words text
 
 -- the line of the first refusal in the order of work
 abbrev pub WritesRefusal : Option Files → List (List ℕ) → Option (List ℕ) → Option (List ℕ) → Type 0

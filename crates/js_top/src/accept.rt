@@ -1,7 +1,7 @@
 //! Certificates judged by bytes alone.
 //!
-//! Of what `run` does only the reading of the two files and the joining of their tables is shared; the verdict, the
-//! trees and the writing of lines have no part in it.
+//! Of what `run` does the reading of the two files and the joining of their tables is shared, and what `js_algebra` says
+//! of a table: its rules and the forming of goals. The verdict, the trees and the writing of lines have no part in it.
 
 ghost use Rattle.std.specs.Prelude.{IfOk};
 ghost use Rattle.std.specs.Bool.{OnTrue, OnFalse};
@@ -9,7 +9,8 @@ ghost use Rattle.js_top.specs.Accepting.{IsAccepted, AreIncluded, IsTableFrom};
 
 use crate::load::{Loaded, read_schema};
 use js_algebra::Core;
-use js_check::{judge, read_lines};
+use js_cert::read_lines;
+use js_check::judge;
 use js_doc::Memory;
 use js_normal::join_tables;
 use js_report::LONGEST_FILE;
@@ -18,8 +19,8 @@ use std::alloc::Global;
 /// Whether `certificate` is one that every document valid for the schema `a` is valid for the schema `b`.
 ///
 /// All three are the bytes of files. The answer is `true` exactly where both schemas are read, and not refused, and the
-/// certificate is in the grammar and its lines are good for the two. The cost is that of reading the files and, for
-/// each line of the certificate, of going through the set that it speaks of.
+/// certificate is in the grammar and its lines are good for the two. The cost is that of reading the files and the
+/// certificate, and for each line that of what it adds to the set at hand.
 pub fn accepted(alloc: Global, a: &[u8], b: &[u8], certificate: &[u8]) -> Result<bool, Memory>
     ensures accepted { IfOk result (λ r. OnTrue r (IsAccepted a.now b.now certificate.now)) }
     ensures rejected { IfOk result (λ r. OnFalse r (IsAccepted a.now b.now certificate.now → ⊥)) }

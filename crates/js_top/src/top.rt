@@ -5,7 +5,7 @@ ghost use Rattle.std.specs.Io.KnownBytes.{Appends};
 ghost use Rattle.js_outside.specs.Counts.{Rose, Stays};
 ghost use Rattle.js_top.specs.Command.{command};
 ghost use Rattle.js_top.specs.Report.{line};
-ghost use Rattle.js_top.specs.Running.{WritesPart, WritesReport, WritesMeaning, WritesRefusal, WritesAnswer};
+ghost use Rattle.js_top.specs.Running.{WritesPart, WritesReport, WritesMeaning, WritesRefusal, WritesAnswer, WritesAccepted};
 ghost use Rattle.js_top.specs.Meaning.{IsCounterexample, IsCertificate, IsLimit, PassesLimit, WhereTold};
 
 use crate::prepare::prepare;
@@ -27,8 +27,9 @@ pub fn run<R, H: Shelf, K: Sink>(
     shelf: &mut H,
     sink: &mut K,
 ) -> Status
-    // The headline: where no fault is counted and memory suffices, two schemas that are read get a document that the
-    // first accepts and the second doesn't, a certificate that `accepted` accepts, or the limit, exactly by its count.
+    // The headline: where files are told, no fault is counted and memory suffices, two schemas that are read get the
+    // limit exactly where it is passed, and else a document that the first accepts and the second doesn't, or a
+    // certificate and with it the inclusion.
     ensures headline { Stays (H.faults shelf.old) (H.faults shelf.new) → Stays (K.faults sink.old) (K.faults sink.new)
         → result ≢ Status.Memory
         → WritesAnswer (H.told shelf.old) words.now (K.written sink.old) (K.written sink.new) }
@@ -67,6 +68,8 @@ pub fn run<R, H: Shelf, K: Sink>(
         → WritesMeaning (H.told shelf.old) words.now (K.written sink.old) (K.written sink.new) IsCounterexample }
     ensures certificate { result ≡ Status.Done
         → WritesMeaning (H.told shelf.old) words.now (K.written sink.old) (K.written sink.new) IsCertificate }
+    ensures accepted { result ≡ Status.Done
+        → WritesAccepted (H.told shelf.old) words.now (K.written sink.old) (K.written sink.new) }
     ensures limit { result ≡ Status.Limit
         → WritesMeaning (H.told shelf.old) words.now (K.written sink.old) (K.written sink.new) IsLimit }
 

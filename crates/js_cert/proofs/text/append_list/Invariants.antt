@@ -6,4 +6,5 @@ use Rattle.js_algebra.specs.View.{signed_view}
 use Rattle.js_cert.proofs.text.append_list.Given as goal
 
 abbrev pub invariant-loop-x : goal.invariant-loop-x
-invariant-loop-x l = string_bytes l.out ≡ string_bytes l.fn.out ++ signed_list_text (map signed_view (take l.x-index l.list))
+invariant-loop-x l =
+    string_bytes l.out ≡ string_bytes l.fn.out ++ signed_list_text (map signed_view (take l.x-index l.list))

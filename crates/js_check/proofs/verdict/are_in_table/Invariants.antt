@@ -4,4 +4,5 @@ use Rattle.js_algebra.specs.View.{signed_view, are_in_table}
 use Rattle.js_check.proofs.verdict.are_in_table.Given as goal
 
 abbrev pub invariant-loop-x : goal.invariant-loop-x
-invariant-loop-x l = are_in_table l.core.positions (map signed_view (drop l.x-index l.list)) ≡ are_in_table l.core.positions (map signed_view l.list)
+invariant-loop-x l = are_in_table l.core.positions (map signed_view (drop l.x-index l.list))
+    ≡ are_in_table l.core.positions (map signed_view l.list)

@@ -14,9 +14,11 @@ returns-in-Some-2 c =
     ∙ ap (λ o. rest_does T [] (option_map (λ rest. map line_view rest.now) o)) (sym c.in-Some-2.is)
     ∙ verdict-rest T c.args.root.now c.in-Some.goals.items _ ls _
     (c.in_ok-goals.ensures.says c.args.root.now
-    ∙ ap (λ o. listed_says T c.args.root.now (option_map (λ p. p.0.items) o) (rest_of (option_map (λ p. map line_view p.1.now) o))) c.in-Some.is)
+    ∙ ap (λ o. listed_says T c.args.root.now (option_map (λ p. p.0.items) o)
+    (rest_of (option_map (λ p. map line_view p.1.now) o))) c.in-Some.is)
     (c.if-not-root_is_listed.ensures ∙ ap (root_is_listed c.args.root.now) c.as_slice.ensures.value)
-    (λ ds. ap (λ gs. do_duties T (entry_duties 0 gs ++ ds) ls) (sym c.as_slice-2.ensures.value) ∙ c.in_ok-last.ensures ds)
+    (λ ds. ap (λ gs. do_duties T (entry_duties 0 gs ++ ds) ls) (sym c.as_slice-2.ensures.value)
+    ∙ c.in_ok-last.ensures.does ds)
 
 pub returns : goal.returns
 returns c =
@@ -25,6 +27,8 @@ returns c =
     ap (λ o. rest_does T [] (option_map (λ rest. map line_view rest.now) o)) (sym c.in-None.is)
     ∙ verdict-rest T c.args.root.now c.in-Some.goals.items _ ls _
     (c.in_ok-goals.ensures.says c.args.root.now
-    ∙ ap (λ o. listed_says T c.args.root.now (option_map (λ p. p.0.items) o) (rest_of (option_map (λ p. map line_view p.1.now) o))) c.in-Some.is)
+    ∙ ap (λ o. listed_says T c.args.root.now (option_map (λ p. p.0.items) o)
+    (rest_of (option_map (λ p. map line_view p.1.now) o))) c.in-Some.is)
     (c.if-not-root_is_listed.ensures ∙ ap (root_is_listed c.args.root.now) c.as_slice.ensures.value)
-    (λ ds. ap (λ gs. do_duties T (entry_duties 0 gs ++ ds) ls) (sym c.as_slice-2.ensures.value) ∙ c.in_ok-last.ensures ds)
+    (λ ds. ap (λ gs. do_duties T (entry_duties 0 gs ++ ds) ls) (sym c.as_slice-2.ensures.value)
+    ∙ c.in_ok-last.ensures.does ds)

@@ -8,7 +8,8 @@ use Rattle.js_check.proofs.verdict.listed.Given as goal
 
 abbrev pub invariant-loop-i : goal.invariant-loop-i
 invariant-loop-i l = record {
-  left : (root : Option (List S.Signed)) → judge_goals l.core.positions root (l.count - l.i) l.goals.items (map line_view l.rest)
+  left : (root : Option (List S.Signed)) → judge_goals l.core.positions root (l.count - l.i) l.goals.items
+      (map line_view l.rest)
       ≡ judge_goals l.core.positions root l.count [] (map line_view l.fn.lines);
   in_table : sets_in_table l.core.positions l.goals.items ≡ true;
 }

@@ -5,4 +5,5 @@ use Rattle.js_check.proofs.VerdictLaws.{same-lists}
 use Rattle.js_check.proofs.verdict.same.Goals as goal
 
 pub returns : goal.returns
-returns c = c.eq.ensures ∙ same-lists _ (λ x y. same_fields x.plus y.plus x.pos.0 y.pos.0) c.args.list.now c.args.goal.now
+returns c = c.eq.ensures ∙ same-lists _ (λ x y. same_fields x.plus y.plus x.pos.0 y.pos.0) c.args.list.now
+    c.args.goal.now

@@ -1,6 +1,6 @@
 use Rattle.std.proofs.Common.{◌≡◌, refl, sym, ◌∙◌, subst}
 use Rattle.js_top.specs.declared.status.Status.TheVariants.{Other, Done, Limit, Refused}
-use Rattle.js_top.proofs.FileLaws.{prepared-means, prepared-report, prepared-part, prepared-settles, prepared-limited, means-refusal}
+use Rattle.js_top.proofs.FileLaws.{prepared-means, prepared-report, prepared-part, prepared-settles, prepared-limited, means-accepted, means-refusal}
 use Rattle.js_report.specs.Written.{AppendsPrefix}
 use Rattle.js_top.specs.Meaning.{WhereTold, PassesLimit}
 use Rattle.js_top.specs.Preparing.{report_of}
@@ -69,4 +69,13 @@ returns-in-Ok-write_report-clause-headline g c = λ h k m. (
   c.in-Ok-write_report.ensures.whole,
   prepared-settles (g.H.Shelf.told c.args.shelf.now) c.args.words.now _ _ c.in-Ok.prepared c.text.result.now
       c.in-Ok.ensures.says c.text.ensures h,
+)
+
+pub returns-in-Ok-write_report-clause-accepted : goal.returns-in-Ok-write_report-clause-accepted
+returns-in-Ok-write_report-clause-accepted g c = λ e. (
+  c.text.result.now,
+  c.in-Ok-write_report.ensures.whole,
+  means-accepted (g.H.Shelf.told c.args.shelf.now) c.args.words.now c.text.result.now
+      (prepared-means (g.H.Shelf.told c.args.shelf.now) c.args.words.now _ _ c.in-Ok.prepared c.text.result.now
+      c.in-Ok.ensures.says c.text.ensures Done (sym c.status.ensures ∙ e) refl),
 )
