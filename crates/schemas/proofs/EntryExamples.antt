@@ -19,10 +19,18 @@ booleans = refl
 
 -- words, patterns and numbers
 scalars :
-    entries (object (("maxLength", number 4) ∷ ("minimum", below 0) ∷ ("multipleOf", number 3)
-    ∷ ("pattern", text "a") ∷ ("required", list (text "b" ∷ text "b" ∷ []))
+    entries (object (("maxLength", number 4) ∷ ("minimum", below 0)
+    ∷ ("multipleOf", number 3) ∷ ("pattern", text "a")
+    ∷ ("required", list (text "b" ∷ text "b" ∷ []))
     ∷ ("type", list (text "integer" ∷ text "null" ∷ [])) ∷ []))
-    ≡ Ok (entry (path []) (Asks (record no_keywords { types = Some (Integer ∷ Null ∷ []); multiple_of = Some (3); minimum = Some (negsuc 0); max_length = Some (4); pattern = Some (codes "a"); required = Some (codes "b" ∷ codes "b" ∷ []) }))
+    ≡ Ok (entry (path []) (Asks (record no_keywords {
+      types = Some (Integer ∷ Null ∷ []);
+      multiple_of = Some (3);
+      minimum = Some (negsuc 0);
+      max_length = Some (4);
+      pattern = Some (codes "a");
+      required = Some (codes "b" ∷ codes "b" ∷ []);
+    }))
     ∷ [])
 unfolding places walk shape_of digits
 scalars = refl
@@ -38,7 +46,10 @@ one_type = refl
 values :
     entries (object (("const", object (("a", list (number 1 ∷ [])) ∷ []))
     ∷ ("enum", list (J.null ∷ text "x" ∷ below 1 ∷ [])) ∷ []))
-    ≡ Ok (entry (path []) (Asks (record no_keywords { enumeration = Some (D.null ∷ D.string (codes "x") ∷ D.number (negsuc 1) ∷ []); constant = Some (D.object (D.member (codes "a") (D.array (D.item (D.number (pos 1)) D.no_items)) D.no_members)) }))
+    ≡ Ok (entry (path []) (Asks (record no_keywords {
+      enumeration = Some (D.null ∷ D.string (codes "x") ∷ D.number (negsuc 1) ∷ []);
+      constant = Some (D.object (D.member (codes "a") (D.array (D.item (D.number (pos 1)) D.no_items)) D.no_members));
+    }))
     ∷ [])
 unfolding places walk shape_of digits
 values = refl
@@ -48,7 +59,10 @@ listed :
     entries (object (("additionalItems", J.boolean false)
     ∷ ("items", list (J.boolean true ∷ object (("$ref", text "#") ∷ []) ∷ []))
     ∷ []))
-    ≡ Ok (entry (path []) (Asks (record no_keywords { items = Some (Listed (2 ∷ 3 ∷ [])); additional_items = Some (1) }))
+    ≡ Ok (entry (path []) (Asks (record no_keywords {
+      items = Some (Listed (2 ∷ 3 ∷ []));
+      additional_items = Some (1);
+    }))
     ∷ entry (path ("additionalItems" ∷ [])) Never
     ∷ entry (path ("items" ∷ "0" ∷ [])) Always
     ∷ entry (path ("items" ∷ "1" ∷ [])) (Ref 0) ∷ [])
@@ -72,8 +86,7 @@ named :
     ≡ Ok (entry (path []) (Asks (record no_keywords {
       properties = Some ((codes "x", 3) ∷ (codes "z", 4) ∷ []);
       pattern_properties = Some ((codes "y", 2) ∷ []);
-      dependencies = Some ((codes "a", Names (codes "b" ∷ codes "b" ∷ [])) ∷ (codes "c", Whole 1)
-          ∷ []);
+      dependencies = Some ((codes "a", Names (codes "b" ∷ codes "b" ∷ [])) ∷ (codes "c", Whole 1) ∷ []);
     })) ∷ entry (path ("dependencies" ∷ "c" ∷ [])) Always
     ∷ entry (path ("patternProperties" ∷ "y" ∷ [])) Always
     ∷ entry (path ("properties" ∷ "x" ∷ [])) (Asks no_keywords)
@@ -87,7 +100,10 @@ combined :
     ∷ ("anyOf", list (J.boolean true ∷ object (("$ref", text "#/definitions/a") ∷ []) ∷ []))
     ∷ ("definitions", object (("a", object (("contains", J.boolean false) ∷ [])) ∷ []))
     ∷ []))
-    ≡ Ok (entry (path []) (Asks (record no_keywords { all_of = Some (1 ∷ []); any_of = Some (4 ∷ 5 ∷ []) }))
+    ≡ Ok (entry (path []) (Asks (record no_keywords {
+      all_of = Some (1 ∷ []);
+      any_of = Some (4 ∷ 5 ∷ []);
+    }))
     ∷ entry (path ("allOf" ∷ "0" ∷ [])) (Ref 2)
     ∷ entry (path ("definitions" ∷ "a" ∷ [])) (Asks (record no_keywords { contains = Some (3) }))
     ∷ entry (path ("definitions" ∷ "a" ∷ "contains" ∷ [])) Never
@@ -101,8 +117,8 @@ beside :
     entries (object (("$ref", text "#/definitions/a")
     ∷ ("definitions", object (("a", J.boolean true) ∷ []))
     ∷ ("minimum", number 1) ∷ []))
-    ≡ Ok (entry (path []) (Ref 1) ∷ entry (path ("definitions" ∷ "a" ∷ [])) Always
-    ∷ [])
+    ≡ Ok (entry (path []) (Ref 1)
+    ∷ entry (path ("definitions" ∷ "a" ∷ [])) Always ∷ [])
 unfolding places walk shape_of
 beside = refl
 

@@ -11,8 +11,9 @@ use Rattle.schemas.proofs.ExampleRules.{path, pointers, fault, fault_up_to, obje
 nested :
     pointers (object (("anyOf", list (object (("not", J.boolean true) ∷ []) ∷ J.boolean false ∷ []))
     ∷ ("not", object []) ∷ []))
-    ≡ path [] ∷ path ("anyOf" ∷ "0" ∷ []) ∷ path ("anyOf" ∷ "0" ∷ "not" ∷ [])
-    ∷ path ("anyOf" ∷ "1" ∷ []) ∷ path ("not" ∷ []) ∷ []
+    ≡ path [] ∷ path ("anyOf" ∷ "0" ∷ [])
+    ∷ path ("anyOf" ∷ "0" ∷ "not" ∷ []) ∷ path ("anyOf" ∷ "1" ∷ [])
+    ∷ path ("not" ∷ []) ∷ []
 unfolding places walk shape_of digits
 nested = refl
 
@@ -58,7 +59,8 @@ once :
           ∷ []),
     ) ∷ []))
     ≡ path [] ∷ path ("allOf" ∷ "0" ∷ []) ∷ path ("definitions" ∷ "a" ∷ [])
-    ∷ path ("definitions" ∷ "a" ∷ "not" ∷ []) ∷ path ("allOf" ∷ "1" ∷ []) ∷ []
+    ∷ path ("definitions" ∷ "a" ∷ "not" ∷ []) ∷ path ("allOf" ∷ "1" ∷ [])
+    ∷ []
 unfolding places walk shape_of digits
 once = refl
 
@@ -68,7 +70,8 @@ two_parents :
     ∷ ("properties", object (("a", object []) ∷ ("not", J.boolean true) ∷ []))
     ∷ []))
     ≡ path [] ∷ path ("allOf" ∷ "0" ∷ []) ∷ path ("properties" ∷ [])
-    ∷ path ("properties" ∷ "not" ∷ []) ∷ path ("properties" ∷ "a" ∷ []) ∷ []
+    ∷ path ("properties" ∷ "not" ∷ []) ∷ path ("properties" ∷ "a" ∷ [])
+    ∷ []
 unfolding places walk shape_of digits
 two_parents = refl
 
@@ -91,8 +94,8 @@ single_items = refl
 needs :
     pointers (object ((
       "dependencies",
-      object (("a", list (text "b" ∷ [])) ∷ ("c", object []) ∷ ("d", list (text "e" ∷ []))
-          ∷ ("f", J.boolean true) ∷ []),
+      object (("a", list (text "b" ∷ [])) ∷ ("c", object [])
+          ∷ ("d", list (text "e" ∷ [])) ∷ ("f", J.boolean true) ∷ []),
     ) ∷ []))
     ≡ path [] ∷ path ("dependencies" ∷ "c" ∷ [])
     ∷ path ("dependencies" ∷ "f" ∷ []) ∷ []
@@ -137,15 +140,21 @@ unfolding places walk shape_of
 weighs_map_over = refl
 
 weighs_needs :
-    fault_up_to 42 (object (("dependencies", object (("a", list (text "b" ∷ text "c" ∷ [])) ∷ ("d", J.boolean true) ∷ []))
-    ∷ []))
+    fault_up_to 42 (object ((
+      "dependencies",
+      object (("a", list (text "b" ∷ text "c" ∷ []))
+          ∷ ("d", J.boolean true) ∷ []),
+    ) ∷ []))
     ≡ None
 unfolding places walk shape_of digits
 weighs_needs = refl
 
 weighs_needs_over :
-    fault_up_to 41 (object (("dependencies", object (("a", list (text "b" ∷ text "c" ∷ [])) ∷ ("d", J.boolean true) ∷ []))
-    ∷ []))
+    fault_up_to 41 (object ((
+      "dependencies",
+      object (("a", list (text "b" ∷ text "c" ∷ []))
+          ∷ ("d", J.boolean true) ∷ []),
+    ) ∷ []))
     ≡ Some (TooLarge (path ("dependencies" ∷ "d" ∷ [])))
 unfolding places walk shape_of digits
 weighs_needs_over = refl
@@ -208,7 +217,9 @@ repeated :
 unfolding places walk shape_of digits
 repeated = refl
 
-unconstrained : fault (object (("uniqueItems", J.boolean false) ∷ [])) ≡ None
+unconstrained :
+    fault (object (("uniqueItems", J.boolean false) ∷ []))
+    ≡ None
 unfolding places walk shape_of
 unconstrained = refl
 
