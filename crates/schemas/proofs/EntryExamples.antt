@@ -1,6 +1,5 @@
 -- The entries that schemas are read as, computed.
 use Rattle.std.specs.Prelude.{◌≡◌, [], ◌∷◌, Some, Ok, Err, true, false, pos, negsuc, codes, refl}
-use Rattle.std.specs.Fmt.{digits}
 use Rattle.documents.specs.Document as D
 use Rattle.documents.specs.Json as J
 use Rattle.schemas.specs.Keyword.{shape_of}
@@ -32,7 +31,7 @@ scalars :
       required = Some (codes "b" ∷ codes "b" ∷ []);
     }))
     ∷ [])
-unfolding places walk shape_of digits
+unfolding places walk shape_of
 scalars = refl
 
 one_type :
@@ -51,7 +50,7 @@ values :
       constant = Some (D.object (D.member (codes "a") (D.array (D.item (D.number (pos 1)) D.no_items)) D.no_members));
     }))
     ∷ [])
-unfolding places walk shape_of digits
+unfolding places walk shape_of
 values = refl
 
 -- schemas by the numbers of their places; the target of a reference is one of them
@@ -66,7 +65,7 @@ listed :
     ∷ entry (path ("additionalItems" ∷ [])) Never
     ∷ entry (path ("items" ∷ "0" ∷ [])) Always
     ∷ entry (path ("items" ∷ "1" ∷ [])) (Ref 0) ∷ [])
-unfolding places walk shape_of digits
+unfolding places walk shape_of
 listed = refl
 
 -- `additionalItems` beside one schema is as if it weren't there
@@ -91,7 +90,7 @@ named :
     ∷ entry (path ("patternProperties" ∷ "y" ∷ [])) Always
     ∷ entry (path ("properties" ∷ "x" ∷ [])) (Asks no_keywords)
     ∷ entry (path ("properties" ∷ "z" ∷ [])) Never ∷ [])
-unfolding places walk shape_of digits
+unfolding places walk shape_of
 named = refl
 
 -- lists of schemas, and one that two references share
@@ -109,7 +108,7 @@ combined :
     ∷ entry (path ("definitions" ∷ "a" ∷ "contains" ∷ [])) Never
     ∷ entry (path ("anyOf" ∷ "0" ∷ [])) Always
     ∷ entry (path ("anyOf" ∷ "1" ∷ [])) (Ref 2) ∷ [])
-unfolding places walk shape_of digits
+unfolding places walk shape_of
 combined = refl
 
 -- members beside a reference are no keywords

@@ -1,7 +1,6 @@
 -- Which fault comes first, and where references lead, computed.
 use Rattle.std.specs.Prelude.{◌≡◌, [], ◌∷◌, Some, codes, refl, None, true}
 use Rattle.documents.specs.Json as J
-use Rattle.std.specs.Fmt.{digits}
 use Rattle.schemas.specs.Keyword.{shape_of}
 use Rattle.schemas.specs.Walk.{walk, places}
 use Rattle.schemas.specs.Fault.{NotASchema, WrongShape, NotWhole, Negative, BadReference}
@@ -11,14 +10,14 @@ use Rattle.schemas.proofs.ExampleRules.{path, fault, object, list, text, number,
 element_last :
     fault (object (("allOf", list (number 5 ∷ [])) ∷ ("minimum", J.not_whole) ∷ []))
     ≡ Some (NotWhole (path ("minimum" ∷ [])))
-unfolding places walk shape_of digits
+unfolding places walk shape_of
 element_last = refl
 
 element_walked :
     fault (object (("allOf", list (J.boolean true ∷ number 5 ∷ [])) ∷ ("minimum", number 1)
     ∷ []))
     ≡ Some (NotASchema (path ("allOf" ∷ "1" ∷ [])))
-unfolding places walk shape_of digits
+unfolding places walk shape_of
 element_walked = refl
 
 -- a dependency that is neither a list nor a schema is no schema
@@ -26,7 +25,7 @@ need_walked :
     fault (object (("dependencies", object (("a", list (text "b" ∷ [])) ∷ ("c", number 5) ∷ []))
     ∷ []))
     ≡ Some (NotASchema (path ("dependencies" ∷ "c" ∷ [])))
-unfolding places walk shape_of digits
+unfolding places walk shape_of
 need_walked = refl
 
 property_walked :
@@ -52,14 +51,14 @@ in_order :
     )
     ∷ ("anyOf", list (number 5 ∷ [])) ∷ []))
     ≡ Some (NotWhole (path ("allOf" ∷ "0" ∷ "not" ∷ "minimum" ∷ [])))
-unfolding places walk shape_of digits
+unfolding places walk shape_of
 in_order = refl
 
 items_first :
     fault (object (("contains", object (("type", text "frob") ∷ []))
     ∷ ("items", list (number 5 ∷ [])) ∷ []))
     ≡ Some (WrongShape (codes "type") (path ("contains" ∷ "type" ∷ [])))
-unfolding places walk shape_of digits
+unfolding places walk shape_of
 items_first = refl
 
 -- what nothing leads to isn't looked at: other members, and definitions that no reference names
@@ -77,7 +76,7 @@ reached :
     ∷ ("definitions", object (("a", number 5) ∷ ("b", object (("type", text "frob") ∷ [])) ∷ []))
     ∷ []))
     ≡ Some (WrongShape (codes "type") (path ("definitions" ∷ "b" ∷ "type" ∷ [])))
-unfolding places walk shape_of digits
+unfolding places walk shape_of
 reached = refl
 
 -- beside a reference nothing is looked at, also no identifier
@@ -100,7 +99,7 @@ inside_unread :
     fault (object (("enum", list (object (("type", text "frob") ∷ []) ∷ number 0 ∷ []))
     ∷ ("not", object (("$ref", text "#/enum/0") ∷ [])) ∷ []))
     ≡ Some (WrongShape (codes "type") (path ("enum" ∷ "0" ∷ "type" ∷ [])))
-unfolding places walk shape_of digits
+unfolding places walk shape_of
 inside_unread = refl
 
 -- `additionalItems` isn't read beside one schema, nor without `items`
@@ -117,7 +116,7 @@ unread_without = refl
 read_items :
     fault (object (("additionalItems", number 5) ∷ ("items", list []) ∷ []))
     ≡ Some (WrongShape (codes "additionalItems") (path ("additionalItems" ∷ [])))
-unfolding places walk shape_of digits
+unfolding places walk shape_of
 read_items = refl
 
 -- a reference's fault is told at the object that has it
@@ -142,14 +141,14 @@ anchor = refl
 no_schema_there :
     fault (object (("$ref", text "#/required") ∷ ("required", list (text "a" ∷ [])) ∷ []))
     ≡ Some (BadReference NoSchema (path []))
-unfolding places walk shape_of digits
+unfolding places walk shape_of
 no_schema_there = refl
 
 -- an element's number has no zero before it
 index_zero :
     fault (object (("anyOf", list (object (("$ref", text "#/anyOf/00") ∷ []) ∷ [])) ∷ []))
     ≡ Some (BadReference Missing (path ("anyOf" ∷ "0" ∷ [])))
-unfolding places walk shape_of digits
+unfolding places walk shape_of
 index_zero = refl
 
 -- the root's identifier names the file, also beside a reference

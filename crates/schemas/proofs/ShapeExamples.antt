@@ -1,7 +1,6 @@
 -- What is wrong in a keyword's value, computed on schemas with one fault.
 use Rattle.std.specs.Prelude.{◌≡◌, [], ◌∷◌, Some, codes, refl, true}
 use Rattle.documents.specs.Json as J
-use Rattle.std.specs.Fmt.{digits}
 use Rattle.schemas.specs.Keyword.{shape_of}
 use Rattle.schemas.specs.Walk.{walk, places}
 use Rattle.schemas.specs.Fault.{NotASchema, WrongShape, NotWhole, NotPositive, Negative, EmptyList, UniqueItems, InnerId, BadPattern}
@@ -22,14 +21,14 @@ no_type = refl
 no_type_listed :
     fault (object (("type", list (text "null" ∷ text "frob" ∷ [])) ∷ []))
     ≡ Some (WrongShape (codes "type") (path ("type" ∷ "1" ∷ [])))
-unfolding places walk shape_of digits
+unfolding places walk shape_of
 no_type_listed = refl
 
 -- where a type is asked for, a number is of the wrong shape, whole or not
 type_number :
     fault (object (("type", list (J.not_whole ∷ [])) ∷ []))
     ≡ Some (WrongShape (codes "type") (path ("type" ∷ "0" ∷ [])))
-unfolding places walk shape_of digits
+unfolding places walk shape_of
 type_number = refl
 
 -- `enum` is a list; the numbers in it are whole, however deep
@@ -47,14 +46,14 @@ values_deep :
           ∷ ("c", J.not_whole) ∷ []) ∷ []),
     ) ∷ []))
     ≡ Some (NotWhole (path ("enum" ∷ "1" ∷ "a" ∷ "1" ∷ "b" ∷ [])))
-unfolding places walk shape_of digits
+unfolding places walk shape_of
 values_deep = refl
 
 -- so are those of `const`
 value_deep :
     fault (object (("const", list (list [] ∷ list (J.not_whole ∷ []) ∷ [])) ∷ []))
     ≡ Some (NotWhole (path ("const" ∷ "1" ∷ "0" ∷ [])))
-unfolding places walk shape_of digits
+unfolding places walk shape_of
 value_deep = refl
 
 -- a number that isn't whole, no number, and numbers out of range
@@ -143,20 +142,20 @@ no_names = refl
 name_number :
     fault (object (("required", list (text "a" ∷ number 5 ∷ [])) ∷ []))
     ≡ Some (WrongShape (codes "required") (path ("required" ∷ "1" ∷ [])))
-unfolding places walk shape_of digits
+unfolding places walk shape_of
 name_number = refl
 
 needs_number :
     fault (object (("dependencies", object (("a", list (text "b" ∷ [])) ∷ ("c", list (text "d" ∷ J.null ∷ [])) ∷ []))
     ∷ []))
     ≡ Some (WrongShape (codes "dependencies") (path ("dependencies" ∷ "c" ∷ "1" ∷ [])))
-unfolding places walk shape_of digits
+unfolding places walk shape_of
 needs_number = refl
 
 no_needs :
     fault (object (("dependencies", list []) ∷ []))
     ≡ Some (WrongShape (codes "dependencies") (path ("dependencies" ∷ [])))
-unfolding places walk shape_of digits
+unfolding places walk shape_of
 no_needs = refl
 
 -- a keyword whose value should be a schema
@@ -175,7 +174,7 @@ items_number = refl
 no_properties :
     fault (object (("properties", list (J.boolean true ∷ [])) ∷ []))
     ≡ Some (WrongShape (codes "properties") (path ("properties" ∷ [])))
-unfolding places walk shape_of digits
+unfolding places walk shape_of
 no_properties = refl
 
 -- a list of schemas that is none, or is empty
@@ -188,7 +187,7 @@ no_list = refl
 empty_list :
     fault (object (("anyOf", list []) ∷ []))
     ≡ Some (EmptyList (path ("anyOf" ∷ [])))
-unfolding places walk shape_of digits
+unfolding places walk shape_of
 empty_list = refl
 
 -- unique elements aren't decided; saying that they needn't be is nothing

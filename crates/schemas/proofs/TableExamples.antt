@@ -1,6 +1,5 @@
 -- Which lists of entries are tables, computed.
 use Rattle.std.specs.Prelude.{◌≡◌, ℕ, ◌^◌, List, [], ◌∷◌, map, Bool, true, false, Some, pos, codes, refl, Result, Ok, Err}
-use Rattle.std.specs.Fmt.{digits}
 use Rattle.documents.specs.Json as J
 use Rattle.documents.specs.Json.{Json}
 use Rattle.schemas.specs.Keyword.{keywords, shape_of}
@@ -22,7 +21,7 @@ is_read_table (Err f) = false
 read_table : is_read_table (entries (object (("additionalItems", J.boolean false)
     ∷ ("dependencies", object (("a", list (text "b" ∷ [])) ∷ ("c", J.boolean true) ∷ []))
     ∷ ("items", list (object (("$ref", text "#") ∷ []) ∷ [])) ∷ ("minimum", number 3) ∷ []))) ≡ true
-unfolding places walk shape_of digits
+unfolding places walk shape_of
 read_table = refl
 
 -- an entry with these keywords, and one more entry

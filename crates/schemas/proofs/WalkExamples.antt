@@ -1,6 +1,5 @@
 -- Which places a walk comes to, in their order, and what they weigh; and schemas that have no fault.
 use Rattle.std.specs.Prelude.{◌≡◌, [], ◌∷◌, Some, None, true, false, codes, refl}
-use Rattle.std.specs.Fmt.{digits}
 use Rattle.documents.specs.Json as J
 use Rattle.schemas.specs.Keyword.{shape_of}
 use Rattle.schemas.specs.Walk.{walk, places}
@@ -14,7 +13,7 @@ nested :
     ≡ path [] ∷ path ("anyOf" ∷ "0" ∷ [])
     ∷ path ("anyOf" ∷ "0" ∷ "not" ∷ []) ∷ path ("anyOf" ∷ "1" ∷ [])
     ∷ path ("not" ∷ []) ∷ []
-unfolding places walk shape_of digits
+unfolding places walk shape_of
 nested = refl
 
 -- members by their names; other members lead nowhere
@@ -30,7 +29,7 @@ by_names :
     ≡ path [] ∷ path ("patternProperties" ∷ "a" ∷ [])
     ∷ path ("properties" ∷ "b" ∷ []) ∷ path ("properties" ∷ "c" ∷ [])
     ∷ path ("propertyNames" ∷ []) ∷ []
-unfolding places walk shape_of digits
+unfolding places walk shape_of
 by_names = refl
 
 -- beside a reference there is nothing but its target
@@ -61,7 +60,7 @@ once :
     ≡ path [] ∷ path ("allOf" ∷ "0" ∷ []) ∷ path ("definitions" ∷ "a" ∷ [])
     ∷ path ("definitions" ∷ "a" ∷ "not" ∷ []) ∷ path ("allOf" ∷ "1" ∷ [])
     ∷ []
-unfolding places walk shape_of digits
+unfolding places walk shape_of
 once = refl
 
 -- an object that is no schema where it stands may be one for a reference; both come to what is in it
@@ -72,7 +71,7 @@ two_parents :
     ≡ path [] ∷ path ("allOf" ∷ "0" ∷ []) ∷ path ("properties" ∷ [])
     ∷ path ("properties" ∷ "not" ∷ []) ∷ path ("properties" ∷ "a" ∷ [])
     ∷ []
-unfolding places walk shape_of digits
+unfolding places walk shape_of
 two_parents = refl
 
 -- `additionalItems` leads on only beside a list
@@ -81,7 +80,7 @@ listed_items :
     ∷ ("items", list (J.boolean false ∷ J.boolean true ∷ [])) ∷ []))
     ≡ path [] ∷ path ("additionalItems" ∷ []) ∷ path ("items" ∷ "0" ∷ [])
     ∷ path ("items" ∷ "1" ∷ []) ∷ []
-unfolding places walk shape_of digits
+unfolding places walk shape_of
 listed_items = refl
 
 single_items :
@@ -99,7 +98,7 @@ needs :
     ) ∷ []))
     ≡ path [] ∷ path ("dependencies" ∷ "c" ∷ [])
     ∷ path ("dependencies" ∷ "f" ∷ []) ∷ []
-unfolding places walk shape_of digits
+unfolding places walk shape_of
 needs = refl
 
 -- a reference into a list of values
@@ -108,20 +107,20 @@ inner :
     ∷ ("not", object (("$ref", text "#/enum/0/0") ∷ [])) ∷ []))
     ≡ path [] ∷ path ("not" ∷ []) ∷ path ("enum" ∷ "0" ∷ "0" ∷ [])
     ∷ path ("enum" ∷ "0" ∷ "0" ∷ "not" ∷ []) ∷ []
-unfolding places walk shape_of digits
+unfolding places walk shape_of
 inner = refl
 
 -- a keyword weighs 8 for each value in it, at any depth
 weighs_values :
     fault_up_to 33 (object (("enum", list (number 1 ∷ list (number 2 ∷ []) ∷ [])) ∷ []))
     ≡ None
-unfolding places walk shape_of digits
+unfolding places walk shape_of
 weighs_values = refl
 
 weighs_values_over :
     fault_up_to 32 (object (("enum", list (number 1 ∷ list (number 2 ∷ []) ∷ [])) ∷ []))
     ≡ Some (TooLarge (path []))
-unfolding places walk shape_of digits
+unfolding places walk shape_of
 weighs_values_over = refl
 
 -- members' names weigh nothing; schemas weigh at their own places, and as one value where they stand
@@ -146,7 +145,7 @@ weighs_needs :
           ∷ ("d", J.boolean true) ∷ []),
     ) ∷ []))
     ≡ None
-unfolding places walk shape_of digits
+unfolding places walk shape_of
 weighs_needs = refl
 
 weighs_needs_over :
@@ -156,7 +155,7 @@ weighs_needs_over :
           ∷ ("d", J.boolean true) ∷ []),
     ) ∷ []))
     ≡ Some (TooLarge (path ("dependencies" ∷ "d" ∷ [])))
-unfolding places walk shape_of digits
+unfolding places walk shape_of
 weighs_needs_over = refl
 
 -- a reference and a place that is walked already weigh little and nothing
@@ -177,14 +176,14 @@ weighs_unread :
     fault_up_to 10 (object (("additionalItems", object (("enum", list (number 1 ∷ number 2 ∷ number 3 ∷ [])) ∷ []))
     ∷ ("items", J.boolean true) ∷ ("title", text "a") ∷ []))
     ≡ None
-unfolding places walk shape_of digits
+unfolding places walk shape_of
 weighs_unread = refl
 
 weighs_unread_over :
     fault_up_to 9 (object (("additionalItems", object (("enum", list (number 1 ∷ number 2 ∷ number 3 ∷ [])) ∷ []))
     ∷ ("items", J.boolean true) ∷ ("title", text "a") ∷ []))
     ≡ Some (TooLarge (path ("items" ∷ [])))
-unfolding places walk shape_of digits
+unfolding places walk shape_of
 weighs_unread_over = refl
 
 -- at the place that is too much its own faults come first
@@ -199,7 +198,7 @@ empty_lists :
     fault (object (("enum", list []) ∷ ("items", list []) ∷ ("required", list [])
     ∷ ("type", list []) ∷ []))
     ≡ None
-unfolding places walk shape_of digits
+unfolding places walk shape_of
 empty_lists = refl
 
 empty_maps :
@@ -214,7 +213,7 @@ repeated :
     ∷ ("required", list (text "a" ∷ text "a" ∷ []))
     ∷ ("type", list (text "null" ∷ text "null" ∷ [])) ∷ []))
     ≡ None
-unfolding places walk shape_of digits
+unfolding places walk shape_of
 repeated = refl
 
 unconstrained :

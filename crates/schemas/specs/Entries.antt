@@ -68,7 +68,7 @@ types_of v = filter_map (λ w. type_named (word w)) (v ∷ [])
 -- the number of the place with that pointer
 abbrev pub number_of : List Place → Pointer → ℕ
 number_of [] p = zero
-number_of (c ∷ cs) p = cond (same_pointer c.0 p) zero (suc (number_of cs p))
+number_of (c ∷ cs) p = cond (same_pointer p c.0) zero (suc (number_of cs p))
 
 -- a keyword's value, made into its field
 abbrev pub field : {A : Type 0} → Members → List ℕ → (List ℕ → Json → A) → Option A

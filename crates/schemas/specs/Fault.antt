@@ -1,7 +1,7 @@
 -- What can be wrong in a schema, and the first thing that is wrong in the value of a keyword, in pre-order.
-use Rattle.std.specs.Prelude.{ℕ, suc, ℤ, List, [], ◌∷◌, ◌++◌, Bool, true, false, pos, int_le, int_lt, Option, Some, None, option_map, Result, cond, decimal}
+use Rattle.std.specs.Prelude.{ℕ, suc, ℤ, List, [], ◌∷◌, ◌++◌, Bool, true, false, pos, int_le, int_lt, Option, Some, None, option_map, Result, cond}
 use Rattle.documents.specs.Json.{Json, boolean, number, not_whole, string, array, object, Items, no_items, item, Members, no_members, member}
-use Rattle.schemas.specs.Places.{Pointer}
+use Rattle.schemas.specs.Places.{Pointer, index_token}
 use Rattle.schemas.specs.Keyword.{Shape, TypeWords, AnyValues, AnyValue, WholeNumber, PositiveNumber, Count, PatternWord, Words, Schema, SchemaOrList, SchemaList, SchemaMap, PatternMap, NeedMap, Flag, is_held, is_type_word, is_string, is_object_or_boolean}
 
 -- a fault and its pointer. P is what can be wrong in a pattern, and R what can be wrong with a reference
@@ -54,7 +54,7 @@ abbrev mutual
 
   pub not_whole_among : Pointer → ℕ → Items → Option Pointer
   not_whole_among p i no_items = None
-  not_whole_among p i (item v vs) = or_else (first_not_whole (p ++ decimal i ∷ []) v) (not_whole_among p (suc i) vs)
+  not_whole_among p i (item v vs) = or_else (first_not_whole (p ++ index_token i ∷ []) v) (not_whole_among p (suc i) vs)
 
   pub not_whole_in : Pointer → Members → Option Pointer
   not_whole_in p no_members = None
@@ -63,7 +63,7 @@ abbrev mutual
 -- the first element, from number i on, that fails a test
 abbrev pub first_failing : (Json → Bool) → Pointer → ℕ → Items → Option Pointer
 first_failing test p i no_items = None
-first_failing test p i (item v vs) = cond (test v) (first_failing test p (suc i) vs) (Some (p ++ decimal i ∷ []))
+first_failing test p i (item v vs) = cond (test v) (first_failing test p (suc i) vs) (Some (p ++ index_token i ∷ []))
 
 module _ {P R : Type 0} (rules : Rules P R) where
   -- the value of the keyword k, which stands at p, by the shape that is asked for
