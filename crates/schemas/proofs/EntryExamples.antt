@@ -2,6 +2,7 @@
 use Rattle.std.specs.Prelude.{◌≡◌, [], ◌∷◌, Some, Ok, Err, true, false, pos, negsuc, codes, refl}
 use Rattle.documents.specs.Document as D
 use Rattle.documents.specs.Json as J
+use Rattle.schemas.specs.Places.{index_token}
 use Rattle.schemas.specs.Keyword.{shape_of}
 use Rattle.schemas.specs.Walk.{walk, places}
 use Rattle.schemas.specs.Fault.{WrongShape}
@@ -13,7 +14,7 @@ booleans :
     entries (object (("not", J.boolean false) ∷ []))
     ≡ Ok (entry (path []) (Asks (record no_keywords { not = Some (1) }))
     ∷ entry (path ("not" ∷ [])) Never ∷ [])
-unfolding places walk shape_of
+unfolding places walk shape_of index_token
 booleans = refl
 
 -- words, patterns and numbers
@@ -31,14 +32,14 @@ scalars :
       required = Some (codes "b" ∷ codes "b" ∷ []);
     }))
     ∷ [])
-unfolding places walk shape_of
+unfolding places walk shape_of index_token
 scalars = refl
 
 one_type :
     entries (object (("type", text "string") ∷ []))
     ≡ Ok (entry (path []) (Asks (record no_keywords { types = Some (Text ∷ []) }))
     ∷ [])
-unfolding places walk shape_of
+unfolding places walk shape_of index_token
 one_type = refl
 
 -- values of `const` and `enum` are documents
@@ -50,7 +51,7 @@ values :
       constant = Some (D.object (D.member (codes "a") (D.array (D.item (D.number (pos 1)) D.no_items)) D.no_members));
     }))
     ∷ [])
-unfolding places walk shape_of
+unfolding places walk shape_of index_token
 values = refl
 
 -- schemas by the numbers of their places; the target of a reference is one of them
@@ -65,7 +66,7 @@ listed :
     ∷ entry (path ("additionalItems" ∷ [])) Never
     ∷ entry (path ("items" ∷ "0" ∷ [])) Always
     ∷ entry (path ("items" ∷ "1" ∷ [])) (Ref 0) ∷ [])
-unfolding places walk shape_of
+unfolding places walk shape_of index_token
 listed = refl
 
 -- `additionalItems` beside one schema is as if it weren't there
@@ -73,7 +74,7 @@ single :
     entries (object (("additionalItems", number 5) ∷ ("items", J.boolean true) ∷ []))
     ≡ Ok (entry (path []) (Asks (record no_keywords { items = Some (Each 1) }))
     ∷ entry (path ("items" ∷ [])) Always ∷ [])
-unfolding places walk shape_of
+unfolding places walk shape_of index_token
 single = refl
 
 -- names with what they need or ask for
@@ -90,7 +91,7 @@ named :
     ∷ entry (path ("patternProperties" ∷ "y" ∷ [])) Always
     ∷ entry (path ("properties" ∷ "x" ∷ [])) (Asks no_keywords)
     ∷ entry (path ("properties" ∷ "z" ∷ [])) Never ∷ [])
-unfolding places walk shape_of
+unfolding places walk shape_of index_token
 named = refl
 
 -- lists of schemas, and one that two references share
@@ -108,7 +109,7 @@ combined :
     ∷ entry (path ("definitions" ∷ "a" ∷ "contains" ∷ [])) Never
     ∷ entry (path ("anyOf" ∷ "0" ∷ [])) Always
     ∷ entry (path ("anyOf" ∷ "1" ∷ [])) (Ref 2) ∷ [])
-unfolding places walk shape_of
+unfolding places walk shape_of index_token
 combined = refl
 
 -- members beside a reference are no keywords
@@ -118,12 +119,12 @@ beside :
     ∷ ("minimum", number 1) ∷ []))
     ≡ Ok (entry (path []) (Ref 1)
     ∷ entry (path ("definitions" ∷ "a" ∷ [])) Always ∷ [])
-unfolding places walk shape_of
+unfolding places walk shape_of index_token
 beside = refl
 
 -- a schema with a fault has no entries
 refused :
     entries (object (("minimum", number 1) ∷ ("not", number 5) ∷ []))
     ≡ Err (WrongShape (codes "not") (path ("not" ∷ [])))
-unfolding places walk shape_of
+unfolding places walk shape_of index_token
 refused = refl

@@ -2,6 +2,7 @@
 use Rattle.std.specs.Prelude.{◌≡◌, ℕ, ◌^◌, List, [], ◌∷◌, map, Bool, true, false, Some, pos, codes, refl, Result, Ok, Err}
 use Rattle.documents.specs.Json as J
 use Rattle.documents.specs.Json.{Json}
+use Rattle.schemas.specs.Places.{index_token}
 use Rattle.schemas.specs.Keyword.{keywords, shape_of}
 use Rattle.schemas.specs.Fault.{Fault}
 use Rattle.schemas.specs.Walk.{walk, places}
@@ -21,7 +22,7 @@ is_read_table (Err f) = false
 read_table : is_read_table (entries (object (("additionalItems", J.boolean false)
     ∷ ("dependencies", object (("a", list (text "b" ∷ [])) ∷ ("c", J.boolean true) ∷ []))
     ∷ ("items", list (object (("$ref", text "#") ∷ []) ∷ [])) ∷ ("minimum", number 3) ∷ []))) ≡ true
-unfolding places walk shape_of
+unfolding places walk shape_of index_token
 read_table = refl
 
 -- an entry with these keywords, and one more entry

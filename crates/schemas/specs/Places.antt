@@ -25,7 +25,7 @@ abbrev pub has_place : List Place → Pointer → Bool
 has_place cs p = some (λ c. same_pointer p c.0) cs
 
 -- the token of element i: its number in decimal, without a zero before it
-abbrev pub index_token : ℕ → List ℕ
+unfoldable pub index_token : ℕ → List ℕ
 index_token i = digits_onto (suc i) 10 false i []
 
 -- a digit, or more digits of which the first isn't `0`
