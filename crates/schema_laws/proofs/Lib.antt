@@ -6,3 +6,5 @@ pub mod ChildrenLaws
 pub mod Distinct
 pub mod Walks
 pub mod Readings
+pub mod ValueAt
+pub mod Numbers

@@ -1,11 +1,12 @@
 -- The token of an element is the one text of its number.
-use Rattle.std.proofs.Common.{◌≡◌, ℕ, zero, suc, ◌+◌, ◌-◌, ◌*◌, ◌/◌, ◌%◌, ◌^◌, ◌<◌, ◌≤◌, ◌==◌, nat_lt, List, [], ◌∷◌, ◌++◌, ⊎_elim, Bool, true, false, not, if◌then◌else◌, Some, None, refl, sym, ap, ap₂, ◌∙◌, arith, append_assoc, append-nil, nat_le, ◌≢◌, true≢false}
+use Rattle.std.proofs.Common.{◌≡◌, ℕ, zero, suc, ◌+◌, ◌-◌, ◌*◌, ◌/◌, ◌%◌, ◌^◌, ◌<◌, ◌≤◌, ◌==◌, nat_lt, List, [], ◌∷◌, ◌++◌, length, ⊎_elim, Bool, true, false, not, if◌then◌else◌, Some, None, refl, sym, ap, ap₂, subst, ◌∙◌, arith, append_assoc, append-nil, nat_le, ◌≢◌, true≢false}
 use Rattle.std.proofs.lemmas.Option.{none-some, same_Some}
 use Rattle.std.specs.Char.{is_ascii_digit, digit_value}
 use Rattle.std.specs.Fmt.{digits_onto, digit_glyph, decimal, digits}
 use Rattle.std.specs.List.{list_all}
 use Rattle.std.specs.Str.Parse.{digits_value, digits_value_after}
-use Rattle.std.proofs.lemmas.Bool.{cases_lt, and_parts}
+use Rattle.std.proofs.lemmas.Bool.{cases_lt, and_parts, and_from}
+use Rattle.std.proofs.lemmas.List.Folds.{list_all-append}
 use Rattle.schemas.specs.Places.{index_token, is_index, index_of}
 
 abbrev spell : ℕ → ℕ → List ℕ → List ℕ
@@ -125,3 +126,78 @@ token_at (c ∷ d ∷ w) true n h e =
 
 pub index_token-of : (t : List ℕ) (n : ℕ) → index_of t ≡ Some n → t ≡ index_token n
 index_token-of t n e = token_at t (is_index t) n refl e
+
+-- ---- and the token of a number is an index, which writes it
+
+record IsSpelled (n : ℕ) : Type 0 where
+  first : ℕ
+  later : List ℕ
+  is : index_token n ≡ first ∷ later
+  digit : is_ascii_digit first ≡ true
+  digits : list_all is_ascii_digit later ≡ true
+  value : digits_value 10 (first ∷ later) ≡ n
+  nonzero : 0 < n → not (first == 48) ≡ true
+  alone : n < 10 → later ≡ []
+
+value-append : (v : ℕ) (w : List ℕ) (c : ℕ)
+    → digits_value_after 10 v (w ++ c ∷ []) ≡ digits_value_after 10 v w * 10 + digit_value c
+value-append v [] c = refl
+value-append v (d ∷ w) c = value-append (v * 10 + digit_value d) w c
+
+is_digit : (d : ℕ) → d < 10 → is_ascii_digit (48 + d) ≡ true
+is_digit d h = and_from (nat_le 48 (48 + d)) (nat_le (48 + d) 57) (grind arith) (grind arith)
+
+spelled_last : (n : ℕ) → n < 10 → IsSpelled n
+spelled_last n h = record {
+  first = 48 + n;
+  later = [];
+  is = index_token_last n h;
+  digit = is_digit n h;
+  digits = refl;
+  value = ap (λ x. 0 * 10 + x) (digit_is (48 + n) (omega arith) (omega arith)) ∙ omega arith;
+  nonzero = λ k. grind arith;
+  alone = λ k. refl;
+}
+
+all_more : (w : List ℕ) (c : ℕ) → list_all is_ascii_digit w ≡ true → is_ascii_digit c ≡ true
+    → list_all is_ascii_digit (w ++ c ∷ []) ≡ true
+all_more w c h k =
+    list_all-append is_ascii_digit w (c ∷ [])
+    ∙ and_from (list_all is_ascii_digit w) (list_all is_ascii_digit (c ∷ [])) h (and_from (is_ascii_digit c) true k refl)
+
+spelled_next : (m d : ℕ) → 0 < m → d < 10 → IsSpelled m → IsSpelled (10 * m + d)
+spelled_next m d some small s = record {
+  first = s.first;
+  later = s.later ++ (48 + d) ∷ [];
+  is = index_token_step m d some small ∙ ap (λ w. w ++ (48 + d) ∷ []) s.is;
+  digit = s.digit;
+  digits = all_more s.later (48 + d) s.digits (is_digit d small);
+  value = value-append (0 * 10 + digit_value s.first) s.later (48 + d)
+      ∙ ap₂ (λ x y. x * 10 + y) s.value (digit_is (48 + d) (omega arith) (omega arith)) ∙ omega arith;
+  nonzero = λ k. s.nonzero some;
+  alone = λ k. absurd (omega arith);
+}
+
+spelled : (k n : ℕ) → n ≤ k → IsSpelled n
+spelled zero n h = spelled_last n (omega arith)
+spelled (suc k) n h = ⊎_elim (λ l. spelled_last n l)
+    (λ l. let parts : 10 * (n / 10) + n % 10 ≡ n = omega arith in
+    subst IsSpelled parts
+    (spelled_next (n / 10) (n % 10) (omega arith) (omega arith) (spelled k (n / 10) (omega arith))))
+    (cases_lt n 10)
+
+indexed : (n c : ℕ) (w : List ℕ) → is_ascii_digit c ≡ true → list_all is_ascii_digit w ≡ true
+    → digits_value 10 (c ∷ w) ≡ n → (0 < n → not (c == 48) ≡ true) → (n < 10 → w ≡ []) → index_of (c ∷ w) ≡ Some n
+indexed n c [] h k v f g = rw h (ap Some v)
+indexed n c (d ∷ w) h k v f g = ⊎_elim (λ l. absurd (cons≢nil (g l)))
+    (λ l. let test = and_from (not (c == 48)) (list_all is_ascii_digit (c ∷ d ∷ w)) (f (omega arith))
+    (and_from (is_ascii_digit c) (list_all is_ascii_digit (d ∷ w)) h k) in rw test (ap Some v))
+    (cases_lt n 10)
+  where
+    cons≢nil : d ∷ w ≡ [] → ⊥
+    cons≢nil e = let longer = ap length e in omega (arith, longer)
+
+pub index_of-token : (n : ℕ) → index_of (index_token n) ≡ Some n
+index_of-token n =
+    let s = spelled n n (omega arith) in
+    ap index_of s.is ∙ indexed n s.first s.later s.digit s.digits s.value s.nonzero s.alone
