@@ -8,3 +8,4 @@ pub mod Walks
 pub mod Readings
 pub mod ValueAt
 pub mod Numbers
+pub mod TableLaws

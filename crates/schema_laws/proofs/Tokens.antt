@@ -163,7 +163,8 @@ all_more : (w : List ℕ) (c : ℕ) → list_all is_ascii_digit w ≡ true → i
     → list_all is_ascii_digit (w ++ c ∷ []) ≡ true
 all_more w c h k =
     list_all-append is_ascii_digit w (c ∷ [])
-    ∙ and_from (list_all is_ascii_digit w) (list_all is_ascii_digit (c ∷ [])) h (and_from (is_ascii_digit c) true k refl)
+    ∙ and_from (list_all is_ascii_digit w) (list_all is_ascii_digit (c ∷ [])) h
+    (and_from (is_ascii_digit c) true k refl)
 
 spelled_next : (m d : ℕ) → 0 < m → d < 10 → IsSpelled m → IsSpelled (10 * m + d)
 spelled_next m d some small s = record {

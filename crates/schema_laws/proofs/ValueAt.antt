@@ -17,7 +17,8 @@ record IsBelow (p : Pointer) (v : Json) (c : Place) : Type 0 where
   leads : value_at way v ≡ Some c.1
 
 -- from a child of v to v
-up : (p : Pointer) (t : List ℕ) (v u : Json) (c : Place) → child_at t v ≡ Some u → IsBelow (p ++ t ∷ []) u c → IsBelow p v c
+up : (p : Pointer) (t : List ℕ) (v u : Json) (c : Place) → child_at t v ≡ Some u
+    → IsBelow (p ++ t ∷ []) u c → IsBelow p v c
 up p t v u c e b = record {
   way = t ∷ b.way;
   is = b.is ∙ append_assoc p (t ∷ []) b.way;
@@ -38,7 +39,8 @@ record IsAtItem (p : Pointer) (before : ℕ) (vs : Items) (c : Place) : Type 0 w
   element : slice_get (elements vs) at ≡ Some value
   below : IsBelow (p ++ index_token (before + at) ∷ []) value c
 
-later_item : (p : Pointer) (i : ℕ) (v : Json) (vs : Items) (c : Place) → IsAtItem p (suc i) vs c → IsAtItem p i (item v vs) c
+later_item : (p : Pointer) (i : ℕ) (v : Json) (vs : Items) (c : Place) → IsAtItem p (suc i) vs c
+    → IsAtItem p i (item v vs) c
 later_item p i v vs c h = record {
   at = suc h.at;
   value = h.value;
@@ -62,7 +64,8 @@ record IsAtMember (p : Pointer) (ms : Members) (c : Place) : Type 0 where
   found : lookup name ms ≡ Some value
   below : IsBelow (p ++ name ∷ []) value c
 
-other_name : (k t : List ℕ) (v u : Json) (ms : Members) (test : Bool) → same_word t k ≡ test → is_none (lookup k ms) ≡ true
+other_name : (k t : List ℕ) (v u : Json) (ms : Members) (test : Bool) → same_word t k ≡ test
+    → is_none (lookup k ms) ≡ true
     → lookup t ms ≡ Some u → cond test (Some v) (lookup t ms) ≡ Some u
 other_name k t v u ms false e h f = f
 other_name k t v u ms true e h f =
