@@ -9,3 +9,5 @@ pub mod Readings
 pub mod ValueAt
 pub mod Numbers
 pub mod TableLaws
+pub mod KeywordLaws
+pub mod Faultless
