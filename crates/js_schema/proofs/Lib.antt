@@ -1,0 +1,2 @@
+pub mod TreeTestsLemmas
+pub mod EntriesLemmas

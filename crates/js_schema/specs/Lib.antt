@@ -1,0 +1,6 @@
+-- What a reader must believe: the entries that the program's values stand for, and the names that reports print.
+pub mod Names
+pub mod TreeTests
+pub mod Patterns
+pub mod View
+pub mod SchemaView

@@ -1,0 +1,90 @@
+-- The entries that the program's values stand for.
+use Rattle.std.specs.Prelude.{ℕ, List, map, option_map}
+use Rattle.documents.specs.Document as D
+use Rattle.js_doc.specs.View.{view, list_view}
+use Rattle.schemas.specs.Entry as E
+use Rattle.js_schema.specs.declared.part.TypeName.{TypeName}
+use Rattle.js_schema.specs.declared.part.TypeName.TheVariants as T
+use Rattle.js_schema.specs.declared.part.ItemsPart.{ItemsPart}
+use Rattle.js_schema.specs.declared.part.ItemsPart.TheVariants as I
+use Rattle.js_schema.specs.declared.part.Property.{Property}
+use Rattle.js_schema.specs.declared.part.PatternProperty.{PatternProperty}
+use Rattle.js_schema.specs.declared.lists.PatternPropertyList.{PatternPropertyList}
+use Rattle.js_schema.specs.declared.part.Needs.{Needs}
+use Rattle.js_schema.specs.declared.part.Needs.TheVariants as N
+use Rattle.js_schema.specs.declared.part.Dependency.{Dependency}
+use Rattle.js_schema.specs.declared.constraints.Keywords.{Keywords}
+use Rattle.js_schema.specs.declared.entry.Form.{Form}
+use Rattle.js_schema.specs.declared.entry.Form.TheVariants as F
+use Rattle.js_schema.specs.declared.entry.Entry.{Entry}
+use Rattle.js_schema.specs.Patterns.{source_of}
+
+abbrev pub type_view : TypeName → E.TypeName
+type_view T.Null = E.Null
+type_view T.Boolean = E.Boolean
+type_view T.Object = E.Object
+type_view T.Array = E.Array
+type_view T.Number = E.Number
+type_view T.Text = E.Text
+type_view T.Integer = E.Integer
+
+abbrev pub items_view : ItemsPart → E.ItemsPart
+items_view (I.Each e) = E.Each e
+items_view (I.Listed es) = E.Listed es
+
+abbrev pub property_view : Property → List ℕ × ℕ
+property_view p = (p.name, p.entry)
+
+abbrev pub pattern_property_view : PatternProperty → List ℕ × ℕ
+pattern_property_view p = (source_of p.pattern, p.entry)
+
+abbrev pub pattern_properties_view : PatternPropertyList → List (List ℕ × ℕ)
+pattern_properties_view l = map pattern_property_view l.items.items
+
+abbrev pub needs_view : Needs → E.Needs
+needs_view (N.Names ns) = E.Names ns
+needs_view (N.Whole e) = E.Whole e
+
+abbrev pub dependency_view : Dependency → List ℕ × E.Needs
+dependency_view d = (d.key, needs_view d.needs)
+
+abbrev pub keywords_view : Keywords → E.Keywords
+keywords_view k = record {
+  types = option_map (λ ts. map type_view ts) k.types;
+  enumeration = option_map (λ ds. D.elements (list_view ds)) k.enumeration;
+  constant = option_map view k.constant;
+  multiple_of = k.multiple_of;
+  minimum = k.minimum;
+  maximum = k.maximum;
+  exclusive_minimum = k.exclusive_minimum;
+  exclusive_maximum = k.exclusive_maximum;
+  min_length = k.min_length;
+  max_length = k.max_length;
+  pattern = option_map source_of k.pattern;
+  items = option_map items_view k.items;
+  additional_items = k.additional_items;
+  contains = k.contains;
+  min_items = k.min_items;
+  max_items = k.max_items;
+  required = k.required;
+  properties = option_map (λ ps. map property_view ps) k.properties;
+  pattern_properties = option_map pattern_properties_view k.pattern_properties;
+  additional_properties = k.additional_properties;
+  property_names = k.property_names;
+  dependencies = option_map (λ ds. map dependency_view ds) k.dependencies;
+  min_properties = k.min_properties;
+  max_properties = k.max_properties;
+  all_of = k.all_of;
+  any_of = k.any_of;
+  one_of = k.one_of;
+  not = k.not;
+}
+
+abbrev pub form_view : Form → E.Form
+form_view F.Always = E.Always
+form_view F.Never = E.Never
+form_view (F.Ref e) = E.Ref e
+form_view (F.Keywords k) = E.Asks (keywords_view k)
+
+abbrev pub entry_view : Entry → E.Entry
+entry_view e = E.entry e.pointer (form_view e.form)

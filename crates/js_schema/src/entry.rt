@@ -1,0 +1,19 @@
+//! An entry of a schema: where its place is, and what it accepts.
+
+use crate::constraints::Keywords;
+use js_json::Pointer;
+
+/// What a place accepts: everything, nothing, what another entry accepts, or what its keywords ask for.
+#[derive(Drop)]
+pub enum Form {
+    Always,
+    Never,
+    Ref(u32),
+    Keywords(Keywords),
+}
+
+#[derive(Drop)]
+pub(crate) struct Entry {
+    pub(crate) pointer: Pointer,
+    pub(crate) form: Form,
+}

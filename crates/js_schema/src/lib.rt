@@ -1,0 +1,22 @@
+//! Schemas of draft-06 as tables of entries: one entry for each place of a schema that its walk comes to.
+//!
+//! An entry names others by their numbers, so that references may lead in circles. `specs/View.antt` says which entry of
+//! the definitions a value of the program stands for. The validator, the guard against circles and the normal form
+//! stand on this crate.
+#![tactic(auto)]
+
+mod constraints;
+mod entry;
+mod keyword;
+mod lists;
+mod part;
+mod pattern;
+mod table;
+
+pub use constraints::Keywords;
+pub use entry::Form;
+pub use keyword::Keyword;
+pub use lists::{DependencyList, EntryList, PatternPropertyList, PropertyList, TypeList};
+pub use part::{Dependency, ItemsPart, Needs, PatternProperty, Property, TypeName};
+pub use pattern::PatternText;
+pub use table::Schema;

@@ -1,0 +1,52 @@
+//! Parts of keywords: names of types, and schemas by their numbers with what they are asked of.
+
+use crate::lists::EntryList;
+use crate::pattern::PatternText;
+use js_doc::{Str, StrList};
+
+/// A name of `type`. Numbers are whole, so `integer` and `number` name one kind.
+#[derive(Clone, Copy, PartialEq, Eq, Debug)]
+pub enum TypeName {
+    Null,
+    Boolean,
+    Object,
+    Array,
+    Number,
+    Text,
+    Integer,
+}
+
+/// `items`: one schema for each element, or a list of schemas, each for the element at its place.
+#[derive(Drop)]
+pub enum ItemsPart {
+    Each(u32),
+    Listed(EntryList),
+}
+
+/// A member of `properties`.
+#[derive(Drop)]
+pub struct Property {
+    pub name: Str,
+    pub entry: u32,
+}
+
+/// A member of `patternProperties`.
+#[derive(Drop)]
+pub struct PatternProperty {
+    pub pattern: PatternText,
+    pub entry: u32,
+}
+
+/// What the presence of a name asks for: that other names are there, or a schema of the whole object.
+#[derive(Drop)]
+pub enum Needs {
+    Names(StrList),
+    Whole(u32),
+}
+
+/// A member of `dependencies`.
+#[derive(Drop)]
+pub struct Dependency {
+    pub key: Str,
+    pub needs: Needs,
+}

@@ -1,0 +1,13 @@
+pub mod Pointers
+pub mod Members
+pub mod Tokens
+pub mod ValuesLaws
+pub mod ChildrenLaws
+pub mod Distinct
+pub mod Walks
+pub mod Readings
+pub mod ValueAt
+pub mod Numbers
+pub mod TableLaws
+pub mod KeywordLaws
+pub mod Faultless

@@ -1,0 +1,6 @@
+mod ExampleRules
+mod ShapeExamples
+mod FaultExamples
+mod WalkExamples
+mod EntryExamples
+mod TableExamples
