@@ -8,3 +8,4 @@ pub mod Deciding
 pub mod PlaceLaws
 pub mod AnswerLaws
 pub mod MarkLaws
+pub mod SieveLaws

@@ -1,7 +1,8 @@
 -- Which candidates a list of values has, by their numbers.
-use Rattle.std.specs.Prelude.{◌≡◌, ℕ, ◌<◌, ◌==◌, List, get_or, Bool, false, ◌||◌, Option, Some, None, ℤ}
+use Rattle.std.specs.Prelude.{◌≡◌, ℕ, ◌-◌, ◌*◌, ◌%◌, ◌<◌, ◌==◌, nat_le, List, get_or, Bool, true, false, ◌&&◌, ◌||◌, Option, Some, None, ℤ}
 use Rattle.std.specs.Ordering.{int_eq}
-use Rattle.js_numbers.specs.Group.{Group, is_listed}
+use Rattle.js_numbers.specs.Multiples.{is_multiple}
+use Rattle.js_numbers.specs.Group.{Group, is_listed, is_struck}
 use Rattle.js_numbers.specs.Outcome.{candidate, is_over}
 
 -- k is the number that was found
@@ -32,3 +33,18 @@ AddsRuledOut limit m g old new = AddsMarks limit (candidate m g) (is_listed g.no
 -- the candidates that a set that is ruled out has are marked, and no others
 abbrev pub AreRuledOut : ℕ → ℕ → Group → List Bool → Type 0
 AreRuledOut limit m g marks = AreMarked limit (candidate m g) (is_listed g.not_sets) marks
+
+-- k is first, or a whole number of steps further
+abbrev pub is_on : ℕ → ℕ → ℕ → Bool
+is_on first step k = nat_le first k && (k - first) % step == 0
+
+-- for each step that is noted, the candidates are marked that are this step's multiples of m
+abbrev pub AreStepsMarked : ℕ → ℕ → Group → List Bool → List Bool → Type 0
+AreStepsMarked limit m g noted marks =
+    (s : ℕ) → get_or noted s false ≡ true
+    → (k : ℕ) → k < limit → is_over (candidate m g k) ≡ false
+    → is_multiple (s * m) (candidate m g k) ≡ true → get_or marks k false ≡ true
+
+-- the candidates that are struck are marked, and no others
+abbrev pub AreStruckMarked : ℕ → ℕ → Group → List Bool → Type 0
+AreStruckMarked limit m g marks = AreMarked limit (candidate m g) (is_struck g) marks

@@ -16,6 +16,7 @@ mod group;
 mod marks;
 mod number;
 mod search;
+mod sieve;
 
 pub use candidates::MOST_STRUCK;
 pub use decision::decide;
