@@ -9,3 +9,4 @@ pub mod PlaceLaws
 pub mod AnswerLaws
 pub mod MarkLaws
 pub mod SieveLaws
+pub mod ListedLaws

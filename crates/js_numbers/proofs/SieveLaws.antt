@@ -258,7 +258,7 @@ is_on-first first step = is_on-step first step 0 first (omega arith)
 
 -- ---- the marks of several divisors
 
-get_or-replicate_false : (n s : ℕ) → get_or (replicate n false) s false ≡ false
+pub get_or-replicate_false : (n s : ℕ) → get_or (replicate n false) s false ≡ false
 get_or-replicate_false zero s = refl
 get_or-replicate_false (suc n) zero = refl
 get_or-replicate_false (suc n) (suc s) = get_or-replicate_false n s

@@ -13,6 +13,7 @@ mod candidates;
 mod decision;
 mod factors;
 mod group;
+mod listed;
 mod marks;
 mod number;
 mod search;
