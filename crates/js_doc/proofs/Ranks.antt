@@ -1,5 +1,5 @@
 -- The rank of a value, found in the sorted copy.
-use Rattle.std.proofs.Common.{◌≡◌, ℕ, zero, suc, ◌+◌, ◌<◌, ◌≤◌, List, [], ◌∷◌, length, get_or, Bool, true, false, cond, Less, Equal, Greater, ◌||◌, Option, Some, None, ℤ, ◌<ℤ◌, ◌≤ℤ◌, int_lt, inl, inr, refl, ap, sym, subst, ◌∙◌, arith, to_z, of_z, to_z-of_z, FitsSigned, if◌then◌else◌}
+use Rattle.std.proofs.Common.{◌≡◌, ℕ, zero, suc, ◌+◌, ◌<◌, ◌≤◌, List, [], ◌∷◌, length, get_or, Bool, true, false, cond, Less, Equal, Greater, ◌||◌, Some, None, ℤ, ◌<ℤ◌, ◌≤ℤ◌, int_lt, inl, inr, refl, ap, sym, subst, ◌∙◌, arith, to_z, of_z, to_z-of_z, FitsSigned, if◌then◌else◌}
 use Rattle.std.specs.Int.{w128}
 use Rattle.std.specs.Int.Signed.{lt_z}
 use Rattle.std.specs.List.{AllZip, list_any, count_by}

@@ -1,17 +1,17 @@
 -- Values marked at their ranks, and values tried by the least common multiple.
-use Rattle.std.proofs.Common.{◌≡◌, ◌≢◌, ℕ, zero, suc, ◌+◌, ◌%◌, ◌^◌, ◌<◌, ◌≤◌, ◌==◌, nat_lt, Bool, true, false, not, cond, ◌&&◌, ◌||◌, List, [], ◌∷◌, length, get_or, replicate, take, Option, Some, None, ℤ, ◌<ℤ◌, ◌≤ℤ◌, int_lt, unsigned_abs, inl, inr, refl, ap, sym, ◌∙◌, subst, arith, if◌then◌else◌}
-use Rattle.std.specs.List.{list_all, list_any, count_by, sum_by}
+use Rattle.std.proofs.Common.{◌≡◌, ℕ, ◌+◌, ◌%◌, ◌<◌, ◌≤◌, ◌==◌, nat_lt, Bool, true, false, cond, ◌&&◌, ◌||◌, List, [], ◌∷◌, length, get_or, replicate, take, Option, Some, None, ℤ, ◌<ℤ◌, ◌≤ℤ◌, int_lt, inl, inr, refl, ap, sym, ◌∙◌, arith, if◌then◌else◌}
+use Rattle.std.specs.List.{list_all, list_any}
 use Rattle.std.specs.Ordering.{int_eq}
 use Rattle.std.proofs.lemmas.Int.{ints, by_lt_z}
-use Rattle.std.proofs.lemmas.Bool.{eq-eqb, eqb-true, ltb-true, or_cases, and_parts, and_from, false≢true}
+use Rattle.std.proofs.lemmas.Bool.{eq-eqb, eqb-true, or_cases, false≢true}
 use Rattle.std.proofs.lemmas.Bool.Decides.{Decides-int_eq}
 use Rattle.std.proofs.lemmas.List.Folds.{list_any_more}
 use Rattle.std.proofs.lemmas.List.Sums.{sum_by-cons, sum_by-le-sum_by}
 use Rattle.std.proofs.lemmas.Nat.Gcd.{dvd_of_mod-eq-zero, mod-eq-zero_of_dvd}
 use Rattle.std.proofs.Math.Nat.{mod-eq_of_lt}
 use Rattle.js_doc.specs.Numbers.{count_below, rank_of}
-use Rattle.js_numbers.specs.Multiples.{is_common, is_multiple, lcm_of}
-use Rattle.js_numbers.specs.Group.{Group, has, is_above, is_below, is_met, is_struck}
+use Rattle.js_numbers.specs.Multiples.{is_common, lcm_of}
+use Rattle.js_numbers.specs.Group.{has}
 use Rattle.js_numbers.specs.Marking.{is_at, marked_below, mark_of, AddsListed, AreListed}
 use Rattle.js_numbers.proofs.CommonMultiples.{IsLcmOf-lcm_of, common_along}
 use Rattle.js_numbers.proofs.MarkLaws.{same_bool, or_assoc}
@@ -142,6 +142,7 @@ shared_any (x ∷ xs) set y = go (int_eq x y) refl (shared_any xs set y)
     take_in true r m e = refl
     take_in false r true e = e
     take_in false r false e = e
+
     go : (b : Bool) → int_eq x y ≡ b
         → list_any (λ z. int_eq z y && has set z) xs ≡ (has xs y && has set y)
         → (int_eq x y && has set x || list_any (λ z. int_eq z y && has set z) xs) ≡ ((int_eq x y || has xs y) && has set y)

@@ -17,7 +17,7 @@ use Rattle.js_numbers.specs.Marking.{AddsMarks, AreStepsMarked, is_on}
 use Rattle.js_numbers.proofs.CommonMultiples.{IsLcm-from_gcd}
 use Rattle.js_numbers.proofs.MarkLaws.{same_bool, or_assoc}
 use Rattle.js_numbers.proofs.PlaceLaws.{divides, is_multiple_from, divides_multiple_from, some_multiple_from, are_candidates}
-use Rattle.js_numbers.proofs.Sizes.{abs-neg, int_rem_euclid-nonnegative, ready_parts}
+use Rattle.js_numbers.proofs.Sizes.{abs-neg, ready_parts}
 
 -- ---- the step of a divisor
 
@@ -215,12 +215,15 @@ is_on-alternate m s k p r = same_bool (is_on 0 (2 * s) k || is_on (2 * s - 1) (2
     divided j e = is_multiple_from (s * m) (alternate m k)
         (subst (λ z. s * m ∣ z) (sym (abs_alternate m k))
         (mul-dvd-mul_right s (subst (λ z. s ∣ z) e (dvd-mul_left s j)) m))
+
     odd_found : (j : ℕ) → j * s ≡ (k + 1) / 2 → k + 1 ≡ 2 * ((k + 1) / 2) → is_on (2 * s - 1) (2 * s) k ≡ true
     odd_found zero e f = absurd (omega (arith, e))
     odd_found (suc j) e f = is_on-step (2 * s - 1) (2 * s) j k (omega (arith, e))
+
     or_right : (a b : Bool) → b ≡ true → (a || b) ≡ true
     or_right true b h = refl
     or_right false b h = h
+
     found : (j : ℕ) → j * s ≡ (k + 1) / 2 → (is_on 0 (2 * s) k || is_on (2 * s - 1) (2 * s) k) ≡ true
     found j e = elim (cases_lt (k % 2) 1) [
       | inl l ↦ ap (λ b. b || is_on (2 * s - 1) (2 * s) k) (is_on-step 0 (2 * s) j k (omega (arith, e, l)))

@@ -136,7 +136,13 @@ fn is_asked(group: &NumGroup, common: Option<u128>, x: i128) -> bool
 }
 
 /// Whether `x` meets the group.
-fn is_met(group: &NumGroup, values: &NumList, common: Option<u128>, listed: &[bool], x: i128) -> bool
+fn is_met(
+    group: &NumGroup,
+    values: &NumList,
+    common: Option<u128>,
+    listed: &[bool],
+    x: i128,
+) -> bool
     requires ready { is_ready (group_of group.now) ≡ true }
     requires multiple { SomeIff common (lcm_of group.now.multiples.now < 2 ^ 127) (lcm_of group.now.multiples.now) }
     requires size { length listed.now ≡ MOST_STRUCK }

@@ -49,7 +49,7 @@ fn mark_up(low: i128, m: u128, step: u128, marks: &mut [bool])
     requires size { length marks.old ≡ MOST_STRUCK }
     ensures { (k : ℕ) → k < MOST_STRUCK
         → get_or marks.new k false
-            ≡ (get_or marks.old k false || is_multiple (step * m) (multiple_from m low k)) }
+        ≡ (get_or marks.old k false || is_multiple (step * m) (multiple_from m low k)) }
 {
     let start = -(-low).div_euclid(m as i128);
     mark_each(marks, gap(start, step) as u128, step);

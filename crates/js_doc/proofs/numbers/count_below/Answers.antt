@@ -1,4 +1,4 @@
-use Rattle.std.proofs.Common.{◌≡◌, ◌+◌, ◌-◌, ◌/◌, ℤ, ◌<ℤ◌, ◌≤ℤ◌, get_or, pos, true, false, arith, to_z, of_z, FitsSigned, rules}
+use Rattle.std.proofs.Common.{◌+◌, ◌-◌, ◌/◌, get_or, pos, arith, FitsSigned, rules}
 use Rattle.std.specs.Int.{w128}
 use Rattle.std.proofs.lemmas.Int.{ints}
 use Rattle.std.proofs.lemmas.List.{get_or_default}

@@ -1,4 +1,4 @@
-use Rattle.std.proofs.Common.{◌∙◌, ◌<◌, length, ap, sym, arith}
+use Rattle.std.proofs.Common.{◌∙◌, ◌<◌, length, sym, arith}
 use Rattle.js_numbers.specs.declared.candidates.TheConstants.{MOST_STRUCK}
 use Rattle.js_numbers.specs.Group.{group_of}
 use Rattle.js_numbers.proofs.Deciding.{outcome-crossed, outcome-sets, outcome-no_sets}

@@ -1,9 +1,6 @@
-use Rattle.std.proofs.Common.{◌≡◌, ◌%◌, ◌==◌, ◌<◌, ◌≤◌, ◌^◌, SomeIff, inl, inr, unsigned_abs, true, refl, ap, sym, subst, ◌∙◌, of_z, to_z-of_z, rules, arith}
-use Rattle.std.specs.Int.{w128}
-use Rattle.std.proofs.lemmas.Int.{ints}
+use Rattle.std.proofs.Common.{◌≡◌, ◌%◌, ◌==◌, ◌<◌, ◌^◌, SomeIff, inl, inr, unsigned_abs, ap, subst, ◌∙◌, to_z-of_z, rules, arith}
 use Rattle.std.proofs.lemmas.Bool.{cases_lt}
 use Rattle.js_numbers.specs.Multiples.{lcm_of}
-use Rattle.js_numbers.proofs.MarkLaws.{same_bool}
 use Rattle.js_numbers.proofs.ListedLaws.{common_by_lcm, common_below_lcm}
 use Rattle.js_numbers.proofs.listed.is_common.Goals as goal
 

@@ -1,9 +1,8 @@
-use Rattle.std.proofs.Common.{pos, get_or, length, ◌<◌, ◌≤◌, ◌||◌, false, ap, sym, subst, ◌∙◌, to_z-of_z, rules, FitsSigned, take_all}
+use Rattle.std.proofs.Common.{pos, get_or, length, ◌<◌, ◌≤◌, ◌||◌, false, ap, subst, ◌∙◌, to_z-of_z, rules, FitsSigned, take_all}
 use Rattle.std.specs.Int.{w128}
 use Rattle.std.specs.Ordering.{int_eq}
 use Rattle.js_numbers.specs.declared.candidates.TheConstants.{MOST_STRUCK}
 use Rattle.js_numbers.specs.Group.{has}
-use Rattle.js_numbers.specs.Marking.{AddsListed}
 use Rattle.js_numbers.proofs.ListedLaws.{AddsListed-more}
 use Rattle.js_numbers.proofs.listed.mark_members.Goals as goal
 

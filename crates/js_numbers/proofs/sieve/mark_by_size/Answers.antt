@@ -1,4 +1,4 @@
-use Rattle.std.proofs.Common.{◌≡◌, ◌*◌, ◌-◌, ap, sym, ◌∙◌, get_or, false, ◌||◌, arith}
+use Rattle.std.proofs.Common.{◌*◌, ◌-◌, ap, ◌∙◌, get_or, false, ◌||◌, arith}
 use Rattle.js_numbers.specs.Marking.{is_on}
 use Rattle.js_numbers.proofs.MarkLaws.{or_assoc}
 use Rattle.js_numbers.proofs.SieveLaws.{is_on-alternate}

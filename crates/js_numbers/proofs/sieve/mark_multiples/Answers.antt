@@ -1,4 +1,4 @@
-use Rattle.std.proofs.Common.{◌≡◌, ◌*◌, ◌%◌, ◌==◌, Option, Some, None, ℤ, pos, neg_ℤ, ◌-ℤ◌, to_z, of_z, ap, sym, ◌∙◌, get_or, false, ◌||◌, arith}
+use Rattle.std.proofs.Common.{◌≡◌, ◌*◌, ◌%◌, ◌==◌, None, pos, neg_ℤ, ◌-ℤ◌, to_z, of_z, ap, sym, ◌∙◌, get_or, false, ◌||◌, arith}
 use Rattle.std.specs.Int.{w128}
 use Rattle.std.proofs.lemmas.Int.{ints}
 use Rattle.js_numbers.specs.Multiples.{is_multiple}

@@ -1,4 +1,4 @@
-use Rattle.std.proofs.Common.{◌≡◌, pos, neg_ℤ, ◌-ℤ◌, to_z, of_z, unsigned_abs, ap, sym, ◌∙◌, get_or, false, ◌||◌, arith}
+use Rattle.std.proofs.Common.{◌≡◌, pos, neg_ℤ, ◌-ℤ◌, to_z, of_z, unsigned_abs, ap, ◌∙◌, get_or, false, ◌||◌, arith}
 use Rattle.std.specs.Int.{w128, int_div_euclid, int_rem_euclid}
 use Rattle.std.proofs.lemmas.Int.{ints}
 use Rattle.js_numbers.proofs.Sizes.{abs-neg, int_rem_euclid-nonnegative}

@@ -1,4 +1,4 @@
-use Rattle.std.proofs.Common.{◌≡◌, ◌<◌, ◌/◌, ◌*◌, ap, sym, subst, ◌∙◌, arith}
+use Rattle.std.proofs.Common.{ap, sym, ◌∙◌, arith}
 use Rattle.js_numbers.specs.Multiples.{is_multiple}
 use Rattle.js_numbers.proofs.CommonMultiples.{gcd_positive}
 use Rattle.js_numbers.proofs.SieveLaws.{step_positive, strikes_steps}
