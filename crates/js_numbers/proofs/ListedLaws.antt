@@ -115,11 +115,13 @@ or_false : (b : Bool) → b ≡ (b || false)
 or_false true = refl
 or_false false = refl
 
-pub AddsListed-none : (limit : ℕ) (values : List ℤ) (marks : List Bool) → AddsListed limit values (λ y. false) marks marks
+pub AddsListed-none : (limit : ℕ) (values : List ℤ) (marks : List Bool)
+    → AddsListed limit values (λ y. false) marks marks
 AddsListed-none limit values marks = λ y k e. or_false (get_or marks k false)
 
 -- one element more of a list whose elements give tests
-pub AddsListed-more : {X : Type 0} (limit : ℕ) (values : List ℤ) (p : X → ℤ → Bool) (xs : List X) (i : ℕ) (x d : X) (old mid new : List Bool)
+pub AddsListed-more : {X : Type 0} (limit : ℕ) (values : List ℤ) (p : X → ℤ → Bool) (xs : List X) (i : ℕ)
+    (x d : X) (old mid new : List Bool)
     → i < length xs → x ≡ get_or xs i d
     → AddsListed limit values (λ y. list_any (λ z. p z y) (take i xs)) old mid
     → AddsListed limit values (p x) mid new
@@ -145,7 +147,8 @@ shared_any (x ∷ xs) set y = go (int_eq x y) refl (shared_any xs set y)
 
     go : (b : Bool) → int_eq x y ≡ b
         → list_any (λ z. int_eq z y && has set z) xs ≡ (has xs y && has set y)
-        → (int_eq x y && has set x || list_any (λ z. int_eq z y && has set z) xs) ≡ ((int_eq x y || has xs y) && has set y)
+        → (int_eq x y && has set x || list_any (λ z. int_eq z y && has set z) xs)
+        ≡ ((int_eq x y || has xs y) && has set y)
     go true e left =
         let same : has set x ≡ has set y = ap (has set) ((Decides-int_eq x y).0 e) in
         let rest = list_any (λ z. int_eq z y && has set z) xs in

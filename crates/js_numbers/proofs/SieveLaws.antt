@@ -78,7 +78,8 @@ lt_or_not j k l = go (nat_lt j k) refl
 -- another number is passed at a step exactly where it was passed before
 pub passed_more : (first step j k : ℕ) → is_on first step k ≡ true → j ≢ k
     → (is_on first step j && nat_lt j (k + step)) ≡ (is_on first step j && nat_lt j k)
-passed_more first step j k h other = same_bool (is_on first step j && nat_lt j (k + step)) (is_on first step j && nat_lt j k)
+passed_more first step j k h other = same_bool
+    (is_on first step j && nat_lt j (k + step)) (is_on first step j && nat_lt j k)
     (λ e. let (a, b) = and_parts _ _ e in
     let le = none_between first step j k a h (ltb-true j (k + step) b) in
     let lt : j < k = omega (arith, other) in
@@ -130,7 +131,8 @@ first_is m (negsuc n) p =
     let e : negsuc n +ℤ pos (suc n % m) ≡ neg_ℤ (pos (suc n / m * m)) = omega (arith, ints, mod-add-div (suc n) m) in
     e ∙ sym (times_neg (suc n / m) m)
 
-abs_down : (a b m : ℕ) → b ≤ a → unsigned_abs (neg_ℤ (pos (a * m)) +ℤ pos (b * m)) ≡ unsigned_abs (neg_ℤ (pos a) +ℤ pos b) * m
+abs_down : (a b m : ℕ) → b ≤ a
+    → unsigned_abs (neg_ℤ (pos (a * m)) +ℤ pos (b * m)) ≡ unsigned_abs (neg_ℤ (pos a) +ℤ pos b) * m
 abs_down a b m l =
     let d = a - b in
     let e : a ≡ b + d = omega arith in
@@ -139,7 +141,8 @@ abs_down a b m l =
     let right : unsigned_abs (neg_ℤ (pos a) +ℤ pos b) ≡ d = omega (arith, ints, e) in
     left ∙ sym (ap (λ z. z * m) right)
 
-abs_up : (a b m : ℕ) → a ≤ b → unsigned_abs (neg_ℤ (pos (a * m)) +ℤ pos (b * m)) ≡ unsigned_abs (neg_ℤ (pos a) +ℤ pos b) * m
+abs_up : (a b m : ℕ) → a ≤ b
+    → unsigned_abs (neg_ℤ (pos (a * m)) +ℤ pos (b * m)) ≡ unsigned_abs (neg_ℤ (pos a) +ℤ pos b) * m
 abs_up a b m l =
     let d = b - a in
     let e : b ≡ a + d = omega arith in
@@ -174,7 +177,8 @@ is_on-multiple_from m s k first low p r f =
     let d : s ∣ unsigned_abs (q +ℤ pos k) = subst (λ z. s ∣ unsigned_abs z) same (divides_multiple_from s q j r) in
     is_multiple_from (s * m) (multiple_from m low k) (subst (λ z. s * m ∣ z) (sym size) (mul-dvd-mul_right s d m)))
     (λ h.
-    let d : s * m ∣ unsigned_abs (q +ℤ pos k) * m = subst (λ z. s * m ∣ z) size (divides (s * m) (multiple_from m low k) h) in
+    let d : s * m ∣ unsigned_abs (q +ℤ pos k) * m =
+    subst (λ z. s * m ∣ z) size (divides (s * m) (multiple_from m low k) h) in
     let (j, e) = some_multiple_from s q (q +ℤ pos k) r (dvd_of_mul-dvd-mul_right s p d) (omega (arith, ints)) in
     is_on-step first s j k (omega (arith, ints, e, f)))
 
@@ -197,7 +201,8 @@ abs_alternate m k = go (k % 2 == 0) refl
 -- the candidates at the steps are the multiples of m that the divisor divides
 pub is_on-alternate : (m s k : ℕ) → 0 < m → 0 < s
     → (is_on 0 (2 * s) k || is_on (2 * s - 1) (2 * s) k) ≡ is_multiple (s * m) (alternate m k)
-is_on-alternate m s k p r = same_bool (is_on 0 (2 * s) k || is_on (2 * s - 1) (2 * s) k) (is_multiple (s * m) (alternate m k))
+is_on-alternate m s k p r = same_bool
+    (is_on 0 (2 * s) k || is_on (2 * s - 1) (2 * s) k) (is_multiple (s * m) (alternate m k))
     (λ h. elim (or_cases (is_on 0 (2 * s) k) (is_on (2 * s - 1) (2 * s) k) h) [
       | inl even ↦
           let (j, e) = is_on-parts 0 (2 * s) k even in
@@ -246,15 +251,21 @@ mark_more marks old first step k j p h l e = elim (cases_lt j k) [
     | inr same ↦
         let here : j ≡ k = omega arith in
         get_or-set_at marks k j true false here l
-        ∙ or_true (get_or old j false) _ (subst (λ i. (is_on first step i && nat_lt i (k + step)) ≡ true) (sym here) (passed_here first step k p h))
+        ∙ or_true (get_or old j false) _
+        (subst (λ i. (is_on first step i && nat_lt i (k + step)) ≡ true) (sym here) (passed_here first step k p h))
   ]
 ]
   where
-    other : j ≢ k → get_or (set marks k true) j false ≡ (get_or old j false || (is_on first step j && nat_lt j (k + step)))
-    other n = get_or-set_other marks k j true false n ∙ e ∙ ap (λ b. get_or old j false || b) (sym (passed_more first step j k h n))
+    other : j ≢ k
+        → get_or (set marks k true) j false ≡ (get_or old j false || (is_on first step j && nat_lt j (k + step)))
+    other n =
+        get_or-set_other marks k j true false n ∙ e
+        ∙ ap (λ b. get_or old j false || b) (sym (passed_more first step j k h n))
 
 pub is_on-next : (first step k : ℕ) → is_on first step k ≡ true → is_on first step (k + step) ≡ true
-is_on-next first step k h = let (j, e) = is_on-parts first step k h in is_on-step first step (j + 1) (k + step) (omega (arith, e))
+is_on-next first step k h =
+    let (j, e) = is_on-parts first step k h in
+    is_on-step first step (j + 1) (k + step) (omega (arith, e))
 
 pub is_on-first : (first step : ℕ) → is_on first step first ≡ true
 is_on-first first step = is_on-step first step 0 first (omega arith)
@@ -266,10 +277,12 @@ get_or-replicate_false zero s = refl
 get_or-replicate_false (suc n) zero = refl
 get_or-replicate_false (suc n) (suc s) = get_or-replicate_false n s
 
-pub AreStepsMarked-none : (limit m n : ℕ) (g : Group) (marks : List Bool) → AreStepsMarked limit m g (replicate n false) marks
+pub AreStepsMarked-none : (limit m n : ℕ) (g : Group) (marks : List Bool)
+    → AreStepsMarked limit m g (replicate n false) marks
 AreStepsMarked-none limit m n g marks = λ s h. absurd (false≢true (sym (get_or-replicate_false n s) ∙ h))
 
-pub AddsMarks-none : (limit m : ℕ) (g : Group) (marks : List Bool) → AddsMarks limit (candidate m g) (λ x. false) marks marks
+pub AddsMarks-none : (limit m : ℕ) (g : Group) (marks : List Bool)
+    → AddsMarks limit (candidate m g) (λ x. false) marks marks
 AddsMarks-none limit m g marks = λ k l small. sym (or_false (get_or marks k false))
   where
     or_false : (b : Bool) → (b || false) ≡ b

@@ -25,5 +25,6 @@ returns c =
     let set = c.args.set.now in
     let over = subst (λ xs. length xs ≤ c.loop-x.x-index) c.as_slice-x-items.ensures c.loop-x-test.false in
     AddsListed-shared MOST_STRUCK values set c.args.listed.now c.loop-x.listed
-    (subst (λ xs. AddsListed MOST_STRUCK values (λ y. list_any (λ x. int_eq x y && has set x) xs) c.args.listed.now c.loop-x.listed)
+    (subst (λ xs. AddsListed MOST_STRUCK values (λ y. list_any (λ x. int_eq x y && has set x) xs)
+    c.args.listed.now c.loop-x.listed)
     (take_all c.loop-x.x-index values over) c.loop-x.invariant)

@@ -17,7 +17,8 @@ returns-in-None-Some c = λ k l small.
     let near = high_near (group_of c.args.group.now) high c.requires.ready c.in-None-Some.is-1 in
     let opposite : to_z w128 (of_z w128 (pos 0 -ℤ to_z w128 (of_z w128 high))) ≡ neg_ℤ high = omega (arith, ints) in
     let at : neg_ℤ x ≡ place m c.args.group.now.lo c.args.group.now.hi k =
-    sym (ap (λ low. place m low c.args.group.now.hi k) c.in-None-Some.is-0 ∙ ap (λ u. place m None u k) c.in-None-Some.is-1) in
+    sym (ap (λ low. place m low c.args.group.now.hi k) c.in-None-Some.is-0
+    ∙ ap (λ u. place m None u k) c.in-None-Some.is-1) in
     c.mark_up-in-None-Some.ensures k l
     ∙ ap (λ b. get_or c.args.marks.now k false || b)
     (ap (λ z. is_multiple by (multiple_from m z k)) opposite

@@ -15,10 +15,13 @@ returns c = λ k l.
     let opposite : to_z w128 (of_z w128 (pos 0 -ℤ to_z w128 (of_z w128 low))) ≡ neg_ℤ low = omega (arith, ints) in
     let by : to_z w128 m ≡ pos m = omega (arith, ints) in
     let quotient : d ≡ int_div_euclid (neg_ℤ low) (pos m) =
-    c.div_euclid-start.ensures ∙ ap (λ z. int_div_euclid z (to_z w128 m)) opposite ∙ ap (int_div_euclid (neg_ℤ low)) by in
+    c.div_euclid-start.ensures ∙ ap (λ z. int_div_euclid z (to_z w128 m)) opposite
+    ∙ ap (int_div_euclid (neg_ℤ low)) by in
     let small = factor_small m low in
+    let back : to_z w128 (of_z w128 (pos 0 -ℤ to_z w128 (of_z w128 d))) ≡ neg_ℤ d =
+    omega (arith, ints, abs-neg d, ap (λ z. unsigned_abs (neg_ℤ z)) quotient) in
     let start : to_z w128 (of_z w128 (pos 0 -ℤ to_z w128 (of_z w128 d))) ≡ factor m low =
-    (let e : to_z w128 (of_z w128 (pos 0 -ℤ to_z w128 (of_z w128 d))) ≡ neg_ℤ d = omega (arith, ints, abs-neg d, ap (λ z. unsigned_abs (neg_ℤ z)) quotient) in e) ∙ ap neg_ℤ quotient in
+    back ∙ ap neg_ℤ quotient in
     let gap : r ≡ int_rem_euclid (neg_ℤ (factor m low)) (pos s) =
     c.gap.ensures ∙ ap (λ z. int_rem_euclid (neg_ℤ z) (pos s)) start in
     let above = int_rem_euclid-nonnegative (neg_ℤ (factor m low)) (pos s) in

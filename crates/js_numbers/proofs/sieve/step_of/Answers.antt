@@ -15,4 +15,5 @@ returns-clause-positive c =
 pub returns-clause-strikes : goal.returns-clause-strikes
 returns-clause-strikes c = λ x e.
     ap (λ b. is_multiple b x) (sym c.from-divisor.ensures)
-    ∙ strikes_steps c.from-divisor.result c.args.m c.gcd.result x (omega (arith, c.from-divisor.ensures)) c.gcd.ensures e
+    ∙ strikes_steps c.from-divisor.result c.args.m c.gcd.result x
+    (omega (arith, c.from-divisor.ensures)) c.gcd.ensures e

@@ -10,7 +10,8 @@ pub returns-then-index-n : goal.returns-then-index-n
 returns-then-index-n c =
     let s = c.self.inside.sorted.items in
     let i = c.count_below-below.result in
-    let parts = parted_alike _ s _ c.args.n i c.as_slice.ensures.value (to_z-of_z c.ranges.n) c.count_below-below.ensures.parts in
+    let parts = parted_alike _ s _ c.args.n i c.as_slice.ensures.value (to_z-of_z c.ranges.n)
+    c.count_below-below.ensures.parts in
     let within : i < length s = search (rules, arith) in
     let x_fits : FitsSigned w128 c.index.result.now = search rules in
     let same : c.index.result.now ≡ c.args.n =
@@ -23,7 +24,8 @@ pub returns-else-below-len : goal.returns-else-below-len
 returns-else-below-len c =
     let s = c.self.inside.sorted.items in
     let i = c.count_below-below.result in
-    let parts = parted_alike _ s _ c.args.n i c.as_slice.ensures.value (to_z-of_z c.ranges.n) c.count_below-below.ensures.parts in
+    let parts = parted_alike _ s _ c.args.n i c.as_slice.ensures.value (to_z-of_z c.ranges.n)
+    c.count_below-below.ensures.parts in
     rank_of-none c.self.inside.items.items s c.args.n i c.self.invariant parts
     (λ d l e. elim c.else-below-len.branch [
       | else-below-len-via-then-below-len+else-index-n w ↦
