@@ -162,6 +162,46 @@ def full_sets():
         yield group(1, None, [], [2], not_sets=[[(1, last)]])
 
 
+def asked_sets():
+    for size in [65_535, 65_536]:
+        last = size - 1
+        whole = [(0, last)]
+        for low, high in [(None, None), (last, None), (size, None), (None, 0), (None, -1), (5, 4)]:
+            yield group(low, high, sets=[whole])
+        yield group(sets=[whole], not_sets=[[(0, last)]])
+        yield group(sets=[whole], not_sets=[[(0, last - 1)]])
+        yield group(sets=[whole], not_sets=[[(1, last)]])
+        yield group(sets=[whole], not_sets=[[(0, last // 2)], [(last // 2 + 1, last)]])
+        yield group(sets=[whole, [(-last, 0)]])
+        yield group(sets=[whole, [(-last, -1)]])
+        yield group(sets=[[(-last, 0)], whole], not_sets=[[0]])
+        yield group(sets=[[(10, 10 + last)], [(0, last)]], not_sets=[[(0, last - 1)]])
+        yield group(sets=[whole], not_sets=[[x] for x in range(0, 300)])
+        yield group(1, None, [last], sets=[whole])
+        yield group(1, None, [3, 5], [2, 7], sets=[whole])
+        yield group(1, None, [TOP - 1, TOP - 2], sets=[whole])
+        yield group(not_multiples=[1], sets=[whole])
+        yield group(not_multiples=[2, 3, 5, 7, 11, 13], sets=[[(2, last), last + 2, 1]])
+    # more different values than are marked
+    yield group(sets=[[(0, 70_000)]], not_sets=[[(0, 69_999)]])
+    yield group(sets=[[(0, 70_000)]], not_sets=[[(0, 70_000)]])
+    yield group(sets=[[7, 7, 3, 3, -1, 7]], not_sets=[[7], [3, 3]])
+
+
+def many_divisors():
+    primes = [p for p in range(2, 800) if all(p % q != 0 for q in range(2, p))]
+    for low, high in [(1, None), (None, -1), (2, 800), (2, 640_000), (None, None), (-TOP, None), (None, TOP)]:
+        yield group(low, high, [], primes)
+        yield group(low, high, [6], [4, 9, 25, *primes[3:]])
+        yield group(low, high, [2**32], [2**33, 3 * 2**31, 2**40])
+    yield group(2, 640_000, [], primes, not_sets=[[p for p in range(800, 900)]])
+    yield group(1, None, [], list(range(2, 1_500)))
+    yield group(2, None, [], [2 * k for k in range(1, 1_500)], not_sets=[[k for k in range(3, 200, 2)]])
+    yield group(2, None, [], [2, 3, TOP - 1], not_sets=[[(2, 65_537)]])
+    yield group(1, 65_536, [], [2], not_sets=[[2 * k + 1 for k in range(2_000)]])
+    yield group(None, None, [TOP - 59], [2, 3], not_sets=[[0]])
+
+
 def small_groups(count):
     chance = random.Random(20_170_415)
 
@@ -187,6 +227,8 @@ def main():
         *bounds_at_the_edge(),
         *wide_multiples(),
         *full_sets(),
+        *asked_sets(),
+        *many_divisors(),
         *small_groups(150),
     ]
     groups = [g for g in groups if all(s for s in g[4] + g[5])]

@@ -9,11 +9,13 @@ mod document;
 mod equality;
 mod json;
 mod lists;
+mod numbers;
 mod text;
 
 pub use depths::depth;
 pub use document::{Doc, DocList, DocMap, Member};
 pub use equality::equal;
 pub use json::{Json, JsonList, JsonMap, JsonMember};
-pub use lists::{NumList, StrList};
+pub use lists::StrList;
+pub use numbers::NumList;
 pub use text::{Memory, Str};

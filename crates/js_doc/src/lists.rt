@@ -1,6 +1,6 @@
 //! Lists that contracts see as lists. Each is made of a `Vec` and gives it back without taking memory.
 
-ghost use Rattle.std.specs.Prelude.{◌≡◌, ◌<◌, length, get_or};
+ghost use Rattle.std.specs.Prelude.{◌≡◌};
 
 use crate::text::Str;
 use std::marker::Model;
@@ -34,41 +34,6 @@ impl StrList {
     }
 
     pub fn as_slice(&self) -> &[Str]
-        ensures { result.now ≡ self.now }
-    {
-        self.items.as_slice()
-    }
-}
-
-/// A list of whole numbers.
-#[derive(Drop)]
-pub struct NumList {
-    items: Vec<i128>,
-}
-
-impl Model for NumList {
-    ghost use Rattle.std.specs.Prelude.{ℤ, List};
-
-    ghost Value = { List ℤ };
-
-    ghost view = { λ l. l.items.items };
-}
-
-impl NumList {
-    pub fn from_vec(items: Vec<i128>) -> NumList
-        ensures { result ≡ items.items }
-    {
-        NumList { items }
-    }
-
-    pub fn into_vec(self) -> Vec<i128>
-        ensures { result.items ≡ self }
-    {
-        let NumList { items } = self;
-        items
-    }
-
-    pub fn as_slice(&self) -> &[i128]
         ensures { result.now ≡ self.now }
     {
         self.items.as_slice()

@@ -97,7 +97,9 @@ says_found : (limit m : ℕ) (g : Group) (s : List ℤ) (ss : List (List ℤ)) �
 says_found limit m g s ss e (Some x) h = record {
   meets = find_Some (is_met g) s x h;
   first = λ none. let wrong : s ∷ ss ≡ [] = sym e ∙ none in cc;
-  listed = λ t ts f. let same : s ∷ ss ≡ t ∷ ts = sym e ∙ f in let front : s ≡ t = cc in sym (ap (find (is_met g)) front) ∙ h;
+  listed = λ t ts f.
+      let same : s ∷ ss ≡ t ∷ ts = sym e ∙ f in
+      let front : s ≡ t = cc in sym (ap (find (is_met g)) front) ∙ h;
 }
 says_found limit m g s ss e None h = λ x. false_unless (is_met g x) (λ met.
     let all : list_all (λ t. has t x) (s ∷ ss) ≡ true =

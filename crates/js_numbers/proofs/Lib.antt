@@ -8,3 +8,6 @@ pub mod Deciding
 pub mod PlaceLaws
 pub mod AnswerLaws
 pub mod MarkLaws
+pub mod SieveLaws
+pub mod ListedLaws
+pub mod FilterLaws

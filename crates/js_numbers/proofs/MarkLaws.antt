@@ -9,12 +9,12 @@ use Rattle.std.proofs.lemmas.Nat.Gcd.{dvd_of_mod-eq-zero}
 use Rattle.std.proofs.Math.Nat.{mul-mod_left, mul-div_cancel, div-mul_cancel}
 use Rattle.std.proofs.lemmas.List.{get_or-replicate}
 use Rattle.js_numbers.specs.Multiples.{is_multiple}
-use Rattle.js_numbers.specs.Group.{Group, has, is_struck}
+use Rattle.js_numbers.specs.Group.{Group, is_listed, is_struck}
 use Rattle.js_numbers.specs.Outcome.{multiple_from, candidate, reached}
 use Rattle.js_numbers.proofs.AnswerLaws.{reached_Ok}
-use Rattle.js_numbers.specs.Marking.{AddsMarks, AreMarked}
+use Rattle.js_numbers.specs.Marking.{AddsMarks, AddsRuledOut, AreMarked, AreStruckMarked}
 
-same_bool : (a b : Bool) → (a ≡ true → b ≡ true) → (b ≡ true → a ≡ true) → a ≡ b
+pub same_bool : (a b : Bool) → (a ≡ true → b ≡ true) → (b ≡ true → a ≡ true) → a ≡ b
 same_bool true b f g = sym (f refl)
 same_bool false true f g = g refl
 same_bool false false f g = refl
@@ -70,12 +70,30 @@ pub AreMarked-from_none : (limit : ℕ) (candidate : ℕ → ℤ) (test : ℤ �
 AreMarked-from_none limit candidate test new h = λ k l small.
     h k l small ∙ ap (λ b. b || test (candidate k)) (get_or-replicate limit k false false l)
 
--- what the marks and the divisors say of a candidate that is tried
-pub struck_from_marks : (limit m : ℕ) (g : Group) (k : ℕ) (x : ℤ) (marks : List Bool) (r : Bool)
-    → AreMarked limit (candidate m g) (λ y. list_any (λ s. has s y) g.not_sets) marks
-    → k < limit → reached m g k ≡ Ok x
-    → r ≡ (list_any (λ d. is_multiple d x) g.not_multiples || get_or marks k false) → r ≡ is_struck g x
-struck_from_marks limit m g k x marks r marked l e h =
-    let (tried, is) = reached_Ok m g k x e in
-    let mark = marked k l tried.small ∙ ap (λ y. list_any (λ s. has s y) g.not_sets) is in
-    h ∙ ap (λ b. list_any (λ d. is_multiple d x) g.not_multiples || b) mark
+pub or_assoc : (a b c : Bool) → ((a || b) || c) ≡ (a || (b || c))
+or_assoc true b c = refl
+or_assoc false b c = refl
+
+pub or_comm : (a b : Bool) → (a || b) ≡ (b || a)
+or_comm true true = refl
+or_comm true false = refl
+or_comm false true = refl
+or_comm false false = refl
+
+-- two kinds of marks make the candidates that are struck
+pub AreStruckMarked-from_both : (limit m : ℕ) (g : Group) (old new : List Bool)
+    → AddsRuledOut limit m g (replicate limit false) old
+    → AddsMarks limit (candidate m g) (λ x. list_any (λ b. is_multiple b x) g.not_multiples) old new
+    → AreStruckMarked limit m g new
+AreStruckMarked-from_both limit m g old new h i = λ k l small.
+    let x = candidate m g k in
+    i k l small
+    ∙ ap (λ b. b || list_any (λ d. is_multiple d x) g.not_multiples)
+    (AreMarked-from_none limit (candidate m g) (is_listed g.not_sets) old h k l small)
+    ∙ or_comm (is_listed g.not_sets x) (list_any (λ d. is_multiple d x) g.not_multiples)
+
+-- what the mark of a candidate that is tried says
+pub struck_by_mark : (limit m : ℕ) (g : Group) (k : ℕ) (x : ℤ) (marks : List Bool) → AreStruckMarked limit m g marks
+    → k < limit → reached m g k ≡ Ok x → get_or marks k false ≡ is_struck g x
+struck_by_mark limit m g k x marks marked l e =
+    let (tried, is) = reached_Ok m g k x e in marked k l tried.small ∙ ap (is_struck g) is

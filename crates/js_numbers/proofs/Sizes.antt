@@ -140,7 +140,7 @@ none_reached m None (Some h) k p q e =
     in_reach_over (int_le (neg_ℤ y) h) (neg_ℤ y) c ∙ ap (λ t. if t then Err LimitMultiples else Err Empty) b
 none_reached m None None k p q e = in_reach_over true (alternate m k) (sized-None (alternate m k) e)
 
-ready_parts : (g : Group) → is_ready g ≡ true → (is_near g.low ≡ true) × (is_near g.high ≡ true)
+pub ready_parts : (g : Group) → is_ready g ≡ true → (is_near g.low ≡ true) × (is_near g.high ≡ true)
 ready_parts g r =
     let (a, b) = and_parts _ _ r in let (c, d) = and_parts _ _ a in let (e, f) = and_parts _ _ c in (e, f)
 

@@ -47,11 +47,15 @@ is_listed sets x = list_any (λ s. has s x) sets
 abbrev pub is_struck : Group → ℤ → Bool
 is_struck g x = list_any (λ m. is_multiple m x) g.not_multiples || is_listed g.not_sets x
 
+-- x is within the bounds, a multiple of each divisor that is asked for, and in each set that is asked for
+abbrev pub is_asked : Group → ℤ → Bool
+is_asked g x =
+    is_above g.low x && is_below g.high x
+    && list_all (λ m. is_multiple m x) g.multiples && list_all (λ s. has s x) g.sets
+
 -- x meets the group
 abbrev pub is_met : Group → ℤ → Bool
-is_met g x =
-    is_above g.low x && is_below g.high x
-    && list_all (λ m. is_multiple m x) g.multiples && list_all (λ s. has s x) g.sets && not (is_struck g x)
+is_met g x = is_asked g x && not (is_struck g x)
 
 -- the lower bound is above the upper one
 abbrev pub is_crossed : Option ℤ → Option ℤ → Bool

@@ -5,3 +5,4 @@ pub mod Group
 pub mod Outcome
 pub mod Multiples
 pub mod Marking
+pub mod Filters

@@ -1,7 +1,9 @@
 -- Which candidates a list of values has, by their numbers.
-use Rattle.std.specs.Prelude.{◌≡◌, ℕ, ◌<◌, ◌==◌, List, get_or, Bool, false, ◌||◌, Option, Some, None, ℤ}
+use Rattle.std.specs.Prelude.{◌≡◌, ℕ, ◌-◌, ◌*◌, ◌%◌, ◌<◌, ◌==◌, nat_le, nat_lt, List, get_or, Bool, true, false, ◌&&◌, ◌||◌, Option, Some, None, ℤ, if◌then◌else◌}
 use Rattle.std.specs.Ordering.{int_eq}
-use Rattle.js_numbers.specs.Group.{Group, is_listed}
+use Rattle.js_doc.specs.Numbers.{rank_of}
+use Rattle.js_numbers.specs.Multiples.{is_multiple}
+use Rattle.js_numbers.specs.Group.{Group, is_listed, is_struck}
 use Rattle.js_numbers.specs.Outcome.{candidate, is_over}
 
 -- k is the number that was found
@@ -32,3 +34,37 @@ AddsRuledOut limit m g old new = AddsMarks limit (candidate m g) (is_listed g.no
 -- the candidates that a set that is ruled out has are marked, and no others
 abbrev pub AreRuledOut : ℕ → ℕ → Group → List Bool → Type 0
 AreRuledOut limit m g marks = AreMarked limit (candidate m g) (is_listed g.not_sets) marks
+
+-- k is first, or a whole number of steps further
+abbrev pub is_on : ℕ → ℕ → ℕ → Bool
+is_on first step k = nat_le first k && (k - first) % step == 0
+
+-- for each step that is noted, the candidates are marked that are this step's multiples of m
+abbrev pub AreStepsMarked : ℕ → ℕ → Group → List Bool → List Bool → Type 0
+AreStepsMarked limit m g noted marks =
+    (s : ℕ) → get_or noted s false ≡ true
+    → (k : ℕ) → k < limit → is_over (candidate m g k) ≡ false
+    → is_multiple (s * m) (candidate m g k) ≡ true → get_or marks k false ≡ true
+
+-- the candidates that are struck are marked, and no others
+abbrev pub AreStruckMarked : ℕ → ℕ → Group → List Bool → Type 0
+AreStruckMarked limit m g marks = AreMarked limit (candidate m g) (is_struck g) marks
+
+-- k, where there are more marks than that
+abbrev pub marked_below : ℕ → Option ℕ → Option ℕ
+marked_below limit None = None
+marked_below limit (Some k) = if nat_lt k limit then Some k else None
+
+-- the number of the mark for x: its rank among the values, where there is a mark for that
+abbrev pub mark_of : ℕ → List ℤ → ℤ → Option ℕ
+mark_of limit values x = marked_below limit (rank_of values x)
+
+-- the values that pass the test are marked where there is a mark for them, and the marks that were there stay
+abbrev pub AddsListed : ℕ → List ℤ → (ℤ → Bool) → List Bool → List Bool → Type 0
+AddsListed limit values test old new =
+    (x : ℤ) (k : ℕ) → mark_of limit values x ≡ Some k → get_or new k false ≡ (get_or old k false || test x)
+
+-- the values that have a mark are marked exactly where they pass the test
+abbrev pub AreListed : ℕ → List ℤ → (ℤ → Bool) → List Bool → Type 0
+AreListed limit values test marks =
+    (x : ℤ) (k : ℕ) → mark_of limit values x ≡ Some k → get_or marks k false ≡ test x

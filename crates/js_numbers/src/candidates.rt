@@ -14,7 +14,7 @@ use crate::number::is_below;
 pub const MOST_STRUCK: usize = 65_536;
 
 /// How far the first multiple of `m` that isn't below `low` is above it.
-fn gap(low: i128, m: u128) -> i128
+pub(crate) fn gap(low: i128, m: u128) -> i128
     requires near { unsigned_abs low ≤ 2 ^ 64 }
     requires step { (0 < m) × (m < 2 ^ 127) }
     ensures { result ≡ int_rem_euclid (neg_ℤ low) (pos m) }

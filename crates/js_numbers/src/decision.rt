@@ -1,21 +1,22 @@
 //! The answer for a group.
 
 ghost use Rattle.std.specs.Prelude.{◌≡◌, ◌%◌, ◌==◌, true};
-ghost use Rattle.std.specs.List.{find, list_any};
+ghost use Rattle.std.specs.List.{list_any};
 ghost use Rattle.js_numbers.specs.Multiples.{lcm_of};
-ghost use Rattle.js_numbers.specs.Group.{group_of, is_ready, is_met};
+ghost use Rattle.js_numbers.specs.Group.{group_of, is_ready};
 ghost use Rattle.js_numbers.specs.Correct.{IsRight};
-ghost use Rattle.js_numbers.specs.Outcome.{answer_of_multiples, found, outcome};
+ghost use Rattle.js_numbers.specs.Outcome.{answer_of_multiples, outcome};
 
 use crate::candidates::MOST_STRUCK;
 use crate::factors::lcm_of;
 use crate::group::{Cases, NumGroup};
+use crate::listed::search_values;
 use crate::search::search;
 
 /// The first number that meets the group, or that there is none, or which limit was passed on the way.
 ///
-/// Bounds are at most 2^64 in size, divisors above 0. With sets that are asked for, each value of the first is looked
-/// up in every list by a scan; without, each of at most 65,537 candidates is tried by each divisor that is ruled out.
+/// Bounds are at most 2^64 in size, divisors above 0. With sets that are asked for, the values of the first are tried;
+/// without, at most 65,537 candidates.
 pub fn decide(group: &NumGroup) -> Cases
     requires { is_ready (group_of group.now) ≡ true }
     ensures answer { result ≡ outcome MOST_STRUCK (group_of group.now) }
@@ -25,21 +26,9 @@ pub fn decide(group: &NumGroup) -> Cases
         return Cases::Empty;
     }
     match group.sets {
-        [first, ..] => first_met(group, first.as_slice()),
+        [first, ..] => search_values(group, first),
         [] => decide_multiples(group),
     }
-}
-
-/// The first value that meets the group.
-fn first_met(group: &NumGroup, values: &[i128]) -> Cases
-    ensures { result ≡ found (find (is_met (group_of group.now)) values.now) }
-{
-    for x in values {
-        if group.is_met(*x) {
-            return Cases::Found(*x);
-        }
-    }
-    Cases::Empty
 }
 
 /// The answer where no set is asked for.

@@ -1,10 +1,8 @@
-//! What a number group asks of one whole number.
-//!
-//! Each test equals its definition in `specs/Group.antt`, and looks at each divisor and each listed value at most once.
+//! Number groups, and what is known of their numbers.
 
-ghost use Rattle.std.specs.Prelude.{◌≡◌};
+ghost use Rattle.std.specs.Prelude.{◌≡◌, ◌&&◌};
 
-use crate::number::{all_have, any_has, divides_all, divides_any, is_above, is_below};
+use crate::number::{is_above, is_below};
 use js_doc::NumList;
 
 /// Bounds, divisors and sets that a whole number must have, and divisors and sets that it must not have.
@@ -32,24 +30,12 @@ pub enum Cases {
 }
 
 impl NumGroup<'_> {
-    ghost use Rattle.js_numbers.specs.Group.{group_of, is_below, is_crossed, is_met, is_struck};
+    ghost use Rattle.js_numbers.specs.Group.{is_above, is_below, is_crossed};
 
-    /// Whether `x` meets the group.
-    pub fn is_met(&self, x: i128) -> bool
-        ensures { result ≡ is_met (group_of self.now) x }
+    pub(crate) fn is_within(&self, x: i128) -> bool
+        ensures { result ≡ (is_above self.now.lo x && is_below self.now.hi x) }
     {
-        is_above(self.lo, x)
-            && is_below(self.hi, x)
-            && divides_all(self.multiples, x)
-            && all_have(self.sets, x)
-            && !self.is_struck(x)
-    }
-
-    /// Whether `x` is ruled out, by a divisor or by a set.
-    pub(crate) fn is_struck(&self, x: i128) -> bool
-        ensures { result ≡ is_struck (group_of self.now) x }
-    {
-        divides_any(self.not_multiples, x) || any_has(self.not_sets, x)
+        is_above(self.lo, x) && is_below(self.hi, x)
     }
 
     pub(crate) fn is_crossed(&self) -> bool

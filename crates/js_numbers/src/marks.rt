@@ -88,7 +88,7 @@ fn index_of(group: &NumGroup, m: u128, x: i128) -> Option<usize>
 }
 
 /// Marks the number, where there is one.
-fn mark(listed: &mut [bool], index: Option<usize>)
+pub fn mark(listed: &mut [bool], index: Option<usize>)
     requires { IfSome index (λ k. k < length listed.old) }
     ensures { (k : ℕ) → get_or listed.new k false ≡ (get_or listed.old k false || is_at index k) }
 {

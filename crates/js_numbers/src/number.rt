@@ -31,12 +31,6 @@ pub fn is_below(high: Option<i128>, x: i128) -> bool
     }
 }
 
-fn has(values: &[i128], x: i128) -> bool
-    ensures { result ≡ has values.now x }
-{
-    values.iter().any(|y| *y == x)
-}
-
 /// Whether each of the divisors divides `x`.
 pub fn divides_all(divisors: &[u64], x: i128) -> bool
     ensures { result ≡ list_all (λ m. is_multiple m x) divisors.now }
@@ -44,23 +38,26 @@ pub fn divides_all(divisors: &[u64], x: i128) -> bool
     divisors.iter().all(|m| is_multiple(x, *m))
 }
 
-/// Whether one of the divisors divides `x`.
+/// Whether one of the divisors divides `x`; a size that fits 64 bits is divided as such, which is several times faster.
 pub fn divides_any(divisors: &[u64], x: i128) -> bool
     ensures { result ≡ list_any (λ m. is_multiple m x) divisors.now }
 {
-    divisors.iter().any(|m| is_multiple(x, *m))
+    match u64::try_from(x.unsigned_abs()) {
+        Ok(size) => divisors.iter().any(|m| size.is_multiple_of(*m)),
+        Err(_) => divisors.iter().any(|m| is_multiple(x, *m)),
+    }
 }
 
 /// Whether each of the sets has `x`.
 pub fn all_have(sets: &[NumList], x: i128) -> bool
     ensures { result ≡ list_all (λ s. has s x) sets.now }
 {
-    sets.iter().all(|s| has(s.as_slice(), x))
+    sets.iter().all(|s| s.has(x))
 }
 
 /// Whether one of the sets has `x`.
 pub fn any_has(sets: &[NumList], x: i128) -> bool
     ensures { result ≡ list_any (λ s. has s x) sets.now }
 {
-    sets.iter().any(|s| has(s.as_slice(), x))
+    sets.iter().any(|s| s.has(x))
 }

@@ -8,7 +8,7 @@ ghost use Rattle.std.specs.Prelude.{◌≡◌, nat_lt};
 ghost use Rattle.std.specs.List.{list_all};
 ghost use Rattle.js_numbers.specs.Group.{group_of, is_near, is_ready};
 
-use js_doc::NumList;
+use js_doc::{Memory, NumList};
 use js_numbers::{Cases, NumGroup, decide};
 use std::alloc::{AllocError, AllocFailed, Global};
 use std::num::ParseIntError;
@@ -35,6 +35,12 @@ impl From<AllocError> for LineFault {
 
 impl<T: Drop> From<AllocFailed<T>> for LineFault {
     fn from(_: AllocFailed<T>) -> LineFault {
+        LineFault::Memory
+    }
+}
+
+impl From<Memory> for LineFault {
+    fn from(_: Memory) -> LineFault {
         LineFault::Memory
     }
 }
@@ -118,7 +124,7 @@ fn read_sets(alloc: Global, word: &str) -> Result<Vec<NumList>, LineFault> {
     let mut sets = Vec::new(alloc);
     if word != "-" {
         for part in word.split(';') {
-            sets.push(NumList::from_vec(read_values(alloc, part)?))?;
+            sets.push(NumList::from_vec(read_values(alloc, part)?)?)?;
         }
     }
     Ok(sets)

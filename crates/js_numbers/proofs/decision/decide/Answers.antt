@@ -1,8 +1,6 @@
-use Rattle.std.proofs.Common.{◌∙◌, ◌<◌, length, ap, sym, arith}
-use Rattle.std.specs.List.{find}
+use Rattle.std.proofs.Common.{◌∙◌, ◌<◌, length, sym, arith}
 use Rattle.js_numbers.specs.declared.candidates.TheConstants.{MOST_STRUCK}
-use Rattle.js_numbers.specs.Group.{group_of, is_met}
-use Rattle.js_numbers.specs.Outcome.{found}
+use Rattle.js_numbers.specs.Group.{group_of}
 use Rattle.js_numbers.proofs.Deciding.{outcome-crossed, outcome-sets, outcome-no_sets}
 use Rattle.js_numbers.proofs.AnswerLaws.{is_right}
 use Rattle.js_numbers.proofs.decision.decide.Goals as goal
@@ -16,8 +14,7 @@ returns-then-is_crossed c =
 
 pub returns-in-len1-up : goal.returns-in-len1-up
 returns-in-len1-up c =
-    let e = c.first_met.ensures
-    ∙ ap (λ s. found (find (is_met (group_of c.args.group.now)) s)) c.as_slice.ensures
+    let e = c.search_values.ensures
     ∙ sym (outcome-sets MOST_STRUCK (group_of c.args.group.now) c.first-item.result
     (sym c.is_crossed.ensures ∙ c.if-is_crossed.false) c.in-len1-up.len_at_least c.first-item.is) in
     record { answer = e; right = is_right MOST_STRUCK (group_of c.args.group.now) _ c.requires e }

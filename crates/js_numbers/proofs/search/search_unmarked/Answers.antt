@@ -3,9 +3,9 @@ use Rattle.std.specs.Int.{w128}
 use Rattle.js_numbers.specs.declared.candidates.TheConstants.{MOST_STRUCK}
 use Rattle.js_numbers.specs.Group.{group_of}
 use Rattle.js_numbers.proofs.Searching.{StruckBefore, answer_among-Err, answer_among-Ok, answer_among-limit_Ok, answer_among-limit_Err, struck_more}
-use Rattle.js_numbers.proofs.MarkLaws.{struck_from_marks}
-use Rattle.js_numbers.proofs.search.search_unlisted.Goals as goal
-use Rattle.js_numbers.proofs.search.search_unlisted.Goals.{After-loop-k}
+use Rattle.js_numbers.proofs.MarkLaws.{struck_by_mark}
+use Rattle.js_numbers.proofs.search.search_unmarked.Goals as goal
+use Rattle.js_numbers.proofs.search.search_unmarked.Goals.{After-loop-k}
 
 pub returns-in-Err : goal.returns-in-Err
 returns-in-Err c =
@@ -13,16 +13,16 @@ returns-in-Err c =
     c.loop-k-test.true
     c.loop-k.invariant (sym c.reach.ensures ∙ c.in-Err.is))
 
-pub returns-then-not-is_ruled_out : goal.returns-then-not-is_ruled_out
-returns-then-not-is_ruled_out c =
+pub returns-then-not-struck-k : goal.returns-then-not-struck-k
+returns-then-not-struck-k c =
     let g = group_of c.args.group.now in
     let fits : FitsSigned w128 c.in-Ok.x = search rules in
     let here = sym c.reach.ensures ∙ c.in-Ok.is ∙ ap Ok (sym (to_z-of_z fits)) in
     let spared =
-    sym (struck_from_marks MOST_STRUCK c.args.m g c.loop-k.k
-    (to_z w128 (of_z w128 c.in-Ok.x)) c.args.listed.now
-    c.is_ruled_out.result c.requires.marks c.loop-k-test.true here c.is_ruled_out.ensures)
-    ∙ c.if-not-is_ruled_out.true in
+    sym (struck_by_mark MOST_STRUCK c.args.m g c.loop-k.k
+    (to_z w128 (of_z w128 c.in-Ok.x)) c.args.struck.now
+    c.requires.marks c.loop-k-test.true here)
+    ∙ c.if-not-struck-k.true in
     sym (answer_among-Ok MOST_STRUCK c.args.m g c.loop-k.k
     (to_z w128 (of_z w128 c.in-Ok.x)) c.loop-k-test.true c.loop-k.invariant here spared)
 
@@ -32,10 +32,10 @@ loop-k-preserved c =
     let fits : FitsSigned w128 c.in-Ok.x = search rules in
     let here = sym c.reach.ensures ∙ c.in-Ok.is ∙ ap Ok (sym (to_z-of_z fits)) in
     let struck =
-    sym (struck_from_marks MOST_STRUCK c.args.m g c.loop-k.k
-    (to_z w128 (of_z w128 c.in-Ok.x)) c.args.listed.now
-    c.is_ruled_out.result c.requires.marks c.loop-k-test.true here c.is_ruled_out.ensures)
-    ∙ c.if-not-is_ruled_out.false in
+    sym (struck_by_mark MOST_STRUCK c.args.m g c.loop-k.k
+    (to_z w128 (of_z w128 c.in-Ok.x)) c.args.struck.now
+    c.requires.marks c.loop-k-test.true here)
+    ∙ c.if-not-struck-k.false in
     struck_more c.args.m g c.loop-k.k (to_z w128 (of_z w128 c.in-Ok.x)) c.loop-k.invariant here struck
 
 -- all of them are struck where the loop ends

@@ -1,0 +1,8 @@
+use Rattle.std.proofs.Common.{take}
+use Rattle.js_numbers.specs.declared.candidates.TheConstants.{MOST_STRUCK}
+use Rattle.js_numbers.specs.Group.{is_listed}
+use Rattle.js_numbers.specs.Marking.{AddsListed}
+use Rattle.js_numbers.proofs.listed.mark_sets.Given as goal
+
+abbrev pub invariant-loop-set : goal.invariant-loop-set
+invariant-loop-set l = AddsListed MOST_STRUCK l.values (is_listed (take l.set-index l.sets)) l.fn.listed l.listed

@@ -1,0 +1,193 @@
+//! The first value of a set that is asked for, in its written order, that meets the group.
+//!
+//! Which values the sets that are ruled out have is marked first, at the ranks of the values. Of the set that is asked
+//! for and another one, the values of the shorter are looked up in the longer, so many sets cost no more than one of as
+//! many values. The marks take 64 KiB of the stack, and as much again the divisors that are made ready.
+
+ghost use Rattle.std.specs.Prelude.{◌≡◌, ◌<◌, ◌^◌, ◌&&◌, true, nat_lt, IfSome, SomeIff, length};
+ghost use Rattle.std.specs.List.{find, list_all};
+ghost use Rattle.std.specs.Ordering.{int_eq};
+ghost use Rattle.js_numbers.specs.Multiples.{is_multiple, lcm_of};
+ghost use Rattle.js_numbers.specs.Group.{group_of, has, is_asked, is_listed, is_met, is_ready, is_struck};
+ghost use Rattle.js_numbers.specs.Outcome.{found};
+ghost use Rattle.js_numbers.specs.Filters.{AreFilters};
+ghost use Rattle.js_numbers.specs.Marking.{mark_of, AddsListed, AreListed};
+
+use crate::candidates::MOST_STRUCK;
+use crate::factors::lcm_of;
+use crate::filters::{Filter, MOST_READY, OPEN, divides_some, make_filters};
+use crate::group::{Cases, NumGroup};
+use crate::marks::mark;
+use crate::number::{all_have, any_has, divides_all};
+use js_doc::NumList;
+
+/// The number of the mark for `x`: its rank among the values, where there is a mark for that.
+fn mark_of(values: &NumList, x: i128) -> Option<usize>
+    ensures value { result ≡ mark_of MOST_STRUCK values.now x }
+    ensures within { IfSome result (λ k. k < MOST_STRUCK) }
+{
+    match values.rank(x) {
+        Some(k) if k < MOST_STRUCK => Some(k),
+        _ => None,
+    }
+}
+
+/// Marks `x`, where it is one of the values.
+fn mark_value(values: &NumList, x: i128, listed: &mut [bool])
+    requires { length listed.old ≡ MOST_STRUCK }
+    ensures { AddsListed MOST_STRUCK values.now (λ y. int_eq x y) listed.old listed.new }
+{
+    mark(listed, mark_of(values, x));
+}
+
+/// Marks the values that the set has, by a look at each number of the set.
+fn mark_members(values: &NumList, set: &NumList, listed: &mut [bool])
+    requires { length listed.old ≡ MOST_STRUCK }
+    ensures { AddsListed MOST_STRUCK values.now (has set.now) listed.old listed.new }
+{
+    for x in set.as_slice() {
+        mark_value(values, *x, listed);
+    }
+}
+
+/// Marks `x`, where it is one of the values and the set has it.
+fn mark_shared(values: &NumList, set: &NumList, x: i128, listed: &mut [bool])
+    requires { length listed.old ≡ MOST_STRUCK }
+    ensures { AddsListed MOST_STRUCK values.now (λ y. int_eq x y && has set.now x) listed.old listed.new }
+{
+    if set.has(x) {
+        mark_value(values, x, listed);
+    }
+}
+
+/// Marks the values that the set has, by a look at each value.
+fn mark_all_shared(values: &NumList, set: &NumList, listed: &mut [bool])
+    requires { length listed.old ≡ MOST_STRUCK }
+    ensures { AddsListed MOST_STRUCK values.now (has set.now) listed.old listed.new }
+{
+    for x in values.as_slice() {
+        mark_shared(values, set, *x, listed);
+    }
+}
+
+/// Marks the values that the set has.
+fn mark_set(values: &NumList, set: &NumList, listed: &mut [bool])
+    requires { length listed.old ≡ MOST_STRUCK }
+    ensures { AddsListed MOST_STRUCK values.now (has set.now) listed.old listed.new }
+{
+    if set.as_slice().len() < values.as_slice().len() {
+        mark_members(values, set, listed);
+    } else {
+        mark_all_shared(values, set, listed);
+    }
+}
+
+/// Marks the values that one of the sets has.
+fn mark_sets(values: &NumList, sets: &[NumList], listed: &mut [bool])
+    requires { length listed.old ≡ MOST_STRUCK }
+    ensures { AddsListed MOST_STRUCK values.now (is_listed sets.now) listed.old listed.new }
+{
+    for set in sets {
+        mark_set(values, set, listed);
+    }
+}
+
+/// Whether one of the sets has `x`: by its mark, or by a look at each set where there is no mark for it.
+fn is_listed(values: &NumList, sets: &[NumList], listed: &[bool], x: i128) -> bool
+    requires size { length listed.now ≡ MOST_STRUCK }
+    requires marks { AreListed MOST_STRUCK values.now (is_listed sets.now) listed.now }
+    ensures { result ≡ is_listed sets.now x }
+{
+    match mark_of(values, x) {
+        Some(k) => listed[k],
+        None => any_has(sets, x),
+    }
+}
+
+/// Whether each of the divisors divides `x`, by their least common multiple. Where that is over 2^127-1, no smaller size
+/// but 0 is a multiple of it, and only -2^127 is tried by each divisor.
+fn is_common(multiples: &[u64], common: Option<u128>, x: i128) -> bool
+    requires multiple { SomeIff common (lcm_of multiples.now < 2 ^ 127) (lcm_of multiples.now) }
+    requires positive { list_all (λ m. nat_lt 0 m) multiples.now ≡ true }
+    ensures { result ≡ list_all (λ m. is_multiple m x) multiples.now }
+{
+    let size = x.unsigned_abs();
+    match common {
+        Some(m) => size.is_multiple_of(m),
+        None if size < 1 << 127 => size == 0,
+        None => divides_all(multiples, x),
+    }
+}
+
+/// Whether a divisor or a set that is ruled out strikes `x`.
+fn is_struck(
+    group: &NumGroup,
+    values: &NumList,
+    listed: &[bool],
+    filters: &[Filter],
+    x: i128,
+) -> bool
+    requires size { length listed.now ≡ MOST_STRUCK }
+    requires filters { AreFilters group.now.not_multiples.now filters.now }
+    requires marks { AreListed MOST_STRUCK values.now (is_listed group.now.not_sets.now) listed.now }
+    ensures { result ≡ is_struck (group_of group.now) x }
+{
+    is_listed(values, group.not_sets, listed, x) || divides_some(group.not_multiples, filters, x)
+}
+
+/// Whether `x` has all that is asked for: within the bounds, a multiple of each divisor, in each set.
+fn is_asked(group: &NumGroup, common: Option<u128>, x: i128) -> bool
+    requires ready { is_ready (group_of group.now) ≡ true }
+    requires multiple { SomeIff common (lcm_of group.now.multiples.now < 2 ^ 127) (lcm_of group.now.multiples.now) }
+    ensures { result ≡ is_asked (group_of group.now) x }
+{
+    group.is_within(x) && is_common(group.multiples, common, x) && all_have(group.sets, x)
+}
+
+/// Whether `x` meets the group.
+fn is_met(
+    group: &NumGroup,
+    values: &NumList,
+    common: Option<u128>,
+    listed: &[bool],
+    filters: &[Filter],
+    x: i128,
+) -> bool
+    requires ready { is_ready (group_of group.now) ≡ true }
+    requires multiple { SomeIff common (lcm_of group.now.multiples.now < 2 ^ 127) (lcm_of group.now.multiples.now) }
+    requires size { length listed.now ≡ MOST_STRUCK }
+    requires marks { AreListed MOST_STRUCK values.now (is_listed group.now.not_sets.now) listed.now }
+    requires filters { AreFilters group.now.not_multiples.now filters.now }
+    ensures { result ≡ is_met (group_of group.now) x }
+{
+    is_asked(group, common, x) && !is_struck(group, values, listed, filters, x)
+}
+
+/// The first of the values that meets the group, where the values are marked that a set has that is ruled out.
+fn first_met(group: &NumGroup, values: &NumList, listed: &[bool], filters: &[Filter]) -> Cases
+    requires ready { is_ready (group_of group.now) ≡ true }
+    requires size { length listed.now ≡ MOST_STRUCK }
+    requires marks { AreListed MOST_STRUCK values.now (is_listed group.now.not_sets.now) listed.now }
+    requires filters { AreFilters group.now.not_multiples.now filters.now }
+    ensures { result ≡ found (find (is_met (group_of group.now)) values.now) }
+{
+    let common = lcm_of(group.multiples);
+    for x in values.as_slice() {
+        if is_met(group, values, common, listed, filters, *x) {
+            return Cases::Found(*x);
+        }
+    }
+    Cases::Empty
+}
+
+/// The first of the values that meets the group.
+pub(crate) fn search_values(group: &NumGroup, values: &NumList) -> Cases
+    requires { is_ready (group_of group.now) ≡ true }
+    ensures { result ≡ found (find (is_met (group_of group.now)) values.now) }
+{
+    let mut listed = [false; MOST_STRUCK];
+    mark_sets(values, group.not_sets, &mut listed);
+    let mut filters = [OPEN; MOST_READY];
+    make_filters(group.not_multiples, &mut filters);
+    first_met(group, values, &listed, &filters)
+}
