@@ -1,6 +1,8 @@
 -- The definitions, computed on worked examples.
 use Rattle.std.proofs.Common.{◌≡◌, [], ◌∷◌, ◌++◌, true, Some, None, pos, negsuc, codes, decimal, refl}
-use Rattle.documents.specs.Json.{boolean, number, not_whole, string, array, object, no_items, item, no_members, member, lookup}
+use Rattle.documents.specs.Json.{Json, boolean, number, not_whole, string, array, object, no_items, item, no_members, member, lookup}
+use Rattle.documents.specs.Document as D
+use Rattle.js_json.specs.Documents.{json_of_document, unwhole_places}
 use Rattle.js_json.specs.Pointer.{quoted, pointer_text}
 use Rattle.js_json.specs.Value.{value_of}
 use Rattle.js_json.proofs.OnTexts.{json_on_texts}
@@ -83,3 +85,25 @@ looked_up = refl
 absent : lookup (codes "ab") (member (codes "a") (boolean true) (member (codes "abc") not_whole no_members))
     ≡ None
 absent = refl
+
+-- an array and an object with two numbers that aren't whole, the first of them deep inside
+abbrev fractions : Json
+fractions = object (member (codes "a") (array (item (number (pos 1)) (item (object (member (codes "x/y") not_whole no_members))
+    no_items))) (member (codes "b") not_whole no_members))
+
+-- places stand in the order of the text, outer tokens first, and names aren't escaped
+places : unwhole_places fractions ≡ (codes "a" ∷ codes "1" ∷ codes "x/y" ∷ []) ∷ (codes "b" ∷ []) ∷ []
+unfolding json_on_texts
+places = refl
+
+-- a value may be such a number itself, and whole numbers of any size have no place
+itself : unwhole_places not_whole ≡ [] ∷ []
+itself = refl
+
+large : unwhole_places (array (item (number (pos 99999999999999999999999)) no_items)) ≡ []
+large = refl
+
+-- a document is the same value
+document : json_of_document (D.object (D.member (codes "a") (D.array (D.item (D.number (negsuc 0)) D.no_items)) D.no_members))
+    ≡ object (member (codes "a") (array (item (number (negsuc 0)) no_items)) no_members)
+document = refl

@@ -9,3 +9,5 @@ pub mod ValueLemmas
 pub mod Conversion
 pub mod MembersLemmas
 pub mod PointerLemmas
+pub mod DocumentsLemmas
+pub mod PlaceLemmas

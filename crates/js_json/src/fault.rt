@@ -1,14 +1,19 @@
-//! Why a text was not read.
+//! Why a text was not read, and why a value is no document.
 
+use crate::pointer::Pointer;
 use js_doc::Memory;
+use std::alloc::{AllocError, AllocFailed};
 use thiserror::Error;
 
-/// Why a text was not read.
-#[derive(Clone, Copy, PartialEq, Eq, Debug, Drop, Error)]
+/// Why a text was not read, or a value is no document.
+#[derive(Debug, Drop, Error)]
 pub enum JsonFault {
     /// The bytes are not one JSON text in UTF-8, or it nests deeper than 127 levels.
     #[error("not JSON")]
     NotJson,
+    /// The first number that is not whole, in the order of the text, stands here.
+    #[error("a number that is not whole at {0:?}")]
+    NotWhole(Pointer),
     /// Memory was asked for and refused.
     #[error("out of memory")]
     Memory,
@@ -21,6 +26,28 @@ impl From<Memory> for JsonFault {
     ghost from_gives = { λ _ made. made ≡ fault.Memory };
 
     fn from(_: Memory) -> JsonFault {
+        JsonFault::Memory
+    }
+}
+
+impl From<AllocError> for JsonFault {
+    ghost use Rattle.std.specs.Prelude.{◌≡◌};
+    ghost use Rattle.js_json.specs.declared.fault.JsonFault.TheVariants as fault;
+
+    ghost from_gives = { λ _ made. made ≡ fault.Memory };
+
+    fn from(_: AllocError) -> JsonFault {
+        JsonFault::Memory
+    }
+}
+
+impl<T: Drop> From<AllocFailed<T>> for JsonFault {
+    ghost use Rattle.std.specs.Prelude.{◌≡◌};
+    ghost use Rattle.js_json.specs.declared.fault.JsonFault.TheVariants as fault;
+
+    ghost from_gives = { λ _ made. made ≡ fault.Memory };
+
+    fn from(_: AllocFailed<T>) -> JsonFault {
         JsonFault::Memory
     }
 }

@@ -6,14 +6,18 @@
 #![tactic(auto)]
 
 mod convert;
+mod document;
 mod fault;
 mod members;
+mod place;
 mod pointer;
 mod read;
 #[cfg(test)]
 mod tests;
 
+pub use document::to_doc;
 pub use fault::JsonFault;
 pub use members::member;
+pub use place::at_pointer;
 pub use pointer::Pointer;
 pub use read::read_json;

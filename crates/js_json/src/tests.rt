@@ -1,34 +1,41 @@
 //! What no clause says: that ample memory is enough for each call.
 
-use crate::{JsonFault, Pointer, member, read_json};
-use js_doc::Json;
+use crate::{JsonFault, Pointer, member, read_json, to_doc};
+use js_doc::{Json, depth};
 use std::alloc::{AllocError, Global};
 use std::test::Fail;
 
 #[test]
 fn reads_json_and_refuses_the_rest(rt: HostRuntime) -> Result<(), Fail> {
     let cases = [
-        ("{\"a\":[1,-2.5,true,null,\"\\u00e9\"],\"b\":{}}", None),
-        (" 18446744073709551616 ", None),
-        ("", Some(JsonFault::NotJson)),
-        ("[1,]", Some(JsonFault::NotJson)),
-        ("\"\\ud83d\"", Some(JsonFault::NotJson)),
-        ("1e999", Some(JsonFault::NotJson)),
-        ("\u{feff}1", Some(JsonFault::NotJson)),
+        ("{\"a\":[1,-2.5,true,null,\"\\u00e9\"],\"b\":{}}", true),
+        (" 18446744073709551616 ", true),
+        ("", false),
+        ("[1,]", false),
+        ("\"\\ud83d\"", false),
+        ("1e999", false),
+        ("\u{feff}1", false),
     ];
     for (text, expected) in cases {
-        let fault = read_json(rt.alloc(), text.as_bytes()).err();
-        assert_eq!(rt; fault, expected, "{text}");
+        assert_eq!(rt; reads(rt.alloc(), text)?, expected, "{text}");
     }
-    for (levels, expected) in [(127, None), (128, Some(JsonFault::NotJson))] {
+    for (levels, expected) in [(127, true), (128, false)] {
         let text = nested(rt.alloc(), levels)?;
         assert_eq!(rt;
-            read_json(rt.alloc(), text.as_bytes()).err(),
+            reads(rt.alloc(), text.as_str())?,
             expected,
             "{levels} levels"
         );
     }
     Ok(())
+}
+
+fn reads(alloc: Global, text: &str) -> Result<bool, JsonFault> {
+    match read_json(alloc, text.as_bytes()) {
+        Ok(_) => Ok(true),
+        Err(JsonFault::NotJson) => Ok(false),
+        Err(fault) => Err(fault),
+    }
 }
 
 fn nested(alloc: Global, levels: usize) -> Result<String, AllocError> {
@@ -61,5 +68,27 @@ fn finds_and_prints_places(rt: HostRuntime) -> Result<(), Fail> {
     place.push_index(10)?;
     assert_eq!(rt; place.text(alloc)?.as_str(), "\"/a~1b/10\"");
     assert_eq!(rt; copy.text(alloc)?.as_str(), "\"/a~1b/~0\\\"é\\n\"");
+    Ok(())
+}
+
+#[test]
+fn makes_documents(rt: HostRuntime) -> Result<(), Fail> {
+    let alloc = rt.alloc();
+    let cases = [
+        ("{\"b\":[null,true,-7,\"~\"],\"a\":{\"\":[]}}", ""),
+        ("-0", "\"\""),
+        ("[[1,2],[3,4.0,5e0]]", "\"/1/1\""),
+        ("{\"b\":0.5,\"a/~\":[1e2]}", "\"/a~1~0/0\""),
+    ];
+    for (text, expected) in cases {
+        let json = read_json(alloc, text.as_bytes())?;
+        match to_doc(alloc, &json) {
+            Ok(doc) => assert!(rt; expected.is_empty() && depth(&doc) == 3, "{text}"),
+            Err(JsonFault::NotWhole(place)) => {
+                assert_eq!(rt; place.text(alloc)?.as_str(), expected, "{text}");
+            }
+            Err(fault) => return Err(fault.into()),
+        }
+    }
     Ok(())
 }

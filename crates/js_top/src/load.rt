@@ -50,7 +50,7 @@ fn read_schema(alloc: Global, bytes: &[u8]) -> Result<Loaded, Memory>
             }
             Err(FormsFault::Memory) => Err(Memory),
         },
-        Err(JsonFault::NotJson) => Ok(Loaded::Refused(String::from_str(alloc, "notjson")?)),
+        Err(JsonFault::NotJson | JsonFault::NotWhole(_)) => Ok(Loaded::Refused(String::from_str(alloc, "notjson")?)),
         Err(JsonFault::Memory) => Err(Memory),
     }
 }
