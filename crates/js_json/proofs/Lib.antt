@@ -11,3 +11,7 @@ pub mod MembersLemmas
 pub mod PointerLemmas
 pub mod DocumentsLemmas
 pub mod PlaceLemmas
+pub mod StepsLemmas
+pub mod TokensLemmas
+pub mod PiecesLemmas
+pub mod ReferenceLemmas

@@ -1,4 +1,4 @@
-//! Why a text was not read, and why a value is no document.
+//! Why a text was not read, why a value is no document, and why a reference names no schema.
 
 use crate::pointer::Pointer;
 use js_doc::Memory;
@@ -49,5 +49,47 @@ impl<T: Drop> From<AllocFailed<T>> for JsonFault {
 
     fn from(_: AllocFailed<T>) -> JsonFault {
         JsonFault::Memory
+    }
+}
+
+/// Why a reference names no schema of the file. The causes are tried in this order.
+#[derive(Clone, Copy, PartialEq, Eq, Debug, Drop, Error)]
+pub enum RefFault {
+    /// What stands before the fragment is neither empty nor the file's own `$id`.
+    #[error("a reference to another file")]
+    Remote,
+    /// The fragment is not a JSON pointer.
+    #[error("not a JSON pointer")]
+    BadPointer,
+    /// The pointer leads to no value of the file.
+    #[error("no such place")]
+    Missing,
+    /// The value is neither an object nor a boolean.
+    #[error("neither an object nor a boolean")]
+    NotASchema,
+    /// Memory was asked for and refused.
+    #[error("out of memory")]
+    Memory,
+}
+
+impl From<Memory> for RefFault {
+    ghost use Rattle.std.specs.Prelude.{◌≡◌};
+    ghost use Rattle.js_json.specs.declared.fault.RefFault.TheVariants as fault;
+
+    ghost from_gives = { λ _ made. made ≡ fault.Memory };
+
+    fn from(_: Memory) -> RefFault {
+        RefFault::Memory
+    }
+}
+
+impl From<AllocError> for RefFault {
+    ghost use Rattle.std.specs.Prelude.{◌≡◌};
+    ghost use Rattle.js_json.specs.declared.fault.RefFault.TheVariants as fault;
+
+    ghost from_gives = { λ _ made. made ≡ fault.Memory };
+
+    fn from(_: AllocError) -> RefFault {
+        RefFault::Memory
     }
 }

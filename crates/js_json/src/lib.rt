@@ -8,16 +8,19 @@
 mod convert;
 mod document;
 mod fault;
+mod fragment;
 mod members;
 mod place;
 mod pointer;
 mod read;
+mod reference;
 #[cfg(test)]
 mod tests;
 
 pub use document::to_doc;
-pub use fault::JsonFault;
+pub use fault::{JsonFault, RefFault};
 pub use members::member;
 pub use place::at_pointer;
 pub use pointer::Pointer;
 pub use read::read_json;
+pub use reference::target;

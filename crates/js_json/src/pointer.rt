@@ -38,6 +38,15 @@ impl Pointer {
         }
     }
 
+    /// Goes down by `token`.
+    pub(crate) fn push(&mut self, token: Str) -> Result<(), Memory>
+        ensures ok { OnOk result (self.new ≡ self.old ++ token ∷ []) }
+        ensures err { OnErr result (self.new ≡ self.old) }
+    {
+        self.tokens.push(token)?;
+        Ok(())
+    }
+
     /// Goes down to the member of that name.
     pub fn push_name(&mut self, name: &str) -> Result<(), Memory>
         ensures ok { OnOk result (self.new ≡ self.old ++ chars name.now ∷ []) }
