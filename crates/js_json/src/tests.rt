@@ -1,6 +1,6 @@
 //! What no clause says: that ample memory is enough for each call.
 
-use crate::{JsonFault, Pointer, member, read_json, to_doc};
+use crate::{JsonFault, Pointer, RefFault, at_pointer, member, read_json, target, to_doc};
 use js_doc::{Json, depth};
 use std::alloc::{AllocError, Global};
 use std::test::Fail;
@@ -88,6 +88,72 @@ fn makes_documents(rt: HostRuntime) -> Result<(), Fail> {
                 assert_eq!(rt; place.text(alloc)?.as_str(), expected, "{text}");
             }
             Err(fault) => return Err(fault.into()),
+        }
+    }
+    Ok(())
+}
+
+/// The file of RFC 6901, section 5, with places for schemas beside its members.
+const SAMPLE: &str =
+    "{\"foo\":[\"bar\",true],\"\":{},\"a/b\":{},\"c%d\":true,\"e^f\":{},\"g|h\":{},\
+    \"i\\\\j\":false,\"k\\\"l\":{},\" \":{},\"m~n\":{},\"anyOf\":[{},{\"not\":false}],\"n\":1,\"0\":{}}";
+
+#[test]
+fn resolves_references(rt: HostRuntime) -> Result<(), Fail> {
+    let alloc = rt.alloc();
+    let json = read_json(alloc, SAMPLE.as_bytes())?;
+    let cases = [
+        ("", Ok("\"\"")),
+        ("#", Ok("\"\"")),
+        ("#/", Ok("\"/\"")),
+        ("#/a~1b", Ok("\"/a~1b\"")),
+        ("#/c%25d", Ok("\"/c%d\"")),
+        ("#/e%5Ef", Ok("\"/e^f\"")),
+        ("#/g%7Ch", Ok("\"/g|h\"")),
+        ("#/i%5Cj", Ok("\"/i\\\\j\"")),
+        ("#/k%22l", Ok("\"/k\\\"l\"")),
+        ("#/%20", Ok("\"/ \"")),
+        ("#/ ", Ok("\"/ \"")),
+        ("#/m~0n", Ok("\"/m~0n\"")),
+        ("#/anyOf/0", Ok("\"/anyOf/0\"")),
+        ("#/anyOf/1/not", Ok("\"/anyOf/1/not\"")),
+        ("#/0", Ok("\"/0\"")),
+        ("#/foo/1", Ok("\"/foo/1\"")),
+        ("s.json", Ok("\"\"")),
+        ("s.json#/a~1b", Ok("\"/a~1b\"")),
+        ("o.json", Err(RefFault::Remote)),
+        ("o.json#/~2", Err(RefFault::Remote)),
+        (" ", Err(RefFault::Remote)),
+        ("s.json/#", Err(RefFault::Remote)),
+        ("#x", Err(RefFault::BadPointer)),
+        ("##", Err(RefFault::BadPointer)),
+        ("#/~2", Err(RefFault::BadPointer)),
+        ("#/a~", Err(RefFault::BadPointer)),
+        ("#/~/0", Err(RefFault::BadPointer)),
+        ("#/%ff", Err(RefFault::BadPointer)),
+        ("#/anyOf/00", Err(RefFault::Missing)),
+        ("#/anyOf/01", Err(RefFault::Missing)),
+        ("#/anyOf/2", Err(RefFault::Missing)),
+        ("#/anyOf/-", Err(RefFault::Missing)),
+        ("#/anyOf/+1", Err(RefFault::Missing)),
+        ("#/anyOf/18446744073709551616", Err(RefFault::Missing)),
+        ("#/anyOf/", Err(RefFault::Missing)),
+        ("#/a~1b/0", Err(RefFault::Missing)),
+        ("#/n/0", Err(RefFault::Missing)),
+        ("#/a/b", Err(RefFault::Missing)),
+        ("#/n", Err(RefFault::NotASchema)),
+        ("#/foo", Err(RefFault::NotASchema)),
+        ("#/foo/0", Err(RefFault::NotASchema)),
+    ];
+    for (text, expected) in cases {
+        for id in ["s.json", "s.json#"] {
+            match target(alloc, &json, text, Some(id)) {
+                Ok(place) => {
+                    assert_eq!(rt; Ok(place.text(alloc)?.as_str()), expected, "{text}");
+                    assert!(rt; at_pointer(&json, &place).is_some(), "{text}");
+                }
+                Err(fault) => assert_eq!(rt; Err(fault), expected, "{text}"),
+            }
         }
     }
     Ok(())
