@@ -1,7 +1,7 @@
 -- Documents as JSON values, and the first place of a number that isn't whole, list by list.
-use Rattle.std.proofs.Common.{◌≡◌, ℕ, ◌+◌, ◌<◌, ◌≤◌, List, [], ◌∷◌, ◌++◌, map, reverse, length, take, drop, drop-cons, add-one, get_or, decimal, Option, Some, ◌&&◌, Bool, true, Result, Ok, Err, IfOk, refl, sym, ap, ◌∙◌}
+use Rattle.std.proofs.Common.{◌≡◌, ℕ, ◌+◌, ◌<◌, List, [], ◌∷◌, ◌++◌, map, reverse, length, take, drop, drop-cons, add-one, get_or, decimal, Some, true, Result, Ok, Err, IfOk, refl, sym, ap, ◌∙◌}
 use Rattle.std.specs.List.{slice_get}
-use Rattle.std.proofs.lemmas.List.{reverse-append, take_more, map_push, take_all, at_drop_all}
+use Rattle.std.proofs.lemmas.List.{reverse-append, take_more, map_push}
 use Rattle.documents.specs.Document as D
 use Rattle.documents.specs.Json as J
 use Rattle.js_doc.specs.declared.document.Doc.{Doc}

@@ -1,9 +1,9 @@
 -- Elements by their index, and the steps of a pointer.
-use Rattle.std.proofs.Common.{◌≡◌, ◌≢◌, ℕ, ◌+◌, ◌<◌, ◌≤◌, ◌^◌, List, [], ◌∷◌, map, length, get_or, Bool, true, false, not, ◌&&◌, cond, ltb, Option, Some, None, option_map, Result, Ok, Err, IsUtf8, IsAscii, chars, arith, rules, refl, sym, ap, ◌∙◌}
+use Rattle.std.proofs.Common.{◌≡◌, ℕ, ◌<◌, ◌≤◌, ◌^◌, List, [], ◌∷◌, map, length, get_or, Bool, true, false, ltb, Option, Some, None, option_map, Result, Ok, Err, IsUtf8, IsAscii, chars, arith, rules, refl, sym, ap, ◌∙◌}
 use Rattle.std.specs.Char.{is_ascii_digit}
-use Rattle.std.specs.List.{list_all, slice_get}
+use Rattle.std.specs.List.{list_all}
 use Rattle.std.specs.Borrow.{Bor}
-use Rattle.std.specs.Option.{MatchOption, IfSome, is_some, option_and_then}
+use Rattle.std.specs.Option.{MatchOption, IfSome, is_some}
 use Rattle.std.specs.Result.{result_ok, OkIff}
 use Rattle.std.specs.Str.Parse.{ParsesUnsigned, digits_value}
 use Rattle.std.proofs.lemmas.Bool.{and_parts, true≢false}

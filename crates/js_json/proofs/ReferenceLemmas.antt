@@ -1,17 +1,19 @@
 -- References, by their bytes and by their characters.
-use Rattle.std.proofs.Common.{◌≡◌, ◌≢◌, ℕ, ◌<◌, List, [], ◌∷◌, ◌++◌, length, get_or, take, drop, take-append-drop, length-drop, Bool, true, false, ◌&&◌, cond, eqb, Option, Some, None, option_map, unwrap_or, bytes_eq, IsUtf8, chars, arith, lit<, refl, sym, ap, ◌∙◌, subst}
+use Rattle.std.proofs.Common.{◌≡◌, ◌≢◌, ℕ, ◌<◌, List, [], ◌∷◌, ◌++◌, length, get_or, take, drop, take-append-drop, length-drop, Bool, true, false, cond, eqb, Option, Some, None, Ok, unwrap_or, bytes_eq, IsUtf8, chars, arith, lit<, refl, sym, ap, ◌∙◌, subst}
 use Rattle.std.specs.Borrow.{Bor}
 use Rattle.std.specs.Char.{encode_utf8}
-use Rattle.std.specs.Option.{MatchOption}
+use Rattle.std.specs.Option.{MatchOption, option_and_then}
 use Rattle.std.specs.Str.{encode_utf8_all, is_utf8, NonePass, NoCharPasses}
 use Rattle.std.proofs.lemmas.Bool.Decides.{nat_tests}
 use Rattle.std.proofs.lemmas.List.{append-nil, take_at}
 use Rattle.std.proofs.lemmas.Str.{encode_ascii, encodes-append, encodes-chars, encodes_same, chars-nil, chars-append, chars_past_char, IsUtf8-take, IsUtf8-drop, IsCharBoundary-before_ascii, IsCharBoundary-at_seam, IsUtf8-from_is_utf8}
 use Rattle.std.proofs.lemmas.Str.Pattern.{IsSplitOnceResult, drop_at_char}
+use Rattle.documents.specs.Json.{Json, null, boolean, number, not_whole, string, array, object}
 use Rattle.documents.specs.Tests.{same_word}
+use Rattle.js_json.specs.Place.{value_at}
 use Rattle.js_doc.proofs.Lookups.{same_word-named}
 use Rattle.percent_encoding.specs.Percent.{percent_decode}
-use Rattle.js_json.specs.Reference.{before_hash, after_hash, without_last_hash, is_own, decoded, tokens_between, tokens_of}
+use Rattle.js_json.specs.Reference.{before_hash, after_hash, without_last_hash, is_own, decoded, tokens_between, tokens_of, found, pointed, target_of}
 
 -- a text that begins with an ASCII character
 pub chars-ascii_cons : (bs rest : List ℕ) (c : ℕ) → c < 128 → IsUtf8 bs → bs ≡ c ∷ rest → chars bs ≡ c ∷ chars rest
@@ -196,3 +198,33 @@ is_own-unnamed base test utf8 is = go (chars base) refl
         some : (bs : List ℕ) → chars bs ≡ c ∷ cs → eqb (length bs) 0 ≡ false
         some [] e = let no_chars = sym chars-nil ∙ e in cc
         some (b ∷ bs) e = grind (arith, nat_tests)
+
+-- ---- the schema that is found
+
+found-ok : (place target : List (List ℕ)) (o : Option Json) → found place o ≡ Ok target
+    → (place ≡ target) × ((value : Json) × (o ≡ Some value))
+found-ok place target None e = cc
+found-ok place target (Some null) e = cc
+found-ok place target (Some (boolean b)) e = (cc, (boolean b, refl))
+found-ok place target (Some (number n)) e = cc
+found-ok place target (Some not_whole) e = cc
+found-ok place target (Some (string s)) e = cc
+found-ok place target (Some (array ds)) e = cc
+found-ok place target (Some (object ms)) e = (cc, (object ms, refl))
+
+pointed-ok : (j : Json) (o : Option (List (List ℕ))) (target : List (List ℕ)) → pointed j o ≡ Ok target
+    → (value : Json) × (value_at target j ≡ Some value)
+pointed-ok j None target e = cc
+pointed-ok j (Some place) target e =
+    let there = found-ok place target (value_at place j) e in
+    (there.1.0, ap (λ p. value_at p j) (sym there.0) ∙ there.1.1)
+
+-- a target is a place of the file
+pub value_at-target_of : (j : Json) (text : List ℕ) (id : Option (List ℕ)) (target : List (List ℕ))
+    → target_of j text id ≡ Ok target → (value : Json) × (value_at target j ≡ Some value)
+value_at-target_of j text id target e = go (is_own (before_hash text) id) refl
+  where
+    go : (own : Bool) → is_own (before_hash text) id ≡ own → (value : Json) × (value_at target j ≡ Some value)
+    go true own =
+        pointed-ok j (option_and_then tokens_of (decoded (after_hash text))) target (rw own at e)
+    go false own = let remote = rw own at e in cc

@@ -1,5 +1,5 @@
 -- What a refused step refuses.
-use Rattle.std.proofs.Common.{◌≡◌, Option, None, Result, Ok, Err, sym, ap, ◌∙◌, subst}
+use Rattle.std.proofs.Common.{◌≡◌, Option, None, Result, Ok, Err, sym, subst}
 use Rattle.std.specs.Result.{IsErrAnd}
 use Rattle.js_json.specs.declared.fault.RefFault.{RefFault}
 use Rattle.js_json.specs.declared.fault.RefFault.TheVariants.{Remote, BadPointer, Missing, NotASchema, Memory}

@@ -1,5 +1,5 @@
 -- What the steps of making a document tell of those of its parts.
-use Rattle.std.specs.Prelude.{◌≡◌, ℕ, List, [], Option, Some, Result, Ok, Err, reverse, slice_get}
+use Rattle.std.specs.Prelude.{◌≡◌, ℕ, List, [], Some, Result, Ok, Err, reverse, slice_get}
 use Rattle.documents.specs.Json as J
 use Rattle.js_doc.specs.declared.document.Doc.{Doc}
 use Rattle.js_doc.specs.declared.document.DocList.{DocList}

@@ -1,4 +1,4 @@
-use Rattle.std.proofs.Common.{◌≡◌, [], ◌∷◌, ◌++◌, ◌+◌, map, drop, decimal, refl, subst, sym, ap, ◌∙◌}
+use Rattle.std.proofs.Common.{◌≡◌, [], ◌+◌, map, drop, refl, subst, sym, ap, ◌∙◌}
 use Rattle.std.proofs.lemmas.List.{take_all, at_drop_all}
 use Rattle.documents.specs.Json.{items_of, members_of}
 use Rattle.js_doc.specs.View as V

@@ -1,4 +1,4 @@
-use Rattle.std.proofs.Common.{Some, chars, string_bytes, ap, sym, ◌∙◌}
+use Rattle.std.proofs.Common.{Some, string_bytes, ap, sym, ◌∙◌}
 use Rattle.std.proofs.lemmas.Str.{IsUtf8-string_bytes}
 use Rattle.js_json.proofs.TokensLemmas.{token_more, token_all}
 use Rattle.js_json.proofs.fragment.read_token.Goals as goal

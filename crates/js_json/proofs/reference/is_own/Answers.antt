@@ -1,6 +1,5 @@
-use Rattle.std.proofs.Common.{◌≡◌, length, chars, option_map, arith, sym, ap, ◌∙◌}
+use Rattle.std.proofs.Common.{◌≡◌, length, arith, sym, ◌∙◌}
 use Rattle.std.proofs.lemmas.Bool.Decides.{nat_tests}
-use Rattle.js_json.specs.Reference.{is_own}
 use Rattle.js_json.proofs.ReferenceLemmas.{is_own-empty, is_own-named, is_own-unnamed}
 use Rattle.js_json.proofs.reference.is_own.Goals as goal
 
