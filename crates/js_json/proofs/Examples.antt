@@ -93,7 +93,8 @@ absent = refl
 
 -- an array and an object with two numbers that aren't whole, the first of them deep inside
 abbrev fractions : Json
-fractions = object (member (codes "a") (array (item (number (pos 1)) (item (object (member (codes "x/y") not_whole no_members))
+fractions =
+    object (member (codes "a") (array (item (number (pos 1)) (item (object (member (codes "x/y") not_whole no_members))
     no_items))) (member (codes "b") not_whole no_members))
 
 -- places stand in the order of the text, outer tokens first, and names aren't escaped
@@ -109,7 +110,8 @@ large : unwhole_places (array (item (number (pos 99999999999999999999999)) no_it
 large = refl
 
 -- a document is the same value
-document : json_of_document (D.object (D.member (codes "a") (D.array (D.item (D.number (negsuc 0)) D.no_items)) D.no_members))
+document : json_of_document
+    (D.object (D.member (codes "a") (D.array (D.item (D.number (negsuc 0)) D.no_items)) D.no_members))
     ≡ object (member (codes "a") (array (item (number (negsuc 0)) no_items)) no_members)
 document = refl
 

@@ -63,7 +63,8 @@ pieces-encodes (c ∷ cs) = go (eqb c 47) refl (pieces-encodes cs)
     go false test rest =
         let other : c ≢ 47 = grind (arith, nat_tests) in
         let some = some_pieces cs in
-        let first : map encode_utf8_all (onto_first c (pieces cs)) ≡ onto_bytes (encode_utf8 c) (map encode_utf8_all (pieces cs)) =
+        let first : map encode_utf8_all (onto_first c (pieces cs))
+        ≡ onto_bytes (encode_utf8 c) (map encode_utf8_all (pieces cs)) =
         rw some.1.1 (sym (onto_bytes-first (encode_utf8 c) (encode_utf8_all some.0) (map encode_utf8_all some.1.0))) in
         pieces-append (encode_utf8 c) (encode_utf8_all cs) (no_slash c other)
         ∙ ap (onto_bytes (encode_utf8 c)) rest ∙ sym first
@@ -88,10 +89,12 @@ pieces-scalars (c ∷ cs) h =
       | false ↦ onto_first-scalars c (pieces cs) (and_from (scalar c) true both.0 refl) rest
     ]
 
-chars-encodes_each : (parts : List (List ℕ)) → every all_scalars parts ≡ true → map chars (map encode_utf8_all parts) ≡ parts
+chars-encodes_each : (parts : List (List ℕ)) → every all_scalars parts ≡ true
+    → map chars (map encode_utf8_all parts) ≡ parts
 chars-encodes_each [] h = refl
 chars-encodes_each (part ∷ parts) h =
-    let both = and_parts (all_scalars part) (every all_scalars parts) h in rw (chars-encodes part both.0, chars-encodes_each parts both.1) refl
+    let both = and_parts (all_scalars part) (every all_scalars parts) h in
+    rw (chars-encodes part both.0, chars-encodes_each parts both.1) refl
 
 -- the characters of the pieces
 pub pieces-chars : (bs : List ℕ) → IsUtf8 bs → map chars (pieces bs) ≡ pieces (chars bs)
@@ -106,19 +109,23 @@ tokens_between_all read text tokens is made =
     let good : every are_escapes (pieces text) ≡ true = rw is at made.0 in
     rw (good, ← is, made.1) refl
 
-every-at : (p : List ℕ → Bool) (xs : List (List ℕ)) (i : ℕ) (x : List ℕ) → i < length xs → x ≡ get_or xs i x → p x ≡ false
+every-at : (p : List ℕ → Bool) (xs : List (List ℕ)) (i : ℕ) (x : List ℕ) → i < length xs
+    → x ≡ get_or xs i x → p x ≡ false
     → every p xs ≡ false
 every-at p [] i x within is fails = absurd (omega arith)
 every-at p (y ∷ ys) zero x within is fails = let same : p y ≡ false = ap p (sym is) ∙ fails in rw same refl
 every-at p (y ∷ ys) (suc i) x within is fails =
-    let rest = every-at p ys i x (omega arith) is fails in rw rest (elim (p y) as (λ b. b && false ≡ false) [ true ↦ refl | false ↦ refl ])
+    let rest = every-at p ys i x (omega arith) is fails in
+    rw rest (elim (p y) as (λ b. b && false ≡ false) [ true ↦ refl | false ↦ refl ])
 
 -- one piece that writes no token
-pub tokens_between_none : (text : List ℕ) (parts : List (List ℕ)) (i : ℕ) (part : List ℕ) → map chars parts ≡ pieces text
+pub tokens_between_none : (text : List ℕ) (parts : List (List ℕ)) (i : ℕ) (part : List ℕ)
+    → map chars parts ≡ pieces text
     → (i < length parts) × (part ≡ get_or parts i part) → token_of (chars part) ≡ None → tokens_between text ≡ None
 tokens_between_none text parts i part is at none =
     let fails : are_escapes (chars part) ≡ false = without (are_escapes (chars part)) (unescaped (chars part)) none in
-    let here : chars part ≡ get_or (map chars parts) i (chars part) = ap chars at.1 ∙ sym (get_or-map chars parts i part) in
+    let here : chars part ≡ get_or (map chars parts) i (chars part) =
+    ap chars at.1 ∙ sym (get_or-map chars parts i part) in
     let within : i < length (map chars parts) = rw length-map at.0 in
     let all = every-at are_escapes (map chars parts) i (chars part) within here fails in
     let bad : every are_escapes (pieces text) ≡ false = rw is at all in rw bad refl

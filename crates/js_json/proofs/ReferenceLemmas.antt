@@ -30,7 +30,8 @@ pub tokens_of-empty : (bs : List ℕ) → length bs ≡ 0 → tokens_of (chars b
 tokens_of-empty [] none = rw chars-nil refl
 tokens_of-empty (b ∷ bs) none = absurd (omega arith)
 
-pub tokens_of-slash : (bs rest : List ℕ) → IsUtf8 bs → bs ≡ 47 ∷ rest → tokens_of (chars bs) ≡ tokens_between (chars rest)
+pub tokens_of-slash : (bs rest : List ℕ) → IsUtf8 bs → bs ≡ 47 ∷ rest
+    → tokens_of (chars bs) ≡ tokens_between (chars rest)
 tokens_of-slash bs rest utf8 is = rw (chars-ascii_cons bs rest 47 (lit< tt) utf8 is) refl
 
 pub tokens_of-other : (bs : List ℕ) → IsUtf8 bs → (length bs ≡ 0 → ⊥) → ((rest : List ℕ) → bs ≢ 47 ∷ rest)
@@ -45,7 +46,8 @@ tokens_of-other bs utf8 some other = go (chars bs) refl
         test true slash =
             let same : c ≡ 47 = grind (arith, nat_tests) in
             let bytes = no_bytes bs (c ∷ cs) utf8 is
-            ∙ ap (λ d. encode_utf8 d ++ encode_utf8_all cs) same ∙ ap (λ b. b ++ encode_utf8_all cs) (encode_ascii 47 (lit< tt)) in
+            ∙ ap (λ d. encode_utf8 d ++ encode_utf8_all cs) same
+            ∙ ap (λ b. b ++ encode_utf8_all cs) (encode_ascii 47 (lit< tt)) in
             absurd (other (encode_utf8_all cs) bytes)
         test false plain = rw plain refl
 
@@ -90,7 +92,8 @@ none_of_chars bs utf8 none =
 cut-none : (bs : List ℕ) → IsUtf8 bs → NoCharPasses (λ d. eqb d 35) bs
     → (chars bs ≡ before_hash (chars bs)) × ([] ≡ after_hash (chars bs))
 cut-none bs utf8 none =
-    let clear = none_of_chars bs utf8 none in (sym (before_hash-none (chars bs) clear), sym (after_hash-none (chars bs) clear))
+    let clear = none_of_chars bs utf8 none in
+    (sym (before_hash-none (chars bs) clear), sym (after_hash-none (chars bs) clear))
 
 cut-first : (bs front back : List ℕ) → IsUtf8 front → bs ≡ front ++ 35 ∷ back → IsUtf8 (35 ∷ back)
     → NoCharPasses (λ d. eqb d 35) front
@@ -148,7 +151,8 @@ hash_utf8 = (35 ∷ [], (refl, append-nil (encode_utf8 35) ∙ encode_ascii 35 (
 front_utf8 : (bs front back : List ℕ) → IsUtf8 bs → IsUtf8 back → bs ≡ front ++ back → IsUtf8 front
 front_utf8 bs front back utf8 back_utf8 is =
     let boundary = IsCharBoundary-at_seam bs front back is back_utf8 in
-    subst IsUtf8 (ap (take (length front)) is ∙ take_at front back (length front) refl) (IsUtf8-take bs (length front) utf8 boundary)
+    subst IsUtf8 (ap (take (length front)) is ∙ take_at front back (length front) refl)
+    (IsUtf8-take bs (length front) utf8 boundary)
 
 pub without_last_hash-at : (bs : List ℕ) (whole : Bor (List ℕ)) (r : Option (Bor (List ℕ))) → IsUtf8 bs → whole.now ≡ bs
     → MatchOption r ((front : List ℕ) → bs ≢ front ++ 35 ∷ []) (λ x. bs ≡ x.now ++ 35 ∷ [])

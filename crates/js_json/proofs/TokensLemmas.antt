@@ -9,7 +9,8 @@ use Rattle.js_json.specs.Steps.{TakesOrRefuses}
 use Rattle.js_json.specs.Reference.{are_escapes, replaced, unescaped, token_of}
 
 -- a character that isn't `~` stays
-replaced_other : (digit by c : ℕ) (cs : List ℕ) → eqb c 126 ≡ false → replaced digit by (c ∷ cs) ≡ c ∷ replaced digit by cs
+replaced_other : (digit by c : ℕ) (cs : List ℕ) → eqb c 126 ≡ false
+    → replaced digit by (c ∷ cs) ≡ c ∷ replaced digit by cs
 replaced_other digit by c [] other = refl
 replaced_other digit by c (d ∷ cs) other = rw other refl
 
@@ -24,7 +25,8 @@ pushed false c token = refl
 
 token_of_other : (c : ℕ) (cs : List ℕ) → eqb c 126 ≡ false → token_of (c ∷ cs) ≡ option_map (λ t. c ∷ t) (token_of cs)
 token_of_other c cs other =
-    rw (are_escapes_other c cs other, replaced_other 49 47 c cs other, replaced_other 48 126 c (replaced 49 47 cs) other)
+    let slashes = replaced_other 49 47 c cs other in
+    rw (are_escapes_other c cs other, slashes, replaced_other 48 126 c (replaced 49 47 cs) other)
     (pushed (are_escapes cs) c (unescaped cs))
 
 token_of_tilde : (cs : List ℕ) → token_of (126 ∷ 48 ∷ cs) ≡ option_map (λ t. 126 ∷ t) (token_of cs)
@@ -51,7 +53,8 @@ module _ (bs rest : List ℕ) (c : ℕ) (utf8 : IsUtf8 bs) (is : bs ≡ encode_u
       omega (arith, all, length-encode c, some)
 
   pub take_plain : c ≢ 126
-      → (token_of (chars bs) ≡ option_map (λ t. c ∷ t) (token_of (chars rest))) × (length rest < length bs) × IsUtf8 rest
+      → (token_of (chars bs) ≡ option_map (λ t. c ∷ t) (token_of (chars rest)))
+      × (length rest < length bs) × IsUtf8 rest
   take_plain other =
       let test : eqb c 126 ≡ false = grind (arith, nat_tests) in
       (rw first_char (token_of_other c (chars rest) test), shorter, IsUtf8-past_char bs rest c utf8 is)
@@ -65,7 +68,8 @@ module _ (bs mid rest : List ℕ) (c d : ℕ) (utf8 : IsUtf8 bs) (is : bs ≡ en
       ∙ rw (tilde, first_char mid rest d (IsUtf8-past_char bs mid c utf8 is) next) refl
 
   take_escape : (e : ℕ) → token_of (126 ∷ d ∷ chars rest) ≡ option_map (λ t. e ∷ t) (token_of (chars rest))
-      → (token_of (chars bs) ≡ option_map (λ t. e ∷ t) (token_of (chars rest))) × (length rest < length bs) × IsUtf8 rest
+      → (token_of (chars bs) ≡ option_map (λ t. e ∷ t) (token_of (chars rest)))
+      × (length rest < length bs) × IsUtf8 rest
   take_escape e same =
       let one = shorter bs mid c utf8 is in
       let mid_utf8 = IsUtf8-past_char bs mid c utf8 is in
@@ -73,11 +77,13 @@ module _ (bs mid rest : List ℕ) (c d : ℕ) (utf8 : IsUtf8 bs) (is : bs ≡ en
       (rw two_chars same, omega arith, IsUtf8-past_char mid rest d mid_utf8 next)
 
   pub take_tilde : d ≡ 48
-      → (token_of (chars bs) ≡ option_map (λ t. 126 ∷ t) (token_of (chars rest))) × (length rest < length bs) × IsUtf8 rest
+      → (token_of (chars bs) ≡ option_map (λ t. 126 ∷ t) (token_of (chars rest)))
+      × (length rest < length bs) × IsUtf8 rest
   take_tilde zero = take_escape 126 (ap (λ e. token_of (126 ∷ e ∷ chars rest)) zero ∙ token_of_tilde (chars rest))
 
   pub take_slash : d ≡ 49
-      → (token_of (chars bs) ≡ option_map (λ t. 47 ∷ t) (token_of (chars rest))) × (length rest < length bs) × IsUtf8 rest
+      → (token_of (chars bs) ≡ option_map (λ t. 47 ∷ t) (token_of (chars rest)))
+      × (length rest < length bs) × IsUtf8 rest
   take_slash one = take_escape 47 (ap (λ e. token_of (126 ∷ e ∷ chars rest)) one ∙ token_of_slash (chars rest))
 
   pub take_wrong : d ≢ 48 → d ≢ 49 → token_of (chars bs) ≡ None
@@ -124,7 +130,8 @@ token_more piece text rest old new c o is took grown before =
     )
 
 -- the whole token
-pub token_all : (piece text rest bytes : List ℕ) (o : Option ℕ) → o ≡ None → TakesOrRefuses text rest (Ok o) → IsUtf8 bytes
+pub token_all : (piece text rest bytes : List ℕ) (o : Option ℕ) → o ≡ None
+    → TakesOrRefuses text rest (Ok o) → IsUtf8 bytes
     → IsUtf8 text × ((done : List ℕ) × (bytes ≡ encode_utf8_all done)
     × (token_of (chars piece) ≡ option_map (λ t. done ++ t) (token_of (chars text))))
     → token_of (chars piece) ≡ Some (chars bytes)

@@ -92,7 +92,9 @@ pointed j (Some place) = found place (value_at place j)
 -- the place in the file's value that the reference names, or the first fault
 abbrev pub target_of : Json → List ℕ → Option (List ℕ) → Result (List (List ℕ)) RefFault
 target_of j text id =
-    if is_own (before_hash text) id then pointed j (option_and_then tokens_of (decoded (after_hash text))) else Err Remote
+    if is_own (before_hash text) id
+    then pointed j (option_and_then tokens_of (decoded (after_hash text)))
+    else Err Remote
 
 -- the result is what is owed, unless memory was refused
 abbrev pub Answers : Result (List (List ℕ)) RefFault → Result (List (List ℕ)) RefFault → Type 0

@@ -17,7 +17,8 @@ ReadsOrRefuses owed (Err NotASchema) = ⊥
 abbrev pub TakesOrRefuses : (text rest : List ℕ) → Result (Option ℕ) RefFault → Type 0
 TakesOrRefuses text rest (Ok None) = token_of (chars text) ≡ Some []
 TakesOrRefuses text rest (Ok (Some c)) =
-    (token_of (chars text) ≡ option_map (λ t. c ∷ t) (token_of (chars rest))) × (length rest < length text) × IsUtf8 rest
+    (token_of (chars text) ≡ option_map (λ t. c ∷ t) (token_of (chars rest)))
+    × (length rest < length text) × IsUtf8 rest
 TakesOrRefuses text rest (Err BadPointer) = token_of (chars text) ≡ None
 TakesOrRefuses text rest (Err Memory) = ⊥
 TakesOrRefuses text rest (Err Remote) = ⊥

@@ -14,8 +14,8 @@ use crate::pointer::Pointer;
 use js_doc::Json;
 use std::alloc::Global;
 
-/// The place of the schema that `text` refers to in the file that `json` is. `root_id` is the file's own `$id`, where it
-/// has one that is a string.
+/// The place of the schema that `text` refers to in the file that `json` is. `root_id` is the file's own `$id`,
+/// where it has one that is a string. The faults are tried in the order of `RefFault`.
 pub fn target(
     alloc: Global,
     json: &Json,

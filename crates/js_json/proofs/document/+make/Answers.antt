@@ -40,7 +40,8 @@ make_members-loop-member-preserved t c =
     let member = c.member-item.result in
     let i = c.loop-member.member-index in
     let places = places_in_members-drop _ i member c.loop-member-test.true c.member-item.is in
-    let none : unwhole_places (member_view member).1 ≡ [] = ap unwhole_places (sym c.value.ensures.view) ∙ c.in-Ok.ensures.1 in
+    let none : unwhole_places (member_view member).1 ≡ [] =
+    ap unwhole_places (sym c.value.ensures.view) ∙ c.in-Ok.ensures.1 in
     let named = c.in_ok-copy-in-Ok.ensures ∙ c.name-name.ensures.view in
     let valued = c.in-Ok.ensures.0 ∙ c.value.ensures.view in
     let same : json_of_member c.new.result ≡ member_view member = rw (c.new.ensures, named, valued) refl in (
@@ -55,7 +56,9 @@ make_members-returns-in-Err t c =
     let i = c.loop-member.member-index in
     let places = places_in_members-drop _ i member c.loop-member-test.true c.member-item.is in
     let all = sym places ∙ c.loop-member.invariant.1 ∙ ap places_in_members c.as_slice-members.ensures.view in
-    let told = rw (c.name-name.ensures.view, c.value.ensures.view) at (c.in_member.ensures _ (places_in_members (members_of (map member_view (drop (i + 1) c.as_slice-members.result.now)))) c.in-Err.ensures) in
+    let later = places_in_members (members_of (map member_view (drop (i + 1) c.as_slice-members.result.now))) in
+    let named = c.in_member.ensures _ later c.in-Err.ensures in
+    let told = rw (c.name-name.ensures.view, c.value.ensures.view) at named in
     subst (λ ps. TellsFirst ps c.in_member.result) all told
 
 pub make_members-returns : goal.make_members-returns

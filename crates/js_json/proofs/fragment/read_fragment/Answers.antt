@@ -9,8 +9,10 @@ use Rattle.js_json.proofs.fragment.read_fragment.Goals as goal
 pub returns-in-Ok : goal.returns-in-Ok
 returns-in-Ok c =
     let text = c.as_str.ensures.value ∙ c.in-Ok.ensures.value ∙ c.percent_decode_str.ensures.bytes in
-    let decoded = decoded-utf8 c.args.fragment.now c.as_str.result.now c.utf8.fragment text (is_utf8-from_IsUtf8 _ c.as_str.utf8) in
-    subst (λ owed. ReadsOrRefuses owed c.read_pointer.result) (sym (ap (option_and_then tokens_of) decoded)) c.read_pointer.ensures
+    let valid = is_utf8-from_IsUtf8 _ c.as_str.utf8 in
+    let decoded = decoded-utf8 c.args.fragment.now c.as_str.result.now c.utf8.fragment text valid in
+    subst (λ owed. ReadsOrRefuses owed c.read_pointer.result) (sym (ap (option_and_then tokens_of) decoded))
+    c.read_pointer.ensures
 
 pub returns-in-Err-Utf8 : goal.returns-in-Err-Utf8
 returns-in-Err-Utf8 c =

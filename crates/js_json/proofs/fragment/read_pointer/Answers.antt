@@ -21,4 +21,5 @@ pub returns-in-None : goal.returns-in-None
 returns-in-None c =
     let prefix = strip_prefix_char 47 _ _ c.strip_prefix.ensures.cases (lit< tt) in
     let other = rw c.in-None.is at prefix in
-    tokens_of-other c.args.text.now c.utf8.text (λ none. grind (arith, nat_tests, c.is_empty.ensures, c.if-is_empty.false)) other
+    tokens_of-other c.args.text.now c.utf8.text
+    (λ none. grind (arith, nat_tests, c.is_empty.ensures, c.if-is_empty.false)) other

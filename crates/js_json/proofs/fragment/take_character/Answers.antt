@@ -19,7 +19,8 @@ returns-in_default c =
 pub returns-in_default-2 : goal.returns-in_default-2
 returns-in_default-2 c =
     let last = rw c.in_default.is at c.next-in-Some-eq126.ensures.steps in
-    take_last _ _ c.in-Some-eq126.field-0 c.requires c.in-Some-eq126.ensures.steps.0 c.in-Some-eq126.field-0-test last.0.0
+    take_last _ _ c.in-Some-eq126.field-0 c.requires c.in-Some-eq126.ensures.steps.0 c.in-Some-eq126.field-0-test
+    last.0.0
 
 pub returns-in-Some : goal.returns-in-Some
 returns-in-Some c = take_plain _ _ c.in-Some.c c.requires c.in-Some.ensures.steps.0 c.in-Some.c-test.1

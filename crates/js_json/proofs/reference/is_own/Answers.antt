@@ -10,7 +10,8 @@ returns-then-is_empty c =
 
 pub returns-else-is_empty : goal.returns-else-is_empty
 returns-else-is_empty c =
-    rw c.in-Some.is (is_own-named c.args.base.now c.in-Some.id.now c.without_last_hash.result.now c.eq.result c.utf8.base
+    rw c.in-Some.is (is_own-named c.args.base.now c.in-Some.id.now c.without_last_hash.result.now c.eq.result
+    c.utf8.base
     c.without_last_hash.utf8 (λ none. grind (arith, nat_tests, c.is_empty.ensures, c.if-is_empty.false))
     c.without_last_hash.ensures c.eq.ensures)
 
