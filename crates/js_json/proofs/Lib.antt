@@ -9,3 +9,9 @@ pub mod ValueLemmas
 pub mod Conversion
 pub mod MembersLemmas
 pub mod PointerLemmas
+pub mod DocumentsLemmas
+pub mod PlaceLemmas
+pub mod StepsLemmas
+pub mod TokensLemmas
+pub mod PiecesLemmas
+pub mod ReferenceLemmas

@@ -1,19 +1,26 @@
-//! JSON texts as values, and places in them.
+//! JSON texts as values, documents of values, places in them, and what references name.
 //!
-//! `specs/Lib.antt` lists what a reader must believe: which value a text has, that it is well formed, and how
-//! a pointer is printed. Each call answers exactly that, or that memory was refused. What reads schemas and
-//! documents stands on this crate.
+//! `specs/Lib.antt` lists what a reader must believe: which value a text has, which values are documents, which value
+//! stands at a pointer, and what a reference names. Each call answers exactly that, or that memory was refused.
+//! What reads schemas and documents stands on this crate.
 #![tactic(auto)]
 
 mod convert;
+mod document;
 mod fault;
+mod fragment;
 mod members;
+mod place;
 mod pointer;
 mod read;
+mod reference;
 #[cfg(test)]
 mod tests;
 
-pub use fault::JsonFault;
+pub use document::to_doc;
+pub use fault::{JsonFault, RefFault};
 pub use members::member;
+pub use place::at_pointer;
 pub use pointer::Pointer;
 pub use read::read_json;
+pub use reference::target;

@@ -5,12 +5,13 @@
 //! cost time in proportion to the pointer, and a push in proportion to its token.
 
 ghost use Rattle.std.specs.Prelude.{◌≡◌, ◌++◌, ◌∷◌, [], ℕ, List, IfOk, OnOk, OnErr};
-ghost use Rattle.std.specs.Prelude.{chars, decimal, encode_utf8_all, string_bytes};
+ghost use Rattle.std.specs.Prelude.{chars, decimal, encode_utf8_all, reverse, string_bytes};
 ghost use Rattle.js_json.specs.Pointer.{escaped_character, escaped, pointer_text, quoted};
 
 use js_doc::{Memory, Str};
 use serde_json::Value;
 use std::alloc::{AllocError, Global};
+use std::fmt;
 use std::marker::Model;
 
 /// The tokens that lead from the whole value to a place in it, decoded: members' names and elements' indices.
@@ -35,6 +36,15 @@ impl Pointer {
         Pointer {
             tokens: Vec::new(alloc),
         }
+    }
+
+    /// Goes down by `token`.
+    pub(crate) fn push(&mut self, token: Str) -> Result<(), Memory>
+        ensures ok { OnOk result (self.new ≡ self.old ++ token ∷ []) }
+        ensures err { OnErr result (self.new ≡ self.old) }
+    {
+        self.tokens.push(token)?;
+        Ok(())
     }
 
     /// Goes down to the member of that name.
@@ -77,6 +87,22 @@ impl Pointer {
         Ok(Pointer { tokens })
     }
 
+    /// The tokens, outermost first.
+    pub fn tokens(&self) -> &[Str]
+        ensures { result.now ≡ self.now }
+    {
+        self.tokens.as_slice()
+    }
+
+    /// The tokens the other way round.
+    pub(crate) fn reversed(self) -> Pointer
+        ensures { result ≡ reverse self }
+    {
+        let Pointer { mut tokens } = self;
+        tokens.reverse();
+        Pointer { tokens }
+    }
+
     /// The pointer as a JSON string, quotes and all.
     pub fn text(&self, alloc: Global) -> Result<String, Memory>
         ensures { IfOk result (λ s. string_bytes s ≡ quoted (pointer_text self.now)) }
@@ -87,6 +113,16 @@ impl Pointer {
             push_token(&mut plain, token.as_text())?;
         }
         Ok(Value::String(plain).to_string(alloc)?)
+    }
+}
+
+impl fmt::Debug for Pointer {
+    fn fmt<W: fmt::Write>(&self, f: &mut fmt::Formatter<W>) -> fmt::Result {
+        for token in &self.tokens {
+            let text = token.as_text();
+            write!(f, "/{text:?}")?;
+        }
+        Ok(())
     }
 }
 

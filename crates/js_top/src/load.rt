@@ -50,7 +50,10 @@ pub(crate) fn read_schema(alloc: Global, bytes: &[u8]) -> Result<Loaded, Memory>
             }
             Err(FormsFault::Memory) => Err(Memory),
         },
-        Err(JsonFault::NotJson) => Ok(Loaded::Refused(String::from_str(alloc, "notjson")?)),
+        // `read_json` never answers `NotWhole`
+        Err(JsonFault::NotJson | JsonFault::NotWhole(_)) => Ok(Loaded::Refused(String::from_str(
+            alloc, "notjson",
+        )?)),
         Err(JsonFault::Memory) => Err(Memory),
     }
 }
