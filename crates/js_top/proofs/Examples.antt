@@ -1,14 +1,18 @@
 -- Worked examples of the command words and of reports, each computed from the definitions.
 use Rattle.std.specs.Fmt.{digits}
-use Rattle.std.specs.Prelude.{◌≡◌, ℕ, List, [], ◌∷◌, ◌++◌, cond, Option, Some, None, refl, codes}
-use Rattle.documents.specs.Kind.{Text}
+use Rattle.std.specs.Prelude.{◌≡◌, ℕ, List, [], ◌∷◌, ◌++◌, flat_map, cond, Option, Some, None, refl, codes}
+use Rattle.documents.specs.Kind.{Kind, Null, Boolean, Number, Text, Array, Object}
+use Rattle.documents.specs.Json as J
+use Rattle.goals.specs.Signed.{Plus, Minus}
 use Rattle.documents.specs.Tests.{same_word}
 use Rattle.goals.specs.Goal.{follow}
 use Rattle.goals.specs.Tree.{steps}
 use Rattle.js_json.proofs.OnTexts.{json_on_texts}
 use Rattle.js_forms.specs.Places.{places_from}
 use Rattle.js_decide.specs.Verdict.{Document, Certificate}
+use Rattle.certificates.specs.Line.{Line, Version, Goals, Goal, Entry, At, Rule, OfKind, End}
 use Rattle.certificates.specs.TreeLines.{written}
+use Rattle.js_top.specs.Accepting.{IsAccepted}
 use Rattle.js_top.specs.Command.{command}
 use Rattle.js_top.specs.Reading.{Refused}
 use Rattle.js_top.specs.Report.{Report, printed, verdict_report, of_reading, of_file, of_command}
@@ -80,14 +84,46 @@ unfolding answer json_on_texts places_from
 second_is_refused = refl
 
 -- a certificate of 24 lines, from the bytes of both files
-strings : answer (codes "{\"type\":\"string\"}") (codes "{\"type\":[\"string\",\"null\"]}")
-    ≡ record {
-      text =
-          codes "certificate 1\ngoals 1\ngoal +0 -2\nentry 0\n"
-          ++ codes "at null\nrule +0\nkind +1\nat boolean\nrule +0\nkind +1\nat number\nrule +0\nkind +1\n"
-          ++ codes "at string\nrule +0\nrule -2\nkind -3\nat array\nrule +0\nkind +1\nat object\nrule +0\nkind +1\n"
-          ++ codes "end\n";
-      status = S.Done;
-    }
+
+abbrev string : List ℕ
+string = codes "{\"type\":\"string\"}"
+
+abbrev string_or_null : List ℕ
+string_or_null = codes "{\"type\":[\"string\",\"null\"]}"
+
+abbrev certificate : List ℕ
+certificate =
+    codes "certificate 1\ngoals 1\ngoal +0 -2\nentry 0\n"
+    ++ codes "at null\nrule +0\nkind +1\nat boolean\nrule +0\nkind +1\nat number\nrule +0\nkind +1\n"
+    ++ codes "at string\nrule +0\nrule -2\nkind -3\nat array\nrule +0\nkind +1\nat object\nrule +0\nkind +1\n"
+    ++ codes "end\n"
+
+string_in_string_or_null : answer string string_or_null ≡ record { text = certificate; status = S.Done }
 unfolding answer json_on_texts places_from follow steps digits
-strings = refl
+string_in_string_or_null = refl
+
+abbrev other_kind : Kind → List Line
+other_kind t = At t ∷ Rule (Plus 0) ∷ OfKind (Plus 1) ∷ []
+
+-- which is accepted for them
+certificate_accepted : IsAccepted string string_or_null certificate
+unfolding json_on_texts places_from follow digits
+certificate_accepted =
+    record {
+      first = J.object (J.member (codes "type") (J.string (codes "string")) J.no_members);
+      second =
+          J.object
+          (J.member (codes "type")
+          (J.array (J.item (J.string (codes "string")) (J.item (J.string (codes "null")) J.no_items))) J.no_members);
+      is_first = refl;
+      is_second = refl;
+      good = record {
+        lines =
+            Version ∷ Goals 1 ∷ Goal (Plus 0 ∷ Minus 2 ∷ []) ∷ Entry 0
+            ∷ (flat_map other_kind (Null ∷ Boolean ∷ Number ∷ [])
+            ++ At Text ∷ Rule (Plus 0) ∷ Rule (Minus 2) ∷ OfKind (Minus 3)
+            ∷ (flat_map other_kind (Array ∷ Object ∷ []) ++ End ∷ []));
+        is_text = record { small = refl; short = refl; text = refl };
+        good = refl;
+      };
+    }

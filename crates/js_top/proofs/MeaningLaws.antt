@@ -15,6 +15,7 @@ use Rattle.goals.specs.Goal.{form}
 use Rattle.goals.specs.Tree.{first}
 use Rattle.certificates.specs.Line.{Line, lines_text, signed_list_text, IsText}
 use Rattle.certificates.specs.TreeLines.{written}
+use Rattle.js_json.specs.Documents.{json_of_document}
 use Rattle.js_json.specs.Value.{value_of}
 use Rattle.js_json.proofs.OnTexts.{json_on_texts}
 use Rattle.js_forms.specs.Table.{table_of, ranks_of}
@@ -25,7 +26,7 @@ use Rattle.js_forms.specs.Places.{first_fault}
 use Rattle.js_decide.specs.Verdict.{Verdict, Document as OfKind, Limit, Certificate, is_over, is_open, of_kinds, of_goal, verdict}
 use Rattle.js_decide.proofs.VerdictLaws.{verdict-document, verdict-good, verdict-text, verdict-certificate}
 use Rattle.js_top.specs.Report.{line, sample_text, verdict_report, include_report}
-use Rattle.js_top.specs.Meaning.{json_of, IsCounterexample, IsCertificate, IsLimit, PassesLimit, Settles}
+use Rattle.js_top.specs.Meaning.{IsCounterexample, IsCertificate, IsLimit, PassesLimit, Settles}
 use Rattle.js_top.specs.declared.status.Status.{Status}
 use Rattle.js_top.specs.declared.status.Status.TheVariants as S
 
@@ -54,7 +55,7 @@ is_document-sample Text = refl
 is_document-sample Array = refl
 is_document-sample Object = refl
 
-value_of-sample : (t : Kind) → value_of (line (sample_text t)) ≡ Some (json_of (sample t))
+value_of-sample : (t : Kind) → value_of (line (sample_text t)) ≡ Some (json_of_document (sample t))
 unfolding json_on_texts
 value_of-sample Null = refl
 value_of-sample Boolean = refl
@@ -238,6 +239,8 @@ module _ (a b : Json) where
         go (OfKind t) h e =
             inr (unpassed (OfKind t) h (λ w. cc), inl (counterexample a b t text h (ap (λ r. r.text) e)))
         go (Certificate ls) h e =
-            inr (unpassed (Certificate ls) h (λ w. cc),
-                inr (certificate a b ls text h sound_a sound_b (ap (λ r. r.text) e)))
+            inr (
+              unpassed (Certificate ls) h (λ w. cc),
+              inr (certificate a b ls text h sound_a sound_b (ap (λ r. r.text) e)),
+            )
         go (Limit g) h e = inl (limited a b g text h (ap (λ r. r.text) e))
