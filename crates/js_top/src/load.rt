@@ -51,9 +51,10 @@ pub(crate) fn read_schema(alloc: Global, bytes: &[u8]) -> Result<Loaded, Memory>
             Err(FormsFault::Memory) => Err(Memory),
         },
         // `read_json` never answers `NotWhole`
-        Err(JsonFault::NotJson | JsonFault::NotWhole(_)) => Ok(Loaded::Refused(String::from_str(
-            alloc, "notjson",
-        )?)),
+        Err(JsonFault::NotJson | JsonFault::NotWhole(_)) => {
+            let words = String::from_str(alloc, "notjson")?;
+            Ok(Loaded::Refused(words))
+        }
         Err(JsonFault::Memory) => Err(Memory),
     }
 }
