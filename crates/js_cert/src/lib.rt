@@ -1,8 +1,8 @@
 //! Certificates: their lines, and the text that they are written as and read from.
 //!
 //! Contracts see a line as one of the definition, and a list of lines as a list. Bytes are the text of at most one list
-//! of lines, and reading finds it. Both ways are linear in the text, and nothing recurses. The trees, the report and the
-//! checker of certificates stand on this crate.
+//! of lines, and reading finds it. Both ways are linear in the text, and nothing recurses. The trees, the report and
+//! the checker of certificates stand on this crate.
 #![tactic(auto)]
 
 mod lines;

@@ -91,7 +91,8 @@ module _ (xs : List Signed) (places : List ℕ) (indexed : IsIndexed xs places) 
       let a : y ≡ x = e ∙ last k in (
         rw (a, length-set) room,
         ap (λ n. get_or (set places (order_of (signed_view x)) (length xs)) n 0)
-            (ap (λ v. order_of (signed_view v)) a) ∙ get_or-set_same places (order_of (signed_view x)) (length xs) 0 room
+            (ap (λ v. order_of (signed_view v)) a) ∙ get_or-set_same places (order_of (signed_view x))
+            (length xs) 0 room
             ∙ sym k,
       ))
       (cases_lt i (length xs))

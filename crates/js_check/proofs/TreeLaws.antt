@@ -37,13 +37,15 @@ module _ (T : List Position) (t : Kind) (goal : List G.Signed) (all : List Line)
     line-refused e ds = step ds ∙ ap (λ b. cond b (do_duties T (between ++ ds) ls) false) e
 
     -- after it no set is left
-    pub line-last : (d : Duty) (es : List Duty) (more : Bool) → ok ≡ true → between ≡ cond more (d ∷ es) [] → more ≡ false
+    pub line-last : (d : Duty) (es : List Duty) (more : Bool) → ok ≡ true → between ≡ cond more (d ∷ es) []
+        → more ≡ false
         → (ds : List Duty) → do_duties T (OfSet t goal ∷ ds) all ≡ do_duties T ds ls
     line-last d es more e goes none ds =
         settled e ds ∙ ap (λ fs. do_duties T (fs ++ ds) ls) (goes ∙ ap (λ b. cond b (d ∷ es) []) none)
 
     -- after it comes the next set
-    pub line-next : (d : Duty) (es : List Duty) (more : Bool) → ok ≡ true → between ≡ cond more (d ∷ es) [] → more ≡ true
+    pub line-next : (d : Duty) (es : List Duty) (more : Bool) → ok ≡ true → between ≡ cond more (d ∷ es) []
+        → more ≡ true
         → (ds : List Duty) → do_duties T (d ∷ (es ++ ds)) ls ≡ do_duties T (OfSet t goal ∷ ds) all
     line-next d es more e goes some ds =
         sym (settled e ds ∙ ap (λ fs. do_duties T (fs ++ ds) ls) (goes ∙ ap (λ b. cond b (d ∷ es) []) some))

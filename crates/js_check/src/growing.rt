@@ -1,7 +1,7 @@
 //! A set of signed positions that grows along a path, and goes back to what it was.
 //!
-//! The members stand in the order in which they came, and each signed position has the place at which it last came: it is
-//! a member exactly where it stands at that place. So asking and adding look at one place each, and to go back is to
+//! The members stand in the order in which they came, and each signed position has the place at which it last came: it
+//! is a member exactly where it stands at that place. So asking and adding look at one place each, and to go back is to
 //! forget the later members: nothing is copied or cleared.
 
 ghost use Rattle.std.specs.Prelude.{◌≡◌, ◌<◌, [], map, take, length, true, nat_lt, IfOk, OnOk};
@@ -95,7 +95,8 @@ impl GrowingSet {
     /// Adds each of the positions with one sign.
     pub fn add_each(&mut self, positions: &[Pos], plus: bool) -> Result<(), Memory>
         requires { every (λ x. nat_lt (order_of x) self.old.room) (map (with_sign plus) (places positions.now)) ≡ true }
-        ensures members { OnOk result (self.new.members ≡ with_members (map (with_sign plus) (places positions.now)) self.old.members) }
+        ensures members { OnOk result (self.new.members ≡ with_members
+            (map (with_sign plus) (places positions.now)) self.old.members) }
         ensures room { self.new.room ≡ self.old.room }
     {
         for p in positions {

@@ -60,7 +60,8 @@ impl Walk {
     /// Whether a line says how the set at hand is dead at a kind. The choices of a rule are put last.
     pub fn settle(&mut self, core: &Core, kind: JsonKind, line: &CertLine) -> Result<bool, Memory>
         requires { IsReady core.now.positions self.old }
-        ensures step { IfOk result (λ ok. Settles core.now.positions (kind_view kind) (line_view line.now) self.old self.new ok) }
+        ensures step { IfOk result (λ ok. Settles core.now.positions (kind_view kind)
+            (line_view line.now) self.old self.new ok) }
         ensures ready { OnOk result (IsReady core.now.positions self.new) }
     {
         match line {
@@ -75,7 +76,8 @@ impl Walk {
 
     fn take_rule(&mut self, core: &Core, kind: JsonKind, x: Signed) -> Result<bool, Memory>
         requires { IsReady core.now.positions self.old }
-        ensures step { IfOk result (λ ok. Settles core.now.positions (kind_view kind) (L.Rule (signed_view x)) self.old self.new ok) }
+        ensures step { IfOk result (λ ok. Settles core.now.positions (kind_view kind)
+            (L.Rule (signed_view x)) self.old self.new ok) }
         ensures ready { OnOk result (IsReady core.now.positions self.new) }
     {
         if !self.set.has(x) || is_literal(core, kind, x) {
@@ -121,8 +123,10 @@ impl Walk {
         requires in_table { is_in_table core.now.positions (signed_view rule) ≡ true }
         requires room { self.old.set.room ≡ 2 * length core.now.positions }
         requires index { index < length (choices_of core.now.positions (kind_view kind) (signed_view rule)) }
-        ensures members { OnOk result (self.new.set.members ≡ with_members (choice_at core.now.positions (kind_view kind) (signed_view rule) index) self.old.set.members) }
-        ensures in_table { are_in_table core.now.positions (choice_at core.now.positions (kind_view kind) (signed_view rule) index) ≡ true }
+        ensures members { OnOk result (self.new.set.members ≡ with_members
+            (choice_at core.now.positions (kind_view kind) (signed_view rule) index) self.old.set.members) }
+        ensures in_table { are_in_table core.now.positions
+            (choice_at core.now.positions (kind_view kind) (signed_view rule) index) ≡ true }
         ensures room { self.new.set.room ≡ self.old.set.room }
         ensures pending { self.new.pending ≡ self.old.pending }
     {

@@ -1,7 +1,7 @@
 //! Schemas of draft-06 as tables of entries: one entry for each place of a schema that its walk comes to.
 //!
-//! An entry names others by their numbers, so that references may lead in circles. `specs/View.antt` says which entry of
-//! the definitions a value of the program stands for. The validator, the guard against circles and the normal form
+//! An entry names others by their numbers, so that references may lead in circles. `specs/View.antt` says which entry
+//! of the definitions a value of the program stands for. The validator, the guard against circles and the normal form
 //! stand on this crate.
 #![tactic(auto)]
 

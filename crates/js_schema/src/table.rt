@@ -37,7 +37,8 @@ impl Schema {
 
     pub fn form(&self, entry: u32) -> &Form
         requires { entry < length (schema_view self.now) }
-        ensures { form_view result.now ≡ get_or (map (λ e. e.form) (schema_view self.now)) entry (form_view result.now) }
+        ensures { form_view result.now ≡ get_or (map (λ e. e.form) (schema_view self.now)) entry
+            (form_view result.now) }
     {
         &self.entries[entry as usize].form
     }

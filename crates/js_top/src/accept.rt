@@ -1,7 +1,8 @@
 //! Certificates judged by bytes alone.
 //!
-//! Of what `run` does the reading of the two files and the joining of their tables is shared, and what `js_algebra` says
-//! of a table: its rules and the forming of goals. The verdict, the trees and the writing of lines have no part in it.
+//! Of what `run` does the reading of the two files and the joining of their tables is shared, and what `js_algebra`
+//! says of a table: its rules and the forming of goals. The verdict, the trees and the writing of lines have no part in
+//! it.
 
 ghost use Rattle.std.specs.Prelude.{IfOk};
 ghost use Rattle.std.specs.Bool.{OnTrue, OnFalse};
