@@ -36,7 +36,8 @@ pub json_entries-of : (ms : List (List ℕ × J.Json)) (l : J.Members) → J.mem
 json_entries-of ms l e = ap J.entries (sym e) ∙ json_entries-members_of ms
 
 -- the element at a place of a mapped list
-pub get_or-mapped : {A B : Type 0} (f : A → B) (xs : List A) (ys : List B) (i : ℕ) (x : A) → ys ≡ map f xs → x ≡ get_or xs i x → f x ≡ get_or ys i (f x)
+pub get_or-mapped : {A B : Type 0} (f : A → B) (xs : List A) (ys : List B) (i : ℕ) (x : A) → ys ≡ map f xs
+    → x ≡ get_or xs i x → f x ≡ get_or ys i (f x)
 get_or-mapped f xs ys i x e h = ap f h ∙ sym (get_or-map f xs i x) ∙ ap (λ l. get_or l i (f x)) (sym e)
 
 pub length-mapped : {A B : Type 0} (f : A → B) (xs : List A) (ys : List B) → ys ≡ map f xs → length ys ≡ length xs
@@ -46,4 +47,5 @@ length-mapped f xs ys e = ap length e ∙ length-map xs f
 pub get_or-same : {A B : Type 0} (f : A → B) (xs ys : List A) (i : ℕ) (x y : A) → i < length xs → length xs ≡ length ys
     → x ≡ get_or xs i x → y ≡ get_or ys i y → map f xs ≡ map f ys → f x ≡ f y
 get_or-same f xs ys i x y l n e h same =
-    ap f e ∙ sym (get_or-map f xs i x) ∙ ap (λ zs. get_or zs i (f x)) same ∙ ListsAt.get_or-map f ys i y (f x) (omega (arith, n)) ∙ ap f (sym h)
+    ap f e ∙ sym (get_or-map f xs i x) ∙ ap (λ zs. get_or zs i (f x)) same
+    ∙ ListsAt.get_or-map f ys i y (f x) (omega (arith, n)) ∙ ap f (sym h)

@@ -1,7 +1,8 @@
 //! Documents and JSON values as the program holds them, with their texts and lists.
 //!
 //! A contract sees a [`Doc`] as the document that it stands for, by `view` of `specs/View.antt`, and a list or a
-//! text as a list. Every call costs at most time in proportion to the value that it reads. All crates stand on this one.
+//! text as a list. Every call costs at most time in proportion to the value that it reads. All crates stand on this
+//! one.
 #![tactic(auto)]
 
 mod depths;

@@ -9,4 +9,5 @@ IsFilter b f = (x : ℕ) → x < 2 ^ 64 → x % b ≡ 0 → x * f.inverse % 2 ^ 
 -- the k-th filter is one of the k-th divisor
 abbrev pub AreFilters : List ℕ → List Filter → Type 0
 AreFilters divisors filters =
-    (k : ℕ) (f : Filter) → k < length divisors → k < length filters → IsFilter (get_or divisors k 0) (get_or filters k f)
+    (k : ℕ) (f : Filter) → k < length divisors → k < length filters
+    → IsFilter (get_or divisors k 0) (get_or filters k f)

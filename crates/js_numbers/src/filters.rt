@@ -1,8 +1,8 @@
 //! Divisors made ready to be tried on many numbers.
 //!
-//! A division is slow. Where an odd number divides one of 64 bits, the quotient is the product with its inverse, cut to 64
-//! bits; elsewhere that product is mostly too large for a quotient. So a product turns most numbers away, and only for the
-//! others a division decides. The inverse is found by Newton's steps, and tried before it is used.
+//! A division is slow. Where an odd number divides one of 64 bits, the quotient is the product with its inverse, cut to
+//! 64 bits; elsewhere that product is mostly too large for a quotient. So a product turns most numbers away, and only
+//! for the others a division decides. The inverse is found by Newton's steps, and tried before it is used.
 
 ghost use Rattle.std.specs.Prelude.{◌≡◌, ℕ, ◌%◌, ◌<◌, ◌≤◌, ◌^◌, ◌==◌, true, false, nat_lt, length, get_or};
 ghost use Rattle.std.specs.List.{list_all, list_any};

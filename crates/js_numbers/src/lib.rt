@@ -5,8 +5,8 @@
 //! it says `Empty` only where no whole number of any size does. No call takes memory, and no step overflows.
 //!
 //! Without sets that are asked for, the cost is a pass over the sets that are ruled out, a greatest common divisor for
-//! each divisor that is ruled out, and a sieve of 65,536 candidates. With such sets it is binary searches, in proportion
-//! to the values, and for each value that passes everything else a look at each divisor that is ruled out.
+//! each divisor that is ruled out, and a sieve of 65,536 candidates. With such sets it is binary searches, in
+//! proportion to the values, and for each value that passes everything else a look at each divisor that is ruled out.
 #![tactic(auto)]
 
 mod candidates;

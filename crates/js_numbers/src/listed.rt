@@ -104,8 +104,8 @@ fn is_listed(values: &NumList, sets: &[NumList], listed: &[bool], x: i128) -> bo
     }
 }
 
-/// Whether each of the divisors divides `x`, by their least common multiple. Where that is over 2^127-1, no smaller size
-/// but 0 is a multiple of it, and only -2^127 is tried by each divisor.
+/// Whether each of the divisors divides `x`, by their least common multiple. Where that is over 2^127-1, no smaller
+/// size but 0 is a multiple of it, and only -2^127 is tried by each divisor.
 fn is_common(multiples: &[u64], common: Option<u128>, x: i128) -> bool
     requires multiple { SomeIff common (lcm_of multiples.now < 2 ^ 127) (lcm_of multiples.now) }
     requires positive { list_all (λ m. nat_lt 0 m) multiples.now ≡ true }

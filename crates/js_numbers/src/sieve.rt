@@ -1,8 +1,8 @@
 //! Which candidates the divisors that are ruled out divide, marked as by a sieve.
 //!
 //! Among the multiples of a number, a divisor divides every n-th one, where n is the divisor without what it has in
-//! common with that number. This step is all that matters of a divisor, so each step is gone through once: the marks cost
-//! as many looks as there are candidates, times the logarithm of their number, whatever the divisors are.
+//! common with that number. This step is all that matters of a divisor, so each step is gone through once: the marks
+//! cost as many looks as there are candidates, times the logarithm of their number, whatever the divisors are.
 
 ghost use Rattle.std.specs.Prelude.{◌≡◌, ℕ, ℤ, ◌*◌, ◌<◌, ◌≤◌, ◌^◌, ◌==◌, true, false, ◌&&◌, ◌||◌, get_or, length, nat_lt, neg_ℤ, unsigned_abs};
 ghost use Rattle.std.specs.List.{list_any};
@@ -104,7 +104,8 @@ fn strike(group: &NumGroup, m: u128, step: u128, noted: &mut [bool], marks: &mut
     requires forward { (0 < step) × (step < 2 ^ 64) }
     requires size { length marks.old ≡ MOST_STRUCK }
     requires steps { AreStepsMarked MOST_STRUCK m (group_of group.now) noted.old marks.old }
-    ensures marks { AddsMarks MOST_STRUCK (candidate m (group_of group.now)) (is_multiple (step * m)) marks.old marks.new }
+    ensures marks { AddsMarks MOST_STRUCK (candidate m (group_of group.now))
+        (is_multiple (step * m)) marks.old marks.new }
     ensures steps { AreStepsMarked MOST_STRUCK m (group_of group.now) noted.new marks.new }
 {
     if !note(noted, step) {

@@ -12,4 +12,5 @@ offset_bounds-as_slice-i c =
     let within : c.args.i < length c.as_slice.result.now = omega (arith, same, c.requires) in search rules
 
 pub returns : goal.returns
-returns c = get_or-mapped view _ _ c.args.i c.index-as_slice-i.result (elements-of _ _ c.as_slice.ensures.view) c.index-as_slice-i.is
+returns c = get_or-mapped view _ _ c.args.i c.index-as_slice-i.result
+    (elements-of _ _ c.as_slice.ensures.view) c.index-as_slice-i.is
