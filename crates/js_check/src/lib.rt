@@ -1,7 +1,7 @@
 //! Certificates judged: a checker that knows nothing of the search and of its trees.
 //!
-//! Lines are a good certificate or not, and judging says which. A line costs what it adds to the set at hand, so
-//! judging is linear in the lines with the members that their rules name. Nothing recurses.
+//! Lines are a good certificate or not, and judging says which. A rule with one choice costs the members of that
+//! choice, and every other line of a tree the same whatever the set's size. Nothing recurses.
 #![tactic(auto)]
 
 mod growing;

@@ -21,7 +21,7 @@ use std::alloc::Global;
 ///
 /// All three are the bytes of files. The answer is `true` exactly where both schemas are read, and not refused, and the
 /// certificate is in the grammar and its lines are good for the two. The cost is that of reading the files and the
-/// certificate, and for each line that of what it adds to the set at hand.
+/// certificate, and for each rule that of the members of its choice.
 pub fn accepted(alloc: Global, a: &[u8], b: &[u8], certificate: &[u8]) -> Result<bool, Memory>
     ensures accepted { IfOk result (λ r. OnTrue r (IsAccepted a.now b.now certificate.now)) }
     ensures rejected { IfOk result (λ r. OnFalse r (IsAccepted a.now b.now certificate.now → ⊥)) }
