@@ -10,4 +10,3 @@ pub mod AnswerLaws
 pub mod MarkLaws
 pub mod SieveLaws
 pub mod ListedLaws
-pub mod FilterLaws

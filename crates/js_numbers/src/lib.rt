@@ -12,7 +12,6 @@
 mod candidates;
 mod decision;
 mod factors;
-mod filters;
 mod group;
 mod listed;
 mod marks;

@@ -2,23 +2,22 @@
 //!
 //! Which values the sets that are ruled out have is marked first, at the ranks of the values. Of the set that is asked
 //! for and another one, the values of the shorter are looked up in the longer, so many sets cost no more than one of as
-//! many values. The marks take 64 KiB of the stack, and as much again the divisors that are made ready.
+//! many values. The marks take 64 KiB of the stack.
 
 ghost use Rattle.std.specs.Prelude.{◌≡◌, ◌<◌, ◌^◌, ◌&&◌, true, nat_lt, IfSome, SomeIff, length};
 ghost use Rattle.std.specs.List.{find, list_all};
 ghost use Rattle.std.specs.Ordering.{int_eq};
 ghost use Rattle.js_numbers.specs.Multiples.{is_multiple, lcm_of};
-ghost use Rattle.js_numbers.specs.Group.{group_of, has, is_asked, is_listed, is_met, is_ready, is_struck};
+ghost use Rattle.js_doc.specs.Numbers.{has};
+ghost use Rattle.js_numbers.specs.Group.{group_of, is_asked, is_listed, is_met, is_ready, is_struck};
 ghost use Rattle.js_numbers.specs.Outcome.{found};
-ghost use Rattle.js_numbers.specs.Filters.{AreFilters};
 ghost use Rattle.js_numbers.specs.Marking.{mark_of, AddsListed, AreListed};
 
 use crate::candidates::MOST_STRUCK;
 use crate::factors::lcm_of;
-use crate::filters::{Filter, MOST_READY, OPEN, divides_some, make_filters};
 use crate::group::{Cases, NumGroup};
 use crate::marks::mark;
-use crate::number::{all_have, any_has, divides_all};
+use crate::number::{all_have, any_has, divides_all, divides_any};
 use js_doc::NumList;
 
 /// The number of the mark for `x`: its rank among the values, where there is a mark for that.
@@ -120,19 +119,12 @@ fn is_common(multiples: &[u64], common: Option<u128>, x: i128) -> bool
 }
 
 /// Whether a divisor or a set that is ruled out strikes `x`.
-fn is_struck(
-    group: &NumGroup,
-    values: &NumList,
-    listed: &[bool],
-    filters: &[Filter],
-    x: i128,
-) -> bool
+fn is_struck(group: &NumGroup, values: &NumList, listed: &[bool], x: i128) -> bool
     requires size { length listed.now ≡ MOST_STRUCK }
-    requires filters { AreFilters group.now.not_multiples.now filters.now }
     requires marks { AreListed MOST_STRUCK values.now (is_listed group.now.not_sets.now) listed.now }
     ensures { result ≡ is_struck (group_of group.now) x }
 {
-    is_listed(values, group.not_sets, listed, x) || divides_some(group.not_multiples, filters, x)
+    is_listed(values, group.not_sets, listed, x) || divides_any(group.not_multiples, x)
 }
 
 /// Whether `x` has all that is asked for: within the bounds, a multiple of each divisor, in each set.
@@ -150,30 +142,27 @@ fn is_met(
     values: &NumList,
     common: Option<u128>,
     listed: &[bool],
-    filters: &[Filter],
     x: i128,
 ) -> bool
     requires ready { is_ready (group_of group.now) ≡ true }
     requires multiple { SomeIff common (lcm_of group.now.multiples.now < 2 ^ 127) (lcm_of group.now.multiples.now) }
     requires size { length listed.now ≡ MOST_STRUCK }
     requires marks { AreListed MOST_STRUCK values.now (is_listed group.now.not_sets.now) listed.now }
-    requires filters { AreFilters group.now.not_multiples.now filters.now }
     ensures { result ≡ is_met (group_of group.now) x }
 {
-    is_asked(group, common, x) && !is_struck(group, values, listed, filters, x)
+    is_asked(group, common, x) && !is_struck(group, values, listed, x)
 }
 
 /// The first of the values that meets the group, where the values are marked that a set has that is ruled out.
-fn first_met(group: &NumGroup, values: &NumList, listed: &[bool], filters: &[Filter]) -> Cases
+fn first_met(group: &NumGroup, values: &NumList, listed: &[bool]) -> Cases
     requires ready { is_ready (group_of group.now) ≡ true }
     requires size { length listed.now ≡ MOST_STRUCK }
     requires marks { AreListed MOST_STRUCK values.now (is_listed group.now.not_sets.now) listed.now }
-    requires filters { AreFilters group.now.not_multiples.now filters.now }
     ensures { result ≡ found (find (is_met (group_of group.now)) values.now) }
 {
     let common = lcm_of(group.multiples);
     for x in values.as_slice() {
-        if is_met(group, values, common, listed, filters, *x) {
+        if is_met(group, values, common, listed, *x) {
             return Cases::Found(*x);
         }
     }
@@ -187,7 +176,5 @@ pub(crate) fn search_values(group: &NumGroup, values: &NumList) -> Cases
 {
     let mut listed = [false; MOST_STRUCK];
     mark_sets(values, group.not_sets, &mut listed);
-    let mut filters = [OPEN; MOST_READY];
-    make_filters(group.not_multiples, &mut filters);
-    first_met(group, values, &listed, &filters)
+    first_met(group, values, &listed)
 }
