@@ -11,7 +11,8 @@ use Prim.Native.Nat.{◌∣◌}
 use Rattle.js_numbers.specs.declared.group.Cases.{Cases}
 use Rattle.js_numbers.specs.declared.group.Cases.TheVariants.{Found, Empty, LimitMultiples, LimitCandidates}
 use Rattle.js_numbers.specs.Multiples.{is_multiple, is_common, lcm_of, IsLcmOf}
-use Rattle.js_numbers.specs.Group.{Group, has, is_above, is_below, is_crossed, is_met, is_ready, is_struck}
+use Rattle.js_doc.specs.Numbers.{has}
+use Rattle.js_numbers.specs.Group.{Group, is_above, is_below, is_crossed, is_met, is_ready, is_struck}
 use Rattle.js_numbers.specs.Outcome.{multiple_from, place, candidate, is_over, in_reach, reached, is_last, answer_at, answer_among, answer_of_multiples, answer_in, found, outcome}
 use Rattle.js_numbers.specs.Correct.{IsTooLarge, IsTried, IsStruckAt, Says, StrikesAll, IsRight}
 use Rattle.js_numbers.proofs.Least.{least_below-cases}
@@ -227,7 +228,13 @@ says_at limit m g k l none within before last = elim (reach m g k) [
         let other : (k == limit) ≡ false = ne_eqb k limit (λ e. omega arith) in
         let says : Says limit m g (Found x) = record {
           meets = meets m g k l none w.0 spared;
-          first = λ e. record { count = k; within = within; is = refl; before = λ j h. struck_at m g j (before j h) };
+          first = λ e. record {
+            count = k;
+            within = within;
+            is = refl;
+            tried = w.0;
+            before = λ j h. struck_at m g j (before j h);
+          };
           listed = λ s ss f. let wrong : [] ≡ s ∷ ss = sym none ∙ f in cc;
         } in
         subst (λ a. Says limit m g a)

@@ -3,7 +3,7 @@ use Rattle.std.specs.Int.{w128}
 use Rattle.std.specs.List.{list_any}
 use Rattle.std.specs.Ordering.{int_eq}
 use Rattle.js_numbers.specs.declared.candidates.TheConstants.{MOST_STRUCK}
-use Rattle.js_numbers.specs.Group.{has}
+use Rattle.js_doc.specs.Numbers.{has}
 use Rattle.js_numbers.specs.Marking.{AddsListed}
 use Rattle.js_numbers.proofs.ListedLaws.{AddsListed-more, AddsListed-shared}
 use Rattle.js_numbers.proofs.listed.mark_all_shared.Goals as goal

@@ -2,7 +2,7 @@ use Rattle.std.proofs.Common.{pos, get_or, length, ◌<◌, ◌≤◌, ◌||◌,
 use Rattle.std.specs.Int.{w128}
 use Rattle.std.specs.Ordering.{int_eq}
 use Rattle.js_numbers.specs.declared.candidates.TheConstants.{MOST_STRUCK}
-use Rattle.js_numbers.specs.Group.{has}
+use Rattle.js_doc.specs.Numbers.{has}
 use Rattle.js_numbers.proofs.ListedLaws.{AddsListed-more}
 use Rattle.js_numbers.proofs.listed.mark_members.Goals as goal
 

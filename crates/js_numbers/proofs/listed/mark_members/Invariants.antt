@@ -1,6 +1,6 @@
 use Rattle.std.proofs.Common.{take}
 use Rattle.js_numbers.specs.declared.candidates.TheConstants.{MOST_STRUCK}
-use Rattle.js_numbers.specs.Group.{has}
+use Rattle.js_doc.specs.Numbers.{has}
 use Rattle.js_numbers.specs.Marking.{AddsListed}
 use Rattle.js_numbers.proofs.listed.mark_members.Given as goal
 

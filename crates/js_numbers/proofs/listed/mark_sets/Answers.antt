@@ -1,6 +1,7 @@
 use Rattle.std.proofs.Common.{◌||◌, ap, false, get_or, ◌∙◌, take_all}
 use Rattle.js_numbers.specs.declared.candidates.TheConstants.{MOST_STRUCK}
-use Rattle.js_numbers.specs.Group.{has, is_listed}
+use Rattle.js_doc.specs.Numbers.{has}
+use Rattle.js_numbers.specs.Group.{is_listed}
 use Rattle.js_numbers.proofs.ListedLaws.{AddsListed-none, AddsListed-more}
 use Rattle.js_numbers.proofs.listed.mark_sets.Goals as goal
 
