@@ -8,5 +8,5 @@ use Rattle.js_numbers.proofs.listed.mark_all_shared.Given as goal
 
 abbrev pub invariant-loop-x : goal.invariant-loop-x
 invariant-loop-x l =
-    AddsListed MOST_STRUCK l.values (λ y. list_any (λ x. int_eq x y && has l.set x) (take l.x-index l.values))
+    AddsListed MOST_STRUCK l.start l.values (λ y. list_any (λ x. int_eq x y && has l.set x) (take l.x-index l.values))
     l.fn.listed l.listed
