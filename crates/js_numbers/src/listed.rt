@@ -1,9 +1,12 @@
 //! The first value of a set that is asked for, in its written order, that meets the group.
 //!
-//! The values are gone through by blocks of 65,536 ranks, mostly one block. Which values of a block the sets that are
-//! ruled out have is marked first, at the ranks of the values. Of the set that is asked for and another one, the values
-//! of the shorter are looked up in the longer, so for a block many sets cost no more than one of as many values. The
-//! marks take 64 KiB of the stack.
+//! Where few sets are ruled out, each value is looked up in each of them. Else the values are gone through by blocks of
+//! 65,536 ranks, mostly one block. Which values of a block the sets have is marked first, at the ranks of the values:
+//! of the set that is asked for and another one, the values of the shorter are looked up in the longer, so many sets
+//! cost a block no more than one of as many values. The marks take 64 KiB of the stack.
+//!
+//! So no value is looked up in many sets; what there is instead is values times blocks. Rejected: a look at each set
+//! for each value past the first block, which takes half an hour for a million values and 400,000 sets of one.
 
 ghost use Rattle.std.specs.Prelude.{◌≡◌, ℕ, ◌<◌, ◌≤◌, ◌^◌, ◌&&◌, true, nat_lt, Some, IfSome, SomeIff, length};
 ghost use Rattle.std.specs.List.{find, list_all};
@@ -18,7 +21,7 @@ use crate::candidates::MOST_STRUCK;
 use crate::factors::lcm_of;
 use crate::group::{Cases, NumGroup};
 use crate::marks::mark;
-use crate::number::{all_have, divides_all, divides_any};
+use crate::number::{all_have, any_has, divides_all, divides_any};
 use js_doc::NumList;
 
 /// The number of the mark for `x`: how far its rank among the values is from the start of the block.
@@ -124,8 +127,31 @@ fn is_struck(group: &NumGroup, listed: bool, x: i128) -> bool
     listed || divides_any(group.not_multiples, x)
 }
 
+/// Whether `x` meets the group.
+fn is_met(group: &NumGroup, common: Option<u128>, x: i128) -> bool
+    requires ready { is_ready (group_of group.now) ≡ true }
+    requires multiple { SomeIff common (lcm_of group.now.multiples.now < 2 ^ 127) (lcm_of group.now.multiples.now) }
+    ensures { result ≡ is_met (group_of group.now) x }
+{
+    is_asked(group, common, x) && !is_struck(group, any_has(group.not_sets, x), x)
+}
+
+/// The first of the values that meets the group, where each is looked up in each set that is ruled out.
+fn search_each(group: &NumGroup, values: &NumList, common: Option<u128>) -> Cases
+    requires ready { is_ready (group_of group.now) ≡ true }
+    requires multiple { SomeIff common (lcm_of group.now.multiples.now < 2 ^ 127) (lcm_of group.now.multiples.now) }
+    ensures { result ≡ found (find (is_met (group_of group.now)) values.now) }
+{
+    for x in values.as_slice() {
+        if is_met(group, common, *x) {
+            return Cases::Found(*x);
+        }
+    }
+    Cases::Empty
+}
+
 /// Whether `x` is in the block and meets the group.
-fn is_met(
+fn is_met_in_block(
     group: &NumGroup,
     values: &NumList,
     start: usize,
@@ -165,7 +191,7 @@ fn first_met(
 {
     let items = values.as_slice();
     for place in 0..end {
-        if is_met(group, values, start, common, listed, items[place]) {
+        if is_met_in_block(group, values, start, common, listed, items[place]) {
             return place;
         }
     }
@@ -190,13 +216,13 @@ fn search_block(
     first_met(group, values, start, common, &listed, end)
 }
 
-/// The first of the values that meets the group.
-pub(crate) fn search_values(group: &NumGroup, values: &NumList) -> Cases
-    requires { is_ready (group_of group.now) ≡ true }
+/// The first of the values that meets the group, where the sets that are ruled out are marked by blocks.
+fn search_blocks(group: &NumGroup, values: &NumList, common: Option<u128>) -> Cases
+    requires ready { is_ready (group_of group.now) ≡ true }
+    requires multiple { SomeIff common (lcm_of group.now.multiples.now < 2 ^ 127) (lcm_of group.now.multiples.now) }
     ensures { result ≡ found (find (is_met (group_of group.now)) values.now) }
 {
     let items = values.as_slice();
-    let common = lcm_of(group.multiples);
     let mut end = items.len();
     for block in 0..items.len().div_ceil(MOST_STRUCK) {
         end = search_block(group, values, block * MOST_STRUCK, common, end);
@@ -205,5 +231,18 @@ pub(crate) fn search_values(group: &NumGroup, values: &NumList) -> Cases
         Cases::Found(items[end])
     } else {
         Cases::Empty
+    }
+}
+
+/// The first of the values that meets the group.
+pub(crate) fn search_values(group: &NumGroup, values: &NumList) -> Cases
+    requires { is_ready (group_of group.now) ≡ true }
+    ensures { result ≡ found (find (is_met (group_of group.now)) values.now) }
+{
+    let common = lcm_of(group.multiples);
+    if group.not_sets.len() <= values.as_slice().len() / MOST_STRUCK {
+        search_each(group, values, common)
+    } else {
+        search_blocks(group, values, common)
     }
 }

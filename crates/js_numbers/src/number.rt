@@ -55,3 +55,10 @@ pub fn all_have(sets: &[NumList], x: i128) -> bool
 {
     sets.iter().all(|s| s.has(x))
 }
+
+/// Whether one of the sets has `x`.
+pub fn any_has(sets: &[NumList], x: i128) -> bool
+    ensures { result ≡ list_any (λ s. has s x) sets.now }
+{
+    sets.iter().any(|s| s.has(x))
+}

@@ -6,15 +6,17 @@ use Rattle.js_numbers.specs.Group.{group_of, is_met}
 use Rattle.js_numbers.specs.Marking.{mark_of}
 use Rattle.js_numbers.proofs.listed.first_met.Goals as goal
 
-pub returns-then-is_met : goal.returns-then-is_met
-returns-then-is_met c =
+pub returns-then-is_met_in_block : goal.returns-then-is_met_in_block
+returns-then-is_met_in_block c =
     let place = c.loop-place.place in
     let fits : FitsSigned w128 (get_or c.as_slice-items.result.now place (pos 0)) = search rules in
     let item = to_z-of_z fits ∙ ap (λ xs. get_or xs place (pos 0)) c.as_slice-items.ensures in
     record {
       within = omega arith;
       before = c.loop-place.invariant;
-      here = λ l. ap (is_met (group_of c.args.group.now)) (sym item) ∙ c.is_met.ensures.met c.if-is_met.true;
+      here = λ l.
+          ap (is_met (group_of c.args.group.now)) (sym item)
+          ∙ c.is_met_in_block.ensures.met c.if-is_met_in_block.true;
     }
 
 pub loop-place-preserved : goal.loop-place-preserved
@@ -29,8 +31,8 @@ loop-place-preserved c = λ j k l e. elim (cases_lt j c.loop-place.place) [
       ap (λ i. get_or c.args.values.now i (pos 0)) same
       ∙ sym (to_z-of_z fits ∙ ap (λ xs. get_or xs place (pos 0)) c.as_slice-items.ensures) in
       ap (is_met (group_of c.args.group.now)) item
-      ∙ sym (c.is_met.ensures.all k (ap (mark_of MOST_STRUCK c.args.start c.args.values.now) (sym item) ∙ e))
-      ∙ c.if-is_met.false
+      ∙ sym (c.is_met_in_block.ensures.all k (ap (mark_of MOST_STRUCK c.args.start c.args.values.now) (sym item) ∙ e))
+      ∙ c.if-is_met_in_block.false
 ]
 
 pub returns : goal.returns

@@ -7,8 +7,8 @@ use Rattle.js_numbers.specs.Group.{group_of, is_met}
 use Rattle.js_numbers.specs.Outcome.{found}
 use Rattle.js_numbers.specs.Marking.{IsFirstBelow}
 use Rattle.js_numbers.proofs.BlockLaws.{IsFirstBelow-more, find-IsFirstBelow, find-IsFirstBelow_none}
-use Rattle.js_numbers.proofs.listed.search_values.Goals as goal
-use Rattle.js_numbers.proofs.listed.search_values.Goals.{After-loop-block}
+use Rattle.js_numbers.proofs.listed.search_blocks.Goals as goal
+use Rattle.js_numbers.proofs.listed.search_blocks.Goals.{After-loop-block}
 
 pub loop-block-preserved : goal.loop-block-preserved
 loop-block-preserved c =

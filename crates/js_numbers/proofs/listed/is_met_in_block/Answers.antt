@@ -1,7 +1,7 @@
 use Rattle.std.proofs.Common.{◌≡◌, ◌∙◌, None, Some, ap, sym, to_z-of_z}
 use Rattle.js_numbers.specs.declared.candidates.TheConstants.{MOST_STRUCK}
 use Rattle.js_numbers.specs.Marking.{mark_of}
-use Rattle.js_numbers.proofs.listed.is_met.Goals as goal
+use Rattle.js_numbers.proofs.listed.is_met_in_block.Goals as goal
 
 pub returns-in-None-clause-all : goal.returns-in-None-clause-all
 returns-in-None-clause-all c = λ k e.
