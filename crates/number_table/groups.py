@@ -90,8 +90,8 @@ def written(group):
     def value(v):
         return f"{v[0]}..{v[1]}" if isinstance(v, tuple) else str(v)
 
-    def listed(values, mark=","):
-        return mark.join(values) or "-"
+    def listed(values, mark=",", none="-"):
+        return mark.join(values) or none
 
     return " ".join(
         [
@@ -99,8 +99,8 @@ def written(group):
             "-" if high is None else str(high),
             listed([str(m) for m in multiples]),
             listed([str(m) for m in not_multiples]),
-            listed([listed([value(v) for v in s]) for s in sets], ";"),
-            listed([listed([value(v) for v in s]) for s in not_sets], ";"),
+            listed([listed([value(v) for v in s], none="empty") for s in sets], ";"),
+            listed([listed([value(v) for v in s], none="empty") for s in not_sets], ";"),
         ]
     )
 
@@ -188,6 +188,58 @@ def asked_sets():
     yield group(sets=[[7, 7, 3, 3, -1, 7]], not_sets=[[7], [3, 3]])
 
 
+def blocks_of_values():
+    """More values than are marked at once, in and out of order, and more negated sets than blocks."""
+    for asked in [[(0, 140_000)], [(40_000, 140_000), (0, 39_999)], [140_000, 0, 65_536, (1, 140_000), 65_535]]:
+        yield group(sets=[asked], not_sets=[[7], [8], [9]])
+        yield group(sets=[asked], not_sets=[[(0, 65_534)], [(65_536, 70_000)], [140_000], [40_000]])
+        yield group(sets=[asked], not_sets=[[(0, 65_535)], [65_536], [(65_537, 139_999)]])
+        yield group(sets=[asked], not_sets=[[(40_000, 140_000)], [0], [1]])
+        yield group(sets=[asked], not_sets=[[(2, 140_000)], [0], []])
+        yield group(sets=[asked], not_sets=[[(70_000, 140_000)], [(0, 50_000)], [(50_001, 69_999)]])
+        yield group(65_530, 65_540, [2], [3], [asked, [(65_531, 65_545)]], [[65_530], [65_534], [65_536]])
+        yield group(131_072, None, [], [2], [asked], [[131_073], [131_075], [1]])
+    yield group(sets=[[(5, 70_000), *[5] * 100, (0, 4)]], not_sets=[[(6, 70_000)], [5], [0, 1]])
+
+
+def empty_sets():
+    yield group(sets=[[]])
+    yield group(sets=[[1], []])
+    yield group(sets=[[], [1]], not_sets=[[]])
+    yield group(sets=[[3, 1]], not_sets=[[]])
+    yield group(sets=[[3, 1]], not_sets=[[], [3], []])
+    yield group(1, 3, not_sets=[[]])
+    yield group(1, 3, not_sets=[[], [1, 2, 3]])
+    yield group(None, None, [TOP - 1, TOP - 2], sets=[[]])
+
+
+def farthest_values():
+    """The value whose size is 2^127, which alone isn't below a least common multiple that is over the limit."""
+    over = [TOP - 1, TOP - 2]
+    for values in [[-(2**127)], [-(2**127), 0], [LARGEST, -(2**127)], [-(2**127), -LARGEST, TOP]]:
+        yield group(sets=[values])
+        yield group(None, None, over, sets=[values])
+        yield group(None, None, [2**63, 2**63 - 1, 2**62 - 1], sets=[values])
+        yield group(None, None, [2**63], [3], [values])
+        yield group(None, -1, [2], [2**64 - 1], [values], [[0], [LARGEST]])
+        yield group(None, None, [], [2**63], [values])
+    yield group(None, None, over, sets=[[-(2**127)], [-(2**127), 0]])
+
+
+def largest_candidates():
+    """As many candidates as may be struck, and then one that is at or over the limit of size."""
+    primes = [p for p in range(2, MOST_STRUCK + 1) if all(p % q != 0 for q in range(2, math.isqrt(p) + 1))]
+    first = 2**56 - 5
+    while any(first % p == 0 for p in primes):
+        first += 2
+    for most in [LARGEST // MOST_STRUCK, LARGEST // (MOST_STRUCK + 1)]:
+        second = most // first
+        while any(second % p == 0 for p in primes):
+            second -= 1
+        # the multiples of m from 2 m to 65,536 m have a prime as a divisor that m hasn't
+        yield group(1, None, [first, second], primes, not_sets=[[first * second]])
+
+
 def many_divisors():
     primes = [p for p in range(2, 800) if all(p % q != 0 for q in range(2, p))]
     for low, high in [(1, None), (None, -1), (2, 800), (2, 640_000), (None, None), (-TOP, None), (None, TOP)]:
@@ -228,10 +280,13 @@ def main():
         *wide_multiples(),
         *full_sets(),
         *asked_sets(),
+        *blocks_of_values(),
+        *empty_sets(),
+        *farthest_values(),
         *many_divisors(),
+        *largest_candidates(),
         *small_groups(150),
     ]
-    groups = [g for g in groups if all(s for s in g[4] + g[5])]
     with open("stdin", "w") as lines, open("stdout", "w") as answers:
         for g in groups:
             print(written(g), file=lines)

@@ -1,5 +1,5 @@
 -- What an answer says of the group.
-use Rattle.std.proofs.Common.{◌≡◌, ℕ, ◌*◌, ◌%◌, ◌^◌, ◌<◌, ◌≤◌, ◌==◌, ◌⊎◌, inl, inr, List, [], ◌∷◌, Bool, true, false, not, cond, ◌||◌, nat_lt, nat_le, Option, Some, None, Ok, Err, ℤ, pos, ◌≤ℤ◌, ◌<ℤ◌, unsigned_abs, int_lt, refl, ap, sym, ◌∙◌, subst, arith, if◌then◌else◌}
+use Rattle.std.proofs.Common.{◌≡◌, ℕ, ◌*◌, ◌%◌, ◌^◌, ◌<◌, ◌≤◌, ◌==◌, ◌⊎◌, inl, inr, List, [], ◌∷◌, Bool, true, false, not, ◌||◌, nat_lt, nat_le, Option, Some, None, Ok, Err, ℤ, pos, ◌≤ℤ◌, ◌<ℤ◌, unsigned_abs, int_lt, refl, ap, sym, ◌∙◌, subst, arith, if◌then◌else◌}
 use Rattle.std.specs.List.{find, list_all, list_any}
 use Rattle.std.specs.Ordering.{int_eq}
 use Rattle.std.proofs.lemmas.Int.{ints}
@@ -11,11 +11,13 @@ use Prim.Native.Nat.{◌∣◌}
 use Rattle.js_numbers.specs.declared.group.Cases.{Cases}
 use Rattle.js_numbers.specs.declared.group.Cases.TheVariants.{Found, Empty, LimitMultiples, LimitCandidates}
 use Rattle.js_numbers.specs.Multiples.{is_multiple, is_common, lcm_of, IsLcmOf}
-use Rattle.js_numbers.specs.Group.{Group, has, is_above, is_below, is_crossed, is_met, is_ready, is_struck}
+use Rattle.js_doc.specs.Numbers.{has}
+use Rattle.js_numbers.specs.Group.{Group, is_above, is_below, is_crossed, is_met, is_ready, is_struck}
 use Rattle.js_numbers.specs.Outcome.{multiple_from, place, candidate, is_over, in_reach, reached, is_last, answer_at, answer_among, answer_of_multiples, answer_in, found, outcome}
 use Rattle.js_numbers.specs.Correct.{IsTooLarge, IsTried, IsStruckAt, Says, StrikesAll, IsRight}
 use Rattle.js_numbers.proofs.Least.{least_below-cases}
 use Rattle.js_numbers.proofs.CommonMultiples.{IsLcmOf-lcm_of, common_along}
+use Rattle.js_numbers.proofs.Finding.{find-front}
 use Rattle.js_numbers.proofs.Sizes.{le_from, le_true}
 use Rattle.js_numbers.proofs.Searching.{StruckBefore}
 use Rattle.js_numbers.proofs.Deciding.{step}
@@ -67,29 +69,24 @@ none_between_crossed None high x c a b = absurd (true≢false (sym c))
 
 -- ---- the values of a set
 
--- what `find` answers at the front, by whether it passes
-front : (p : ℤ → Bool) (y : ℤ) (ys : List ℤ) (b : Bool) → p y ≡ b
-    → find p (y ∷ ys) ≡ cond b (Some y) (find p ys)
-front p y ys b e = ap (λ t. cond t (Some y) (find p ys)) e
-
 find_Some : (p : ℤ → Bool) (s : List ℤ) (x : ℤ) → find p s ≡ Some x → p x ≡ true
 find_Some p [] x e = cc
 find_Some p (y ∷ ys) x e = go (p y) refl (find_Some p ys x)
   where
     go : (b : Bool) → p y ≡ b → (find p ys ≡ Some x → p x ≡ true) → p x ≡ true
-    go true h rest = let same : Some y ≡ Some x = sym (front p y ys true h) ∙ e in let eq : y ≡ x =
+    go true h rest = let same : Some y ≡ Some x = sym (find-front p y ys true h) ∙ e in let eq : y ≡ x =
         cc in subst (λ z. p z ≡ true) eq h
-    go false h rest = rest (sym (front p y ys false h) ∙ e)
+    go false h rest = rest (sym (find-front p y ys false h) ∙ e)
 
 find_None : (p : ℤ → Bool) (s : List ℤ) (x : ℤ) → find p s ≡ None → has s x ≡ true → p x ≡ false
 find_None p [] x e h = absurd (true≢false (sym h))
 find_None p (y ∷ ys) x e h = go (p y) refl (find_None p ys x)
   where
     go : (b : Bool) → p y ≡ b → (find p ys ≡ None → has ys x ≡ true → p x ≡ false) → p x ≡ false
-    go true k rest = let wrong : Some y ≡ None = sym (front p y ys true k) ∙ e in cc
+    go true k rest = let wrong : Some y ≡ None = sym (find-front p y ys true k) ∙ e in cc
     go false k rest = elim (or_cases (int_eq y x) (has ys x) h) [
       | inl same ↦ let eq : y ≡ x = (Decides-int_eq y x).0 same in subst (λ z. p z ≡ false) eq k
-      | inr later ↦ rest (sym (front p y ys false k) ∙ e) later
+      | inr later ↦ rest (sym (find-front p y ys false k) ∙ e) later
     ]
 
 says_found : (limit m : ℕ) (g : Group) (s : List ℤ) (ss : List (List ℤ)) → g.sets ≡ s ∷ ss
@@ -227,7 +224,13 @@ says_at limit m g k l none within before last = elim (reach m g k) [
         let other : (k == limit) ≡ false = ne_eqb k limit (λ e. omega arith) in
         let says : Says limit m g (Found x) = record {
           meets = meets m g k l none w.0 spared;
-          first = λ e. record { count = k; within = within; is = refl; before = λ j h. struck_at m g j (before j h) };
+          first = λ e. record {
+            count = k;
+            within = within;
+            is = refl;
+            tried = w.0;
+            before = λ j h. struck_at m g j (before j h);
+          };
           listed = λ s ss f. let wrong : [] ≡ s ∷ ss = sym none ∙ f in cc;
         } in
         subst (λ a. Says limit m g a)

@@ -1,18 +1,17 @@
 -- Values marked at their ranks, and values tried by the least common multiple.
-use Rattle.std.proofs.Common.{◌≡◌, ℕ, ◌+◌, ◌%◌, ◌<◌, ◌≤◌, ◌==◌, nat_lt, Bool, true, false, cond, ◌&&◌, ◌||◌, List, [], ◌∷◌, length, get_or, replicate, take, Option, Some, None, ℤ, ◌<ℤ◌, ◌≤ℤ◌, int_lt, inl, inr, refl, ap, sym, ◌∙◌, arith, if◌then◌else◌}
+use Rattle.std.proofs.Common.{◌≡◌, ℕ, ◌+◌, ◌-◌, ◌%◌, ◌<◌, ◌≤◌, ◌==◌, nat_le, nat_lt, Bool, true, false, cond, ◌&&◌, ◌||◌, List, [], ◌∷◌, length, get_or, replicate, take, Option, Some, None, ℤ, ◌<ℤ◌, ◌≤ℤ◌, int_lt, inl, inr, refl, ap, sym, ◌∙◌, arith, if◌then◌else◌}
 use Rattle.std.specs.List.{list_all, list_any}
 use Rattle.std.specs.Ordering.{int_eq}
 use Rattle.std.proofs.lemmas.Int.{ints, by_lt_z}
-use Rattle.std.proofs.lemmas.Bool.{eq-eqb, eqb-true, or_cases, false≢true}
+use Rattle.std.proofs.lemmas.Bool.{eq-eqb, eqb-true, leb-true, or_cases, false≢true}
 use Rattle.std.proofs.lemmas.Bool.Decides.{Decides-int_eq}
 use Rattle.std.proofs.lemmas.List.Folds.{list_any_more}
 use Rattle.std.proofs.lemmas.List.Sums.{sum_by-cons, sum_by-le-sum_by}
 use Rattle.std.proofs.lemmas.Nat.Gcd.{dvd_of_mod-eq-zero, mod-eq-zero_of_dvd}
 use Rattle.std.proofs.Math.Nat.{mod-eq_of_lt}
-use Rattle.js_doc.specs.Numbers.{count_below, rank_of}
+use Rattle.js_doc.specs.Numbers.{count_below, has, rank_of}
 use Rattle.js_numbers.specs.Multiples.{is_common, lcm_of}
-use Rattle.js_numbers.specs.Group.{has}
-use Rattle.js_numbers.specs.Marking.{is_at, marked_below, mark_of, AddsListed, AreListed}
+use Rattle.js_numbers.specs.Marking.{is_at, marked_from, mark_of, AddsListed, AreListed}
 use Rattle.js_numbers.proofs.CommonMultiples.{IsLcmOf-lcm_of, common_along}
 use Rattle.js_numbers.proofs.MarkLaws.{same_bool, or_assoc}
 use Rattle.js_numbers.proofs.SieveLaws.{get_or-replicate_false}
@@ -45,7 +44,7 @@ count_cons n y ys = sum_by-cons (λ z. flag (int_lt z n)) y ys
 count_below-le : (ys : List ℤ) (a b : ℤ) → a ≤ℤ b → count_below ys a ≤ count_below ys b
 count_below-le ys a b l = sum_by-le-sum_by (λ z. flag (int_lt z a)) (λ z. flag (int_lt z b)) ys (λ z. below_le z a b l)
 
-count_below-lt : (ys : List ℤ) (a b : ℤ) → a <ℤ b → has ys a ≡ true → count_below ys a < count_below ys b
+pub count_below-lt : (ys : List ℤ) (a b : ℤ) → a <ℤ b → has ys a ≡ true → count_below ys a < count_below ys b
 count_below-lt [] a b l h = absurd (false≢true h)
 count_below-lt (y ∷ ys) a b l h =
     let here = count_cons a y ys in
@@ -85,48 +84,54 @@ rank_same values x y k e f =
 
 -- ---- marks at ranks
 
-mark_parts : (limit : ℕ) (r : Option ℕ) (k : ℕ) → marked_below limit r ≡ Some k → r ≡ Some k
-mark_parts limit None k e = e
-mark_parts limit (Some j) k e = go (nat_lt j limit) e
+mark_parts : (limit start : ℕ) (r : Option ℕ) (k : ℕ) → marked_from limit start r ≡ Some k → r ≡ Some (start + k)
+mark_parts limit start None k e = let wrong : None ≡ Some k = e in cc
+mark_parts limit start (Some j) k e = go (nat_le start j) (nat_lt (j - start) limit) refl e
   where
-    go : (b : Bool) → (if b then Some j else None) ≡ Some k → Some j ≡ Some k
-    go true f = f
-    go false f = let wrong : None ≡ Some k = f in cc
+    go : (a b : Bool) → nat_le start j ≡ a → (if a && b then Some (j - start) else None) ≡ Some k
+        → Some j ≡ Some (start + k)
+    go true true h f =
+        let same : j - start ≡ k = cc in
+        ap Some (omega (arith, same, leb-true start j h))
+    go true false h f = let wrong : None ≡ Some k = f in cc
+    go false b h f = let wrong : None ≡ Some k = f in cc
 
-pub mark_member : (limit : ℕ) (values : List ℤ) (x : ℤ) (k : ℕ) → mark_of limit values x ≡ Some k → has values x ≡ true
-mark_member limit values x k e = (rank_parts values x k (mark_parts limit (rank_of values x) k e)).0
+pub mark_member : (limit start : ℕ) (values : List ℤ) (x : ℤ) (k : ℕ) → mark_of limit start values x ≡ Some k
+    → has values x ≡ true
+mark_member limit start values x k e =
+    (rank_parts values x (start + k) (mark_parts limit start (rank_of values x) k e)).0
 
 is_at_from : (r : Option ℕ) (k : ℕ) → is_at r k ≡ true → r ≡ Some k
 is_at_from None k h = absurd (false≢true h)
 is_at_from (Some j) k h = ap Some (eqb-true j k h)
 
 -- the mark of one value is that of another one exactly where they are equal
-pub is_at-mark_of : (limit : ℕ) (values : List ℤ) (x y : ℤ) (k : ℕ) → mark_of limit values y ≡ Some k
-    → is_at (mark_of limit values x) k ≡ int_eq x y
-is_at-mark_of limit values x y k e = same_bool (is_at (mark_of limit values x) k) (int_eq x y)
+pub is_at-mark_of : (limit start : ℕ) (values : List ℤ) (x y : ℤ) (k : ℕ) → mark_of limit start values y ≡ Some k
+    → is_at (mark_of limit start values x) k ≡ int_eq x y
+is_at-mark_of limit start values x y k e = same_bool (is_at (mark_of limit start values x) k) (int_eq x y)
     (λ h.
-    let f = mark_parts limit (rank_of values x) k (is_at_from (mark_of limit values x) k h) in
-    (Decides-int_eq x y).1 (rank_same values x y k f (mark_parts limit (rank_of values y) k e)))
+    let f = mark_parts limit start (rank_of values x) k (is_at_from (mark_of limit start values x) k h) in
+    (Decides-int_eq x y).1 (rank_same values x y (start + k) f (mark_parts limit start (rank_of values y) k e)))
     (λ h.
     let same : x ≡ y = (Decides-int_eq x y).0 h in
-    ap (λ z. is_at (mark_of limit values z) k) same ∙ ap (λ r. is_at r k) e ∙ eq-eqb k k refl)
+    ap (λ z. is_at (mark_of limit start values z) k) same ∙ ap (λ r. is_at r k) e ∙ eq-eqb k k refl)
 
 or_false : (b : Bool) → b ≡ (b || false)
 or_false true = refl
 or_false false = refl
 
-pub AddsListed-none : (limit : ℕ) (values : List ℤ) (marks : List Bool)
-    → AddsListed limit values (λ y. false) marks marks
-AddsListed-none limit values marks = λ y k e. or_false (get_or marks k false)
+pub AddsListed-none : (limit start : ℕ) (values : List ℤ) (marks : List Bool)
+    → AddsListed limit start values (λ y. false) marks marks
+AddsListed-none limit start values marks = λ y k e. or_false (get_or marks k false)
 
 -- one element more of a list whose elements give tests
-pub AddsListed-more : {X : Type 0} (limit : ℕ) (values : List ℤ) (p : X → ℤ → Bool) (xs : List X) (i : ℕ)
+pub AddsListed-more : {X : Type 0} (limit start : ℕ) (values : List ℤ) (p : X → ℤ → Bool) (xs : List X) (i : ℕ)
     (x d : X) (old mid new : List Bool)
     → i < length xs → x ≡ get_or xs i d
-    → AddsListed limit values (λ y. list_any (λ z. p z y) (take i xs)) old mid
-    → AddsListed limit values (p x) mid new
-    → AddsListed limit values (λ y. list_any (λ z. p z y) (take (i + 1) xs)) old new
-AddsListed-more limit values p xs i x d old mid new within is before more = λ y k e.
+    → AddsListed limit start values (λ y. list_any (λ z. p z y) (take i xs)) old mid
+    → AddsListed limit start values (p x) mid new
+    → AddsListed limit start values (λ y. list_any (λ z. p z y) (take (i + 1) xs)) old new
+AddsListed-more limit start values p xs i x d old mid new within is before more = λ y k e.
     let o = get_or old k false in
     let any = list_any (λ z. p z y) (take i xs) in
     more y k e
@@ -160,17 +165,17 @@ shared_any (x ∷ xs) set y = go (int_eq x y) refl (shared_any xs set y)
         ∙ left
         ∙ ap (λ t. (t || has xs y) && has set y) (sym e)
 
-pub AddsListed-shared : (limit : ℕ) (values set : List ℤ) (old new : List Bool)
-    → AddsListed limit values (λ y. list_any (λ x. int_eq x y && has set x) values) old new
-    → AddsListed limit values (has set) old new
-AddsListed-shared limit values set old new h = λ y k e.
+pub AddsListed-shared : (limit start : ℕ) (values set : List ℤ) (old new : List Bool)
+    → AddsListed limit start values (λ y. list_any (λ x. int_eq x y && has set x) values) old new
+    → AddsListed limit start values (has set) old new
+AddsListed-shared limit start values set old new h = λ y k e.
     h y k e
     ∙ ap (λ t. get_or old k false || t)
-    (shared_any values set y ∙ ap (λ t. t && has set y) (mark_member limit values y k e))
+    (shared_any values set y ∙ ap (λ t. t && has set y) (mark_member limit start values y k e))
 
-pub AreListed-from_none : (limit n : ℕ) (values : List ℤ) (test : ℤ → Bool) (new : List Bool)
-    → AddsListed limit values test (replicate n false) new → AreListed limit values test new
-AreListed-from_none limit n values test new h = λ y k e.
+pub AreListed-from_none : (limit start n : ℕ) (values : List ℤ) (test : ℤ → Bool) (new : List Bool)
+    → AddsListed limit start values test (replicate n false) new → AreListed limit start values test new
+AreListed-from_none limit start n values test new h = λ y k e.
     h y k e ∙ ap (λ b. b || test y) (get_or-replicate_false n k)
 
 -- ---- the least common multiple in place of all divisors

@@ -22,11 +22,12 @@ pub record IsStruckAt (m : ℕ) (g : Group) (k : ℕ) : Type 0 where
   pub tried : IsTried m g k
   pub struck : is_struck g (candidate m g k) ≡ true
 
--- x is the k-th candidate, and those before it are struck
+-- x is a candidate that is tried, and those before it are struck
 pub record IsFirst (limit m : ℕ) (g : Group) (x : ℤ) : Type 0 where
   pub count : ℕ
   pub within : count < limit
   pub is : x ≡ candidate m g count
+  pub tried : IsTried m g count
   pub before : (j : ℕ) → j < count → IsStruckAt m g j
 
 -- x meets the group; it is the first candidate to do so, or the first value of the first set that is asked for

@@ -1,7 +1,7 @@
 -- A number group, and what it asks of a whole number of any size.
 use Rattle.std.specs.Prelude.{ℕ, ◌^◌, nat_lt, nat_le, List, Bool, true, false, not, ◌&&◌, ◌||◌, Option, Some, None, ℤ, int_le, int_lt, unsigned_abs}
 use Rattle.std.specs.List.{list_all, list_any}
-use Rattle.std.specs.Ordering.{int_eq}
+use Rattle.js_doc.specs.Numbers.{has}
 use Rattle.js_numbers.specs.declared.group.NumGroup.{NumGroup}
 use Rattle.js_numbers.specs.Multiples.{is_multiple}
 
@@ -34,10 +34,6 @@ is_above (Some low) x = int_le low x
 abbrev pub is_below : Option ℤ → ℤ → Bool
 is_below None x = true
 is_below (Some high) x = int_le x high
-
--- x is one of the values
-abbrev pub has : List ℤ → ℤ → Bool
-has values x = list_any (λ y. int_eq y x) values
 
 -- x is in one of the sets
 abbrev pub is_listed : List (List ℤ) → ℤ → Bool

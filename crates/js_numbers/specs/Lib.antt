@@ -5,4 +5,3 @@ pub mod Group
 pub mod Outcome
 pub mod Multiples
 pub mod Marking
-pub mod Filters

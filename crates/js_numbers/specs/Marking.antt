@@ -1,5 +1,5 @@
 -- Which candidates a list of values has, by their numbers.
-use Rattle.std.specs.Prelude.{◌≡◌, ℕ, ◌-◌, ◌*◌, ◌%◌, ◌<◌, ◌==◌, nat_le, nat_lt, List, get_or, Bool, true, false, ◌&&◌, ◌||◌, Option, Some, None, ℤ, if◌then◌else◌}
+use Rattle.std.specs.Prelude.{◌≡◌, ℕ, ◌-◌, ◌*◌, ◌%◌, ◌<◌, ◌≤◌, ◌==◌, nat_le, nat_lt, List, length, get_or, Bool, true, false, ◌&&◌, ◌||◌, Option, Some, None, ℤ, pos, if◌then◌else◌}
 use Rattle.std.specs.Ordering.{int_eq}
 use Rattle.js_doc.specs.Numbers.{rank_of}
 use Rattle.js_numbers.specs.Multiples.{is_multiple}
@@ -50,21 +50,36 @@ AreStepsMarked limit m g noted marks =
 abbrev pub AreStruckMarked : ℕ → ℕ → Group → List Bool → Type 0
 AreStruckMarked limit m g marks = AreMarked limit (candidate m g) (is_struck g) marks
 
--- k, where there are more marks than that
-abbrev pub marked_below : ℕ → Option ℕ → Option ℕ
-marked_below limit None = None
-marked_below limit (Some k) = if nat_lt k limit then Some k else None
+-- how far the rank is from the start, where there is a mark for that
+abbrev pub marked_from : ℕ → ℕ → Option ℕ → Option ℕ
+marked_from limit start None = None
+marked_from limit start (Some rank) =
+    if nat_le start rank && nat_lt (rank - start) limit then Some (rank - start) else None
 
--- the number of the mark for x: its rank among the values, where there is a mark for that
-abbrev pub mark_of : ℕ → List ℤ → ℤ → Option ℕ
-mark_of limit values x = marked_below limit (rank_of values x)
+-- the number of the mark for x: how far its rank among the values is from the start of the block
+abbrev pub mark_of : ℕ → ℕ → List ℤ → ℤ → Option ℕ
+mark_of limit start values x = marked_from limit start (rank_of values x)
 
 -- the values that pass the test are marked where there is a mark for them, and the marks that were there stay
-abbrev pub AddsListed : ℕ → List ℤ → (ℤ → Bool) → List Bool → List Bool → Type 0
-AddsListed limit values test old new =
-    (x : ℤ) (k : ℕ) → mark_of limit values x ≡ Some k → get_or new k false ≡ (get_or old k false || test x)
+abbrev pub AddsListed : ℕ → ℕ → List ℤ → (ℤ → Bool) → List Bool → List Bool → Type 0
+AddsListed limit start values test old new =
+    (x : ℤ) (k : ℕ) → mark_of limit start values x ≡ Some k → get_or new k false ≡ (get_or old k false || test x)
 
 -- the values that have a mark are marked exactly where they pass the test
-abbrev pub AreListed : ℕ → List ℤ → (ℤ → Bool) → List Bool → Type 0
-AreListed limit values test marks =
-    (x : ℤ) (k : ℕ) → mark_of limit values x ≡ Some k → get_or marks k false ≡ test x
+abbrev pub AreListed : ℕ → ℕ → List ℤ → (ℤ → Bool) → List Bool → Type 0
+AreListed limit start values test marks =
+    (x : ℤ) (k : ℕ) → mark_of limit start values x ≡ Some k → get_or marks k false ≡ test x
+
+-- of the values before the end, the one at the place is the first that has a mark and passes the test
+pub record IsFirstIn (limit start : ℕ) (values : List ℤ) (test : ℤ → Bool) (end place : ℕ) : Type 0 where
+  pub within : place ≤ end
+  pub before : (j k : ℕ) → j < place → mark_of limit start values (get_or values j (pos 0)) ≡ Some k
+      → test (get_or values j (pos 0)) ≡ false
+  pub here : place < end → test (get_or values place (pos 0)) ≡ true
+
+-- of the values whose rank is below the given one, the one at the place is the first that passes the test
+pub record IsFirstBelow (rank : ℕ) (values : List ℤ) (test : ℤ → Bool) (place : ℕ) : Type 0 where
+  pub within : place ≤ length values
+  pub before : (j k : ℕ) → j < place → rank_of values (get_or values j (pos 0)) ≡ Some k → k < rank
+      → test (get_or values j (pos 0)) ≡ false
+  pub here : place < length values → test (get_or values place (pos 0)) ≡ true

@@ -6,13 +6,14 @@
 //!
 //! Without sets that are asked for, the cost is a pass over the sets that are ruled out, a greatest common divisor for
 //! each divisor that is ruled out, and a sieve of 65,536 candidates. With such sets it is binary searches, in
-//! proportion to the values, and for each value that passes everything else a look at each divisor that is ruled out.
+//! proportion to the values, but for three products: values that pass everything else times divisors that are ruled
+//! out; all values times blocks, the values of the first set by 65,536 being a block; and how often a value stands in
+//! the first set times the sets that are asked for and have it.
 #![tactic(auto)]
 
 mod candidates;
 mod decision;
 mod factors;
-mod filters;
 mod group;
 mod listed;
 mod marks;

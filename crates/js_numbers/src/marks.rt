@@ -4,7 +4,8 @@
 //! the candidates. The marks take 64 KiB of the stack.
 
 ghost use Rattle.std.specs.Prelude.{◌≡◌, ℕ, ◌*◌, ◌<◌, ◌^◌, ◌==◌, true, false, ◌||◌, get_or, IfSome, length, neg_ℤ, unsigned_abs, ◌≤◌};
-ghost use Rattle.js_numbers.specs.Group.{group_of, has, is_ready};
+ghost use Rattle.js_doc.specs.Numbers.{has};
+ghost use Rattle.js_numbers.specs.Group.{group_of, is_ready};
 ghost use Rattle.js_numbers.specs.Outcome.{alternate, candidate, multiple_from};
 ghost use Rattle.js_numbers.specs.Marking.{is_at, IsIndex, AddsMarks, AddsRuledOut};
 
@@ -21,7 +22,7 @@ fn steps(distance: u128, m: u128) -> Option<usize>
         return None;
     }
     let count = distance / m;
-    if count < 65_536 {
+    if count < MOST_STRUCK as u128 {
         Some(count as usize)
     } else {
         None

@@ -2,7 +2,8 @@
 
 ghost use Rattle.std.specs.Prelude.{◌≡◌};
 ghost use Rattle.js_numbers.specs.Multiples.{is_multiple};
-ghost use Rattle.js_numbers.specs.Group.{is_above, is_below, has};
+ghost use Rattle.js_doc.specs.Numbers.{has};
+ghost use Rattle.js_numbers.specs.Group.{is_above, is_below};
 ghost use Rattle.std.specs.List.{list_all, list_any};
 
 use js_doc::NumList;

@@ -2,7 +2,7 @@
 //!
 //! A line has six words: the lower and the upper bound, the divisors that are asked for and those that are ruled
 //! out, the sets that are asked for and those that are ruled out. A word is `-` for none. Numbers are parted by
-//! commas, sets by semicolons, and in a set `a..b` stands for all numbers from a to b.
+//! commas, sets by semicolons, and in a set `a..b` stands for all numbers from a to b. A set without numbers is `empty`.
 
 ghost use Rattle.std.specs.Prelude.{◌≡◌, nat_lt};
 ghost use Rattle.std.specs.List.{list_all};
@@ -132,6 +132,9 @@ fn read_sets(alloc: Global, word: &str) -> Result<Vec<NumList>, LineFault> {
 
 fn read_values(alloc: Global, word: &str) -> Result<Vec<i128>, LineFault> {
     let mut values = Vec::new(alloc);
+    if word == "empty" {
+        return Ok(values);
+    }
     for part in word.split(',') {
         let (first, last) = read_range(part)?;
         for value in first..=last {

@@ -2,7 +2,8 @@ use Rattle.std.proofs.Common.{◌≡◌, ◌∙◌, ◌&&◌, Bool, ℤ, ap, sym
 use Rattle.std.specs.Int.{w128}
 use Rattle.std.specs.List.{list_all}
 use Rattle.js_numbers.specs.Multiples.{is_multiple}
-use Rattle.js_numbers.specs.Group.{group_of, has, is_above, is_asked, is_below}
+use Rattle.js_doc.specs.Numbers.{has}
+use Rattle.js_numbers.specs.Group.{group_of, is_above, is_asked, is_below}
 use Rattle.js_numbers.proofs.listed.is_asked.Goals as goal
 use Rattle.js_numbers.proofs.listed.is_asked.Goals.{then-is_within, else-is_within}
 

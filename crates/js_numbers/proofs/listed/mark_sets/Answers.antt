@@ -1,15 +1,16 @@
 use Rattle.std.proofs.Common.{◌||◌, ap, false, get_or, ◌∙◌, take_all}
 use Rattle.js_numbers.specs.declared.candidates.TheConstants.{MOST_STRUCK}
-use Rattle.js_numbers.specs.Group.{has, is_listed}
+use Rattle.js_doc.specs.Numbers.{has}
+use Rattle.js_numbers.specs.Group.{is_listed}
 use Rattle.js_numbers.proofs.ListedLaws.{AddsListed-none, AddsListed-more}
 use Rattle.js_numbers.proofs.listed.mark_sets.Goals as goal
 
 pub loop-set-init : goal.loop-set-init
-loop-set-init c = AddsListed-none MOST_STRUCK c.args.values.now c.args.listed.now
+loop-set-init c = AddsListed-none MOST_STRUCK c.args.start c.args.values.now c.args.listed.now
 
 pub loop-set-preserved : goal.loop-set-preserved
 loop-set-preserved c =
-    AddsListed-more MOST_STRUCK c.args.values.now (λ s y. has s y) c.args.sets.now c.loop-set.set-index
+    AddsListed-more MOST_STRUCK c.args.start c.args.values.now (λ s y. has s y) c.args.sets.now c.loop-set.set-index
     c.set-item.result c.set-item.result c.args.listed.now c.loop-set.listed c.mark_set.new.listed
     c.loop-set-test.true c.set-item.is c.loop-set.invariant c.mark_set.ensures
 

@@ -9,5 +9,5 @@ pub returns : goal.returns
 returns c = λ y k e.
     c.mark.ensures k
     ∙ ap (λ b. get_or c.args.listed.now k false || b)
-    (ap (λ r. is_at r k) c.mark_of.ensures.value ∙ is_at-mark_of MOST_STRUCK c.args.values.now _ y k e
+    (ap (λ r. is_at r k) c.mark_of.ensures.value ∙ is_at-mark_of MOST_STRUCK c.args.start c.args.values.now _ y k e
     ∙ ap (λ x. int_eq x y) (to_z-of_z c.ranges.x))

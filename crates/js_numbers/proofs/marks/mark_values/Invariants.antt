@@ -1,6 +1,7 @@
 use Rattle.std.proofs.Common.{take}
 use Rattle.js_numbers.specs.declared.candidates.TheConstants.{MOST_STRUCK}
-use Rattle.js_numbers.specs.Group.{group_of, has}
+use Rattle.js_doc.specs.Numbers.{has}
+use Rattle.js_numbers.specs.Group.{group_of}
 use Rattle.js_numbers.specs.Outcome.{candidate}
 use Rattle.js_numbers.specs.Marking.{AddsMarks}
 use Rattle.js_numbers.proofs.marks.mark_values.Given as goal

@@ -1,9 +1,9 @@
 use Rattle.js_numbers.specs.declared.candidates.TheConstants.{MOST_STRUCK}
 use Rattle.js_numbers.specs.Group.{is_listed}
 use Rattle.js_numbers.proofs.ListedLaws.{AreListed-from_none}
-use Rattle.js_numbers.proofs.listed.search_values.Goals as goal
+use Rattle.js_numbers.proofs.listed.search_block.Goals as goal
 
 pub first_met-requires-clause-marks : goal.first_met-requires-clause-marks
 first_met-requires-clause-marks c =
-    AreListed-from_none MOST_STRUCK 65536 c.args.values.now (is_listed c.args.group.now.not_sets.now)
+    AreListed-from_none MOST_STRUCK c.args.start 65536 c.args.values.now (is_listed c.args.group.now.not_sets.now)
     c.mark_sets.new.listed c.mark_sets.ensures
