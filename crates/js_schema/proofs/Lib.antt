@@ -1,2 +1,3 @@
 pub mod TreeTestsLemmas
 pub mod EntriesLemmas
+pub mod Soundness

@@ -4,3 +4,4 @@ pub mod TreeTests
 pub mod Patterns
 pub mod View
 pub mod SchemaView
+pub mod Reading

@@ -13,7 +13,7 @@ use Rattle.schema_laws.specs.Walking.{weights}
 use Rattle.schema_laws.proofs.Pointers.{same_word-eq}
 
 -- neither of two
-neither : {A : Type 0} (x y : Option A) → or_else x y ≡ None → (x ≡ None) × (y ≡ None)
+pub neither : {A : Type 0} (x y : Option A) → or_else x y ≡ None → (x ≡ None) × (y ≡ None)
 neither None y h = (refl, h)
 neither (Some a) y h = absurd (none-some a (sym h))
 

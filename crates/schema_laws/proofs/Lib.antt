@@ -11,3 +11,10 @@ pub mod Numbers
 pub mod TableLaws
 pub mod KeywordLaws
 pub mod Faultless
+pub mod WellFormedLaws
+pub mod Shapes
+pub mod TableSizes
+pub mod TableNumbers
+pub mod TableRanges
+pub mod TableLaw
+pub mod NamesLaws
