@@ -24,6 +24,9 @@ use crate::marks::mark;
 use crate::number::{all_have, any_has, divides_all, divides_any};
 use js_doc::NumList;
 
+/// A look at a value in so many sets costs about as much as in a block, where mostly longer lists are searched.
+const SETS_A_BLOCK: usize = 4;
+
 /// The number of the mark for `x`: how far its rank among the values is from the start of the block.
 fn mark_of(values: &NumList, start: usize, x: i128) -> Option<usize>
     ensures value { result ≡ mark_of MOST_STRUCK start values.now x }
@@ -240,7 +243,8 @@ pub(crate) fn search_values(group: &NumGroup, values: &NumList) -> Cases
     ensures { result ≡ found (find (is_met (group_of group.now)) values.now) }
 {
     let common = lcm_of(group.multiples);
-    if group.not_sets.len() <= values.as_slice().len() / MOST_STRUCK {
+    let blocks = values.as_slice().len() / MOST_STRUCK;
+    if group.not_sets.len() <= SETS_A_BLOCK * blocks {
         search_each(group, values, common)
     } else {
         search_blocks(group, values, common)
