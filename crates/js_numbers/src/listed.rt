@@ -5,8 +5,8 @@
 //! of the set that is asked for and another one, the values of the shorter are looked up in the longer, so many sets
 //! cost a block no more than one of as many values. The marks take 64 KiB of the stack.
 //!
-//! So no value is looked up in many sets; what there is instead is values times blocks. Rejected: a look at each set
-//! for each value past the first block, which takes half an hour for a million values and 400,000 sets of one.
+//! So no value is looked up in many sets that are ruled out; what there is instead is all values times blocks.
+//! Rejected: a look at each set for each value past the first block, which is a product of values and sets.
 
 ghost use Rattle.std.specs.Prelude.{◌≡◌, ℕ, ◌<◌, ◌≤◌, ◌^◌, ◌&&◌, true, nat_lt, Some, IfSome, SomeIff, length};
 ghost use Rattle.std.specs.List.{find, list_all};
