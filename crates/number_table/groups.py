@@ -189,17 +189,18 @@ def asked_sets():
 
 
 def blocks_of_values():
-    """More values than are marked at once, in and out of order, and more negated sets than blocks."""
+    """More values than are marked at once, in and out of order, with few negated sets and with more of them."""
     for asked in [[(0, 140_000)], [(40_000, 140_000), (0, 39_999)], [140_000, 0, 65_536, (1, 140_000), 65_535]]:
-        yield group(sets=[asked], not_sets=[[7], [8], [9]])
-        yield group(sets=[asked], not_sets=[[(0, 65_534)], [(65_536, 70_000)], [140_000], [40_000]])
-        yield group(sets=[asked], not_sets=[[(0, 65_535)], [65_536], [(65_537, 139_999)]])
-        yield group(sets=[asked], not_sets=[[(40_000, 140_000)], [0], [1]])
-        yield group(sets=[asked], not_sets=[[(2, 140_000)], [0], []])
-        yield group(sets=[asked], not_sets=[[(70_000, 140_000)], [(0, 50_000)], [(50_001, 69_999)]])
-        yield group(65_530, 65_540, [2], [3], [asked, [(65_531, 65_545)]], [[65_530], [65_534], [65_536]])
-        yield group(131_072, None, [], [2], [asked], [[131_073], [131_075], [1]])
-    yield group(sets=[[(5, 70_000), *[5] * 100, (0, 4)]], not_sets=[[(6, 70_000)], [5], [0, 1]])
+        for more in [[], [[]] * 12]:
+            yield group(sets=[asked], not_sets=[[7], [8], [9], *more])
+            yield group(sets=[asked], not_sets=[[(0, 65_534)], [(65_536, 70_000)], [140_000], [40_000], *more])
+            yield group(sets=[asked], not_sets=[[(0, 65_535)], [65_536], [(65_537, 139_999)], *more])
+            yield group(sets=[asked], not_sets=[[(40_000, 140_000)], [0], [1], *more])
+            yield group(sets=[asked], not_sets=[[(2, 140_000)], [0], *more])
+            yield group(sets=[asked], not_sets=[[(70_000, 140_000)], [(0, 50_000)], [(50_001, 69_999)], *more])
+            yield group(65_530, 65_540, [2], [3], [asked, [(65_531, 65_545)]], [[65_530], [65_534], *more])
+            yield group(131_072, None, [], [2], [asked], [[131_073], [131_075], *more])
+    yield group(sets=[[(5, 70_000), *[5] * 100, (0, 4)]], not_sets=[[(6, 70_000)], [5], [0, 1], [], []])
 
 
 def empty_sets():

@@ -5,8 +5,8 @@
 //! of the set that is asked for and another one, the values of the shorter are looked up in the longer, so many sets
 //! cost a block no more than one of as many values. The marks take 64 KiB of the stack.
 //!
-//! So no value is looked up in many sets; what there is instead is values times blocks. Rejected: a look at each set
-//! for each value past the first block, which takes half an hour for a million values and 400,000 sets of one.
+//! So no value is looked up in many sets that are ruled out; what there is instead is all values times blocks.
+//! Rejected: a look at each set for each value past the first block, which is a product of values and sets.
 
 ghost use Rattle.std.specs.Prelude.{◌≡◌, ℕ, ◌<◌, ◌≤◌, ◌^◌, ◌&&◌, true, nat_lt, Some, IfSome, SomeIff, length};
 ghost use Rattle.std.specs.List.{find, list_all};
@@ -23,6 +23,9 @@ use crate::group::{Cases, NumGroup};
 use crate::marks::mark;
 use crate::number::{all_have, any_has, divides_all, divides_any};
 use js_doc::NumList;
+
+/// A look at a value in so many sets costs about as much as in a block, where mostly longer lists are searched.
+const SETS_A_BLOCK: usize = 4;
 
 /// The number of the mark for `x`: how far its rank among the values is from the start of the block.
 fn mark_of(values: &NumList, start: usize, x: i128) -> Option<usize>
@@ -240,7 +243,8 @@ pub(crate) fn search_values(group: &NumGroup, values: &NumList) -> Cases
     ensures { result ≡ found (find (is_met (group_of group.now)) values.now) }
 {
     let common = lcm_of(group.multiples);
-    if group.not_sets.len() <= values.as_slice().len() / MOST_STRUCK {
+    let blocks = values.as_slice().len() / MOST_STRUCK;
+    if group.not_sets.len() <= SETS_A_BLOCK * blocks {
         search_each(group, values, common)
     } else {
         search_blocks(group, values, common)

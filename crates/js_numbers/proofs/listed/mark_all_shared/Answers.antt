@@ -14,7 +14,8 @@ loop-x-preserved c =
     let set = c.args.set.now in
     let same = c.as_slice-x-items.ensures in
     let fits : FitsSigned w128 (get_or c.as_slice-x-items.result.now i (pos 0)) = search rules in
-    AddsListed-more MOST_STRUCK c.args.start c.args.values.now (λ x y. int_eq x y && has set x) c.args.values.now i _ (pos 0)
+    AddsListed-more MOST_STRUCK c.args.start c.args.values.now
+    (λ x y. int_eq x y && has set x) c.args.values.now i _ (pos 0)
     c.args.listed.now c.loop-x.listed c.mark_shared.new.listed
     (subst (λ xs. i < length xs) same c.loop-x-test.true)
     (to_z-of_z fits ∙ ap (λ xs. get_or xs i (pos 0)) same) c.loop-x.invariant c.mark_shared.ensures

@@ -5,4 +5,5 @@ use Rattle.js_numbers.specs.Marking.{AddsListed}
 use Rattle.js_numbers.proofs.listed.mark_sets.Given as goal
 
 abbrev pub invariant-loop-set : goal.invariant-loop-set
-invariant-loop-set l = AddsListed MOST_STRUCK l.start l.values (is_listed (take l.set-index l.sets)) l.fn.listed l.listed
+invariant-loop-set l =
+    AddsListed MOST_STRUCK l.start l.values (is_listed (take l.set-index l.sets)) l.fn.listed l.listed
