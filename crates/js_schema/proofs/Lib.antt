@@ -1,3 +1,5 @@
 pub mod TreeTestsLemmas
 pub mod EntriesLemmas
 pub mod Soundness
+pub mod WordsLemmas
+pub mod ShapesLemmas

@@ -5,3 +5,6 @@ pub mod Patterns
 pub mod View
 pub mod SchemaView
 pub mod Reading
+pub mod FaultView
+pub mod Words
+pub mod Failing
