@@ -3,3 +3,4 @@ pub mod EntriesLemmas
 pub mod Soundness
 pub mod WordsLemmas
 pub mod ShapesLemmas
+pub mod MemberLemmas

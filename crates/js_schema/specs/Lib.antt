@@ -7,4 +7,5 @@ pub mod SchemaView
 pub mod Reading
 pub mod FaultView
 pub mod Words
+pub mod Member
 pub mod Failing

@@ -10,6 +10,7 @@ mod entry;
 mod fault;
 mod keyword;
 mod lists;
+mod member;
 mod part;
 mod pattern;
 mod shapes;

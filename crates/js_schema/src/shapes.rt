@@ -74,7 +74,7 @@ pub(crate) fn check_keyword(
 
 /// The place of the keyword's value in the object at `place`.
 #[tactic(auto, using(crate::proofs::WordsLemmas::keyword_names))]
-fn below(alloc: Global, place: &Pointer, keyword: Keyword) -> Result<Pointer, Memory>
+pub(crate) fn below(alloc: Global, place: &Pointer, keyword: Keyword) -> Result<Pointer, Memory>
     ensures { IfOk result (λ q. q ≡ value_place place.now keyword) }
 {
     let mut pointer = place.copy(alloc)?;
@@ -82,7 +82,7 @@ fn below(alloc: Global, place: &Pointer, keyword: Keyword) -> Result<Pointer, Me
     Ok(pointer)
 }
 
-fn wrong_shape(alloc: Global, place: &Pointer, keyword: Keyword) -> SchemaFault
+pub(crate) fn wrong_shape(alloc: Global, place: &Pointer, keyword: Keyword) -> SchemaFault
     ensures { Tells (Some (F.WrongShape (keyword_name keyword) (value_place place.now keyword))) result }
 {
     match below(alloc, place, keyword) {

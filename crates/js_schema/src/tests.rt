@@ -1,7 +1,8 @@
 //! What no clause says: that ample memory is enough, and what the words and pointers look like.
 
-use crate::shapes::check_keyword;
+use crate::member::check_member;
 use crate::{Keyword, SchemaFault, TypeName};
+use js_doc::Str;
 use js_json::{Pointer, RefFault, read_json};
 use js_pattern::PatternFault;
 use std::alloc::Global;
@@ -22,7 +23,7 @@ fn knows_keywords_and_types_by_their_words(rt: HostRuntime) -> Result<(), Fail> 
 }
 
 #[test]
-fn tells_the_first_fault_of_a_keyword(rt: HostRuntime) -> Result<(), Fail> {
+fn tells_the_first_fault_of_a_member(rt: HostRuntime) -> Result<(), Fail> {
     let cases = [
         ("type", "\"null\"", "none"),
         ("type", "[\"null\",\"frob\"]", "shape \"/a/type/1\""),
@@ -61,7 +62,10 @@ fn tells_the_first_fault_of_a_keyword(rt: HostRuntime) -> Result<(), Fail> {
         ("uniqueItems", "true", "unique \"/a/uniqueItems\""),
         ("uniqueItems", "false", "none"),
         ("uniqueItems", "0", "shape \"/a/uniqueItems\""),
+        ("additionalItems", "5", "shape \"/a/additionalItems\""),
+        ("$id", "\"b\"", "inner \"/a/$id\""),
         ("$ref", "5", "none"),
+        ("format", "5", "none"),
     ];
     for (name, text, expected) in cases {
         let told = told(rt.alloc(), name, text)?;
@@ -72,12 +76,10 @@ fn tells_the_first_fault_of_a_keyword(rt: HostRuntime) -> Result<(), Fail> {
 
 fn told(alloc: Global, name: &str, text: &str) -> Result<String, Fail> {
     let json = read_json(alloc, text.as_bytes())?;
-    let Some(keyword) = Keyword::of(name) else {
-        return Err("no keyword".into());
-    };
+    let name = Str::from_text(alloc, name)?;
     let mut place = Pointer::root(alloc);
     place.push_name("a")?;
-    match check_keyword(alloc, &place, keyword, &json) {
+    match check_member(alloc, &place, true, &name, &json) {
         Ok(()) => Ok(String::from_str(alloc, "none")?),
         Err(SchemaFault::WrongShape(_, at)) => line(alloc, "shape", &at),
         Err(SchemaFault::NotWhole(at)) => line(alloc, "whole", &at),
@@ -85,6 +87,7 @@ fn told(alloc: Global, name: &str, text: &str) -> Result<String, Fail> {
         Err(SchemaFault::Negative(at)) => line(alloc, "negative", &at),
         Err(SchemaFault::EmptyList(at)) => line(alloc, "empty", &at),
         Err(SchemaFault::UniqueItems(at)) => line(alloc, "unique", &at),
+        Err(SchemaFault::InnerId(at)) => line(alloc, "inner", &at),
         Err(SchemaFault::Pattern(_, at)) => line(alloc, "pattern", &at),
         Err(_) => Err("another fault".into()),
     }
