@@ -96,5 +96,6 @@ module _ (root : Json) (listed : Bool) (p : Pointer) (v : Json) where
       → fault_by root listed p (Some k) v ≡ shape_fault rules root (shape_by k) (keyword_name k) p v
   fault_by-rest k h e =
       ap (λ j. fault_by root listed p (Some j) v) h
-      ∙ ap (λ b. cond b (shape_fault rules root (shape_by K.AdditionalItems) (keyword_name K.AdditionalItems) p v) None) e
+      ∙ ap (λ b. cond b (shape_fault rules root (shape_by K.AdditionalItems) (keyword_name K.AdditionalItems) p v) None)
+      e
       ∙ sym (ap (λ j. shape_fault rules root (shape_by j) (keyword_name j) p v) h)
