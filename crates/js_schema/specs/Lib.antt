@@ -5,3 +5,7 @@ pub mod Patterns
 pub mod View
 pub mod SchemaView
 pub mod Reading
+pub mod FaultView
+pub mod Words
+pub mod Member
+pub mod Failing

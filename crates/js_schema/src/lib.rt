@@ -7,14 +7,21 @@
 
 mod constraints;
 mod entry;
+mod fault;
 mod keyword;
 mod lists;
+mod member;
 mod part;
 mod pattern;
+mod shapes;
 mod table;
+#[cfg(test)]
+mod tests;
+mod whole;
 
 pub use constraints::Keywords;
 pub use entry::Form;
+pub use fault::SchemaFault;
 pub use keyword::Keyword;
 pub use lists::{DependencyList, EntryList, PatternPropertyList, PropertyList, TypeList};
 pub use part::{Dependency, ItemsPart, Needs, PatternProperty, Property, TypeName};
