@@ -1,0 +1,122 @@
+-- When a document is valid for a schema, read off the schema's JSON value (JSON Schema validation, draft-06), and when
+-- one schema includes another. The section of the standard stands beside each keyword.
+use Rattle.std.specs.Prelude.{ℕ, suc, ◌≡◌, ℤ, pos, int_le, int_lt, nat_abs, List, [], ◌∷◌, map, length, drop, Bool, true, false, ◌&&◌, ◌||◌, not, Option, Some, None, Result, Ok, Err, option_and_then, codes}
+use Rattle.documents.specs.Tests.{every, some, same_word}
+use Rattle.documents.specs.Kind.{Kind, Null, Boolean, Number, Text, Array, Object}
+use Rattle.documents.specs.Document as D
+use Rattle.documents.specs.Document.{Document, is_document, kind_of}
+use Rattle.documents.specs.Json.{Json, boolean, number, string, array, object, Members, elements, lookup, count}
+use Rattle.documents.specs.Measures.{exactly_one, is_multiple, at_number, at_string, at_array, at_object, meets_in_order, has_name, every_in}
+use Rattle.levels.specs.Levels.{is_met}
+use Rattle.schemas.specs.Schema.{if_there, meets}
+use Rattle.schemas.specs.Entries.{listed, members, word, whole}
+use Rattle.draft06.specs.Equality.{is_equal}
+use Rattle.draft06.specs.Names.{keys, is_additional}
+
+-- a name of the instance's kind; numbers are whole here, so `integer` and `number` are one kind
+abbrev pub names_kind : List ℕ → Kind → Bool
+names_kind w Null = same_word w (codes "null")
+names_kind w Boolean = same_word w (codes "boolean")
+names_kind w Number = same_word w (codes "number") || same_word w (codes "integer")
+names_kind w Text = same_word w (codes "string")
+names_kind w Array = same_word w (codes "array")
+names_kind w Object = same_word w (codes "object")
+
+-- one name, or one of a list
+abbrev pub type_names : Kind → Json → Bool
+type_names t (array ws) = some (λ w. names_kind (word w) t) (elements ws)
+type_names t w = names_kind (word w) t
+
+-- one schema asks something of each element, and the schemas of a list one each
+abbrev pub items_ask : (Json → Document → Bool) → Json → List Document → Bool
+items_ask below (array ss) ds = meets_in_order below (elements ss) ds
+items_ask below s ds = every (below s) ds
+
+-- the elements after those that a list of schemas speaks of; without such a list nothing is asked
+abbrev pub rest_asks : (Json → Document → Bool) → Option Json → Json → List Document → Bool
+rest_asks below (Some (array ss)) s ds = every (below s) (drop (length (elements ss)) ds)
+rest_asks below _ s ds = true
+
+-- what the presence of a name asks of an object: other names, or a schema of the whole object
+abbrev pub need_asks : (Json → Bool) → Json → List (List ℕ × Document) → Bool
+need_asks here (array ws) ms = every (λ w. has_name (word w) ms) (elements ws)
+need_asks here s ms = here s
+
+-- the names of an object, where the keyword is there
+abbrev pub names_in : Option Json → List (List ℕ)
+names_in None = []
+names_in (Some v) = map (λ m. m.0) (members v)
+
+-- `matches t w` tells whether the pattern with the text t matches somewhere in w
+module _ (matches : List ℕ → List ℕ → Bool) (here : Json → Bool) (below : Json → Document → Bool) (ms : Members) where
+  -- of every document
+  abbrev pub asks_any : Document → Bool
+  asks_any J =
+      meets (λ v. some (λ w. is_equal w J) (listed v)) (lookup (codes "enum") ms)  -- section 6.23
+      && meets (λ v. is_equal v J) (lookup (codes "const") ms)  -- 6.24
+      && meets (type_names (kind_of J)) (lookup (codes "type") ms)  -- 6.25
+      && meets (λ v. every here (listed v)) (lookup (codes "allOf") ms)  -- 6.26
+      && meets (λ v. some here (listed v)) (lookup (codes "anyOf") ms)  -- 6.27
+      && meets (λ v. exactly_one here (listed v)) (lookup (codes "oneOf") ms)  -- 6.28
+      && meets (λ s. not (here s)) (lookup (codes "not") ms)  -- 6.29
+
+  abbrev pub asks_number : ℤ → Bool
+  asks_number x =
+      meets (λ v. is_multiple (nat_abs (whole v)) x) (lookup (codes "multipleOf") ms)  -- section 6.1
+      && meets (λ v. int_le x (whole v)) (lookup (codes "maximum") ms)  -- 6.2
+      && meets (λ v. int_lt x (whole v)) (lookup (codes "exclusiveMaximum") ms)  -- 6.3
+      && meets (λ v. int_le (whole v) x) (lookup (codes "minimum") ms)  -- 6.4
+      && meets (λ v. int_lt (whole v) x) (lookup (codes "exclusiveMinimum") ms)  -- 6.5
+
+  abbrev pub asks_string : List ℕ → Bool
+  asks_string w =
+      meets (λ v. int_le (pos (length w)) (whole v)) (lookup (codes "maxLength") ms)  -- section 6.6
+      && meets (λ v. int_le (whole v) (pos (length w))) (lookup (codes "minLength") ms)  -- 6.7
+      && meets (λ v. matches (word v) w) (lookup (codes "pattern") ms)  -- 6.8
+
+  -- of an array's elements
+  abbrev pub asks_array : List Document → Bool
+  asks_array ds =
+      meets (λ v. items_ask below v ds) (lookup (codes "items") ms)  -- section 6.9
+      && meets (λ s. rest_asks below (lookup (codes "items") ms) s ds) (lookup (codes "additionalItems") ms)  -- 6.10
+      && meets (λ v. int_le (pos (length ds)) (whole v)) (lookup (codes "maxItems") ms)  -- 6.11
+      && meets (λ v. int_le (whole v) (pos (length ds))) (lookup (codes "minItems") ms)  -- 6.12
+      && meets (λ s. some (below s) ds) (lookup (codes "contains") ms)  -- 6.14
+
+  -- of an object's members, by name and value
+  abbrev pub asks_object : List (List ℕ × Document) → Bool
+  asks_object ns =
+      meets (λ v. int_le (pos (length ns)) (whole v)) (lookup (codes "maxProperties") ms)  -- section 6.15
+      && meets (λ v. int_le (whole v) (pos (length ns))) (lookup (codes "minProperties") ms)  -- 6.16
+      && meets (λ v. every (λ w. has_name (word w) ns) (listed v)) (lookup (codes "required") ms)  -- 6.17
+      && meets (λ v. every (λ p. every_in (same_word p.0) (below p.1) ns) (members v))
+          (lookup (codes "properties") ms)  -- 6.18
+      && meets (λ v. every (λ p. every_in (matches p.0) (below p.1) ns) (members v))
+          (lookup (codes "patternProperties") ms)  -- 6.19
+      && meets (λ s. every_in (is_additional matches (names_in (lookup (codes "properties") ms))
+          (names_in (lookup (codes "patternProperties") ms))) (below s) ns)
+          (lookup (codes "additionalProperties") ms)  -- 6.20
+      && meets (λ v. every (λ p. not (has_name p.0 ns) || need_asks here p.1 ns) (members v))
+          (lookup (codes "dependencies") ms)  -- 6.21
+      && meets (λ s. every (λ n. below s (D.string n.0)) ns) (lookup (codes "propertyNames") ms)  -- 6.22
+
+  -- keywords of one kind of document ask nothing of other kinds, and other members ask nothing; a schema with
+  -- `uniqueItems` (section 6.13) other than `false` isn't read
+  abbrev pub asks_keywords : Document → Bool
+  asks_keywords J =
+      asks_any J && at_number asks_number J && at_string asks_string J && at_array asks_array J
+      && at_object asks_object J
+
+-- `target r` is the value to which the reference with the text r leads
+module _ (matches : List ℕ → List ℕ → Bool) (target : List ℕ → Option Json) where
+  -- a reference asks what its target asks, and whatever stands beside it asks nothing (core, section 8)
+  abbrev pub object_asks : Option Json → (Json → Bool) → (Json → Document → Bool) → Members → Document → Bool
+  object_asks (Some r) here below ms J = if_there false here (target (word r))
+  object_asks None here below ms J = asks_keywords matches here below ms J
+
+  -- what a schema asks of a document. `here` tells which schemas the document itself meets, `below` which ones its
+  -- elements and members meet, and its names as strings
+  abbrev pub asks : (here : Json → Bool) (below : Json → Document → Bool) → Json → Document → Bool
+  asks here below (boolean b) J = b
+  asks here below (object ms) J = object_asks (lookup (codes "$ref") ms) here below ms J
+  asks here below _ J = false
