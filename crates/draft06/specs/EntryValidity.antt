@@ -44,8 +44,8 @@ module _ (matches : List ℕ → List ℕ → Bool) (here : ℕ → Bool) (below
   -- of every document
   abbrev pub asks_any : Document → Bool
   asks_any J =
-      meets (some (same_document J)) k.enumeration  -- 6.23
-      && meets (same_document J) k.constant  -- 6.24
+      meets (some (λ d. same_document d J)) k.enumeration  -- 6.23
+      && meets (λ d. same_document d J) k.constant  -- 6.24
       && meets (some (has_type J)) k.types  -- 6.25
       && meets (every here) k.all_of  -- 6.26
       && meets (some here) k.any_of  -- 6.27
