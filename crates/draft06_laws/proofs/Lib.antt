@@ -1,3 +1,5 @@
 pub mod Lists
 pub mod EntryLocal
 pub mod EntryLaws
+pub mod ValueTests
+pub mod TypeNames

@@ -1,0 +1,77 @@
+-- What a field of an entry asks is what its value asks: types, values, and counts.
+use Rattle.std.proofs.Common.{◌≡◌, ℕ, zero, suc, ℤ, pos, negsuc, int_le, List, [], ◌∷◌, ◌++◌, map, filter_map, Bool, true, false, ◌&&◌, ◌||◌, nat_le, cond, Option, Some, None, codes, refl, ap, ap₂, sym, subst, ◌∙◌}
+use Rattle.std.proofs.lemmas.Bool.{and_parts}
+use Rattle.std.proofs.lemmas.Option.{none-some}
+use Rattle.documents.specs.Tests.{every, some, same_word}
+use Rattle.documents.specs.Kind.{Kind, Null, Boolean, Number, Text, Array, Object, all_kinds, same_kind}
+use Rattle.documents.specs.Json as J
+use Rattle.documents.specs.Document as D
+use Rattle.documents.specs.Measures.{same_document, same_items, same_members}
+use Rattle.schemas.specs.Places.{Pointer, index_token}
+use Rattle.schemas.specs.Fault.{Rules, first_not_whole, not_whole_among, not_whole_in, held_fault, unless, count_fault, Negative}
+use Rattle.schemas.specs.Entry.{TypeName}
+use Rattle.schemas.specs.Entries.{document_of, items_of, members_of, listed, word, whole, natural, type_named, types_of}
+use Rattle.schemas.specs.Schema.{if_there}
+use Rattle.schema_laws.proofs.Faultless.{neither}
+use Rattle.schema_laws.proofs.Pointers.{same_word-eq}
+use Rattle.draft06.specs.Equality.{is_equal, are_equal, have_equal}
+use Rattle.draft06.specs.Validity.{names_kind, type_names}
+use Rattle.draft06.specs.EntryValidity.{kind_named, has_type}
+use Rattle.draft06_laws.proofs.Lists.{both}
+
+-- ---- values of `const` and `enum`, which have whole numbers alone
+
+mutual
+  pub is_equal-document_of : (p : Pointer) (v : J.Json) (K : D.Document) → first_not_whole p v ≡ None
+      → same_document (document_of v) K ≡ is_equal v K
+  is_equal-document_of p J.null D.null h = refl
+  is_equal-document_of p J.null _ h = refl
+  is_equal-document_of p (J.boolean b) (D.boolean c) h = refl
+  is_equal-document_of p (J.boolean b) _ h = refl
+  is_equal-document_of p (J.number n) (D.number m) h = refl
+  is_equal-document_of p (J.number n) _ h = refl
+  is_equal-document_of p J.not_whole K h = absurd (none-some p (sym h))
+  is_equal-document_of p (J.string w) (D.string x) h = refl
+  is_equal-document_of p (J.string w) _ h = refl
+  is_equal-document_of p (J.array vs) (D.array ds) h = are_equal-items_of p 0 vs ds h
+  is_equal-document_of p (J.array vs) _ h = refl
+  is_equal-document_of p (J.object ms) (D.object ns) h = have_equal-members_of p ms ns h
+  is_equal-document_of p (J.object ms) _ h = refl
+
+  are_equal-items_of : (p : Pointer) (i : ℕ) (vs : J.Items) (ds : D.Items) → not_whole_among p i vs ≡ None
+      → same_items (items_of vs) ds ≡ are_equal vs ds
+  are_equal-items_of p i J.no_items D.no_items h = refl
+  are_equal-items_of p i J.no_items (D.item d ds) h = refl
+  are_equal-items_of p i (J.item v vs) D.no_items h = refl
+  are_equal-items_of p i (J.item v vs) (D.item d ds) h =
+      let parts = neither (first_not_whole (p ++ index_token i ∷ []) v) (not_whole_among p (suc i) vs) h in
+      both (is_equal-document_of (p ++ index_token i ∷ []) v d parts.0) (are_equal-items_of p (suc i) vs ds parts.1)
+
+  have_equal-members_of : (p : Pointer) (ms : J.Members) (ns : D.Members) → not_whole_in p ms ≡ None
+      → same_members (members_of ms) ns ≡ have_equal ms ns
+  have_equal-members_of p J.no_members D.no_members h = refl
+  have_equal-members_of p J.no_members (D.member l d ns) h = refl
+  have_equal-members_of p (J.member k v ms) D.no_members h = refl
+  have_equal-members_of p (J.member k v ms) (D.member l d ns) h =
+      let parts = neither (first_not_whole (p ++ k ∷ []) v) (not_whole_in p ms) h in
+      both (ap (λ b. same_word k l && b) (is_equal-document_of (p ++ k ∷ []) v d parts.0))
+      (have_equal-members_of p ms ns parts.1)
+
+-- ---- counts, which are not below 0
+
+module _ {P R : Type 0} (rules : Rules P R) (k : List ℕ) (p : Pointer) where
+  pub at_most_count : (l : ℕ) (v : J.Json) → count_fault rules k p v ≡ None
+      → nat_le l (natural v) ≡ int_le (pos l) (whole v)
+  at_most_count l (J.number (pos n)) h = refl
+  at_most_count l (J.number (negsuc n)) h =
+      let parts = neither (held_fault rules p (negsuc n)) (Some (Negative p)) h in absurd (none-some _ (sym parts.1))
+  at_most_count l J.not_whole h = absurd (none-some _ (sym h))
+  at_most_count l _ h = absurd (none-some _ (sym h))
+
+  pub at_least_count : (l : ℕ) (v : J.Json) → count_fault rules k p v ≡ None
+      → nat_le (natural v) l ≡ int_le (whole v) (pos l)
+  at_least_count l (J.number (pos n)) h = refl
+  at_least_count l (J.number (negsuc n)) h =
+      let parts = neither (held_fault rules p (negsuc n)) (Some (Negative p)) h in absurd (none-some _ (sym parts.1))
+  at_least_count l J.not_whole h = absurd (none-some _ (sym h))
+  at_least_count l _ h = absurd (none-some _ (sym h))
