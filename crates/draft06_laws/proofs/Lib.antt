@@ -3,3 +3,5 @@ pub mod EntryLocal
 pub mod EntryLaws
 pub mod ValueTests
 pub mod TypeNames
+pub mod SubSchemas
+pub mod KeywordsLaw

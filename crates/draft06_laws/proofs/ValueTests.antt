@@ -1,6 +1,6 @@
 -- What a field of an entry asks is what its value asks: types, values, and counts.
-use Rattle.std.proofs.Common.{◌≡◌, ℕ, zero, suc, ℤ, pos, negsuc, int_le, List, [], ◌∷◌, ◌++◌, map, filter_map, Bool, true, false, ◌&&◌, ◌||◌, nat_le, cond, Option, Some, None, codes, refl, ap, ap₂, sym, subst, ◌∙◌}
-use Rattle.std.proofs.lemmas.Bool.{and_parts}
+use Rattle.std.proofs.Common.{◌≡◌, ℕ, zero, suc, ℤ, pos, negsuc, int_le, List, [], ◌∷◌, ◌++◌, map, filter_map, Bool, true, false, ◌&&◌, ◌||◌, nat_le, cond, Option, Some, None, option_map, codes, refl, ap, ap₂, sym, subst, ◌∙◌}
+use Rattle.std.specs.List.{AllByRecursion}
 use Rattle.std.proofs.lemmas.Option.{none-some}
 use Rattle.documents.specs.Tests.{every, some, same_word}
 use Rattle.documents.specs.Kind.{Kind, Null, Boolean, Number, Text, Array, Object, all_kinds, same_kind}
@@ -8,7 +8,7 @@ use Rattle.documents.specs.Json as J
 use Rattle.documents.specs.Document as D
 use Rattle.documents.specs.Measures.{same_document, same_items, same_members}
 use Rattle.schemas.specs.Places.{Pointer, index_token}
-use Rattle.schemas.specs.Fault.{Rules, first_not_whole, not_whole_among, not_whole_in, held_fault, unless, count_fault, Negative}
+use Rattle.schemas.specs.Fault.{Rules, first_not_whole, not_whole_among, not_whole_in, held_fault, unless, count_fault, value_fault, values_fault, NotWhole, Negative}
 use Rattle.schemas.specs.Entry.{TypeName}
 use Rattle.schemas.specs.Entries.{document_of, items_of, members_of, listed, word, whole, natural, type_named, types_of}
 use Rattle.schemas.specs.Schema.{if_there}
@@ -17,7 +17,7 @@ use Rattle.schema_laws.proofs.Pointers.{same_word-eq}
 use Rattle.draft06.specs.Equality.{is_equal, are_equal, have_equal}
 use Rattle.draft06.specs.Validity.{names_kind, type_names}
 use Rattle.draft06.specs.EntryValidity.{kind_named, has_type}
-use Rattle.draft06_laws.proofs.Lists.{both}
+use Rattle.draft06_laws.proofs.Lists.{both, some_same, some-map}
 
 -- ---- values of `const` and `enum`, which have whole numbers alone
 
@@ -56,6 +56,30 @@ mutual
       let parts = neither (first_not_whole (p ++ k ∷ []) v) (not_whole_in p ms) h in
       both (ap (λ b. same_word k l && b) (is_equal-document_of (p ++ k ∷ []) v d parts.0))
       (have_equal-members_of p ms ns parts.1)
+
+-- no fault is left out
+none_mapped : {A B : Type 0} (f : A → B) (o : Option A) → option_map f o ≡ None → o ≡ None
+none_mapped f None h = refl
+none_mapped f (Some x) h = absurd (none-some (f x) (sym h))
+
+equal_among : (p : Pointer) (i : ℕ) (vs : J.Items) (K : D.Document) → not_whole_among p i vs ≡ None
+    → AllByRecursion (λ v. same_document (document_of v) K ≡ is_equal v K) (J.elements vs)
+equal_among p i J.no_items K h = tt
+equal_among p i (J.item v vs) K h =
+    let parts = neither (first_not_whole (p ++ index_token i ∷ []) v) (not_whole_among p (suc i) vs) h in
+    (is_equal-document_of (p ++ index_token i ∷ []) v K parts.0, equal_among p (suc i) vs K parts.1)
+
+module _ {P R : Type 0} (rules : Rules P R) (k : List ℕ) (p : Pointer) (K : D.Document) where
+  pub value_same : (v : J.Json) → value_fault rules p v ≡ None → same_document (document_of v) K ≡ is_equal v K
+  value_same v h = is_equal-document_of p v K (none_mapped NotWhole (first_not_whole p v) h)
+
+  pub values_same : (v : J.Json) → values_fault rules k p v ≡ None
+      → some (λ d. same_document d K) (map document_of (listed v)) ≡ some (λ w. is_equal w K) (listed v)
+  values_same (J.array vs) h =
+      some-map (λ d. same_document d K) document_of (J.elements vs)
+      ∙ some_same (λ v. same_document (document_of v) K) (λ w. is_equal w K) (J.elements vs)
+      (equal_among p 0 vs K (none_mapped NotWhole (first_not_whole p (J.array vs)) h))
+  values_same _ h = refl
 
 -- ---- counts, which are not below 0
 
