@@ -8,6 +8,9 @@ use Rattle.documents.specs.Document.{Document, is_document, kind_of}
 use Rattle.documents.specs.Json.{Json, boolean, number, string, array, object, Members, elements, lookup, count}
 use Rattle.documents.specs.Measures.{exactly_one, is_multiple, at_number, at_string, at_array, at_object, meets_in_order, has_name, every_in}
 use Rattle.levels.specs.Levels.{is_met}
+use Rattle.schemas.specs.Places.{Pointer, value_at}
+use Rattle.schemas.specs.Fault.{Rules}
+use Rattle.schemas.specs.Walk.{root_id}
 use Rattle.schemas.specs.Schema.{if_there, meets}
 use Rattle.schemas.specs.Entries.{listed, members, word, whole}
 use Rattle.draft06.specs.Equality.{is_equal}
@@ -120,3 +123,22 @@ module _ (matches : List ℕ → List ℕ → Bool) (target : List ℕ → Optio
   asks here below (boolean b) J = b
   asks here below (object ms) J = object_asks (lookup (codes "$ref") ms) here below ms J
   asks here below _ J = false
+
+module _ {P R : Type 0} (matches : List ℕ → List ℕ → Bool) (rules : Rules P R) (root : Json) where
+  -- the value at a place, where a reference leads to one
+  abbrev pub value_referred : Result Pointer R → Option Json
+  value_referred (Ok q) = value_at q root
+  value_referred (Err e) = None
+
+  -- the value in the file to which the reference with that text leads
+  abbrev pub target : List ℕ → Option Json
+  target w = value_referred (rules.target root w (root_id root))
+
+  -- the document is valid for a schema of the file, with less than n steps from schema to schema at one document
+  abbrev pub valid_within : ℕ → Json → Document → Bool
+  valid_within n s J = is_met (asks matches target) n s J
+
+  -- the document is valid for the schema that the file's value is. As many steps in place as the file has values are
+  -- more than a schema without a circle in place needs
+  unfoldable pub valid : Document → Bool
+  valid J = valid_within (suc (count root)) root J

@@ -59,7 +59,7 @@ module _ (matches : List ℕ → List ℕ → Bool) (es : List Entry) (table : i
           (every (λ i. nat_lt i (length es)) (of_parts (form_at es e))) (names_entries e) in
       all_below (length es) (in_place (form_at es e)) parts.0
 
-  parts_below : (e : ℕ) → AllByRecursion IsEntry (of_parts (form_at es e))
+  pub parts_below : (e : ℕ) → AllByRecursion IsEntry (of_parts (form_at es e))
   parts_below e =
       let parts = and_parts (every (λ i. nat_lt i (length es)) (in_place (form_at es e)))
           (every (λ i. nat_lt i (length es)) (of_parts (form_at es e))) (names_entries e) in

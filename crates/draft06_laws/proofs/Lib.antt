@@ -5,3 +5,5 @@ pub mod ValueTests
 pub mod TypeNames
 pub mod SubSchemas
 pub mod KeywordsLaw
+pub mod PlaceForms
+pub mod ValidityLaws
