@@ -8,7 +8,8 @@ use Rattle.documents.specs.Document.{Document, is_document, kind_of}
 use Rattle.documents.specs.Json.{Json, boolean, number, string, array, object, Members, elements, lookup, count}
 use Rattle.documents.specs.Measures.{exactly_one, is_multiple, at_number, at_string, at_array, at_object, meets_in_order, has_name, every_in}
 use Rattle.levels.specs.Levels.{is_met}
-use Rattle.schemas.specs.Places.{Pointer, value_at}
+use Rattle.documents.specs.Place.{value_at}
+use Rattle.schemas.specs.Places.{Pointer}
 use Rattle.schemas.specs.Fault.{Rules}
 use Rattle.schemas.specs.Walk.{root_id}
 use Rattle.schemas.specs.Schema.{if_there, meets}

@@ -7,3 +7,4 @@ pub mod SubSchemas
 pub mod KeywordsLaw
 pub mod PlaceForms
 pub mod ValidityLaws
+pub mod RankLaws

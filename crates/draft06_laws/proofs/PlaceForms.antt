@@ -12,7 +12,7 @@ use Rattle.schemas.specs.Entries.{number_of, referred_form, reference_form, obje
 use Rattle.schemas.specs.Schema.{if_there}
 use Rattle.schema_laws.specs.Values.{IsIn, names_differ}
 use Rattle.schema_laws.specs.Sound.{IsSound}
-use Rattle.schema_laws.proofs.NamesLaws.{names_differ-well_formed}
+use Rattle.schema_laws.proofs.NamesLaws.{names_differ-is_json}
 use Rattle.schema_laws.proofs.Faultless.{faultless}
 use Rattle.schema_laws.proofs.KeywordLaws.{reference-number}
 use Rattle.draft06.specs.Validity as V
@@ -73,7 +73,7 @@ module _ {P R : Type 0} (matches : List ℕ → List ℕ → Bool) (rules : Rule
   asks_at c J = E.asks matches (λ e. here (at e)) (λ e. below (at e)) (form_at rules root entry_of c) J
 
   differ : names_differ root ≡ true
-  differ = names_differ-well_formed root sound.well_formed
+  differ = names_differ-is_json root sound.well_formed
 
   -- a reference
   referred_asks : (p : Pointer) (ms : Members) (w : List ℕ) (K : Document) → IsIn (p, object ms) (places rules root)
