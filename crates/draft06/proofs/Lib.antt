@@ -1,1 +1,5 @@
-mod EntryExamples
+mod ExampleVerdicts
+mod ArrayExamples
+mod ObjectExamples
+mod ScalarExamples
+mod InPlaceExamples

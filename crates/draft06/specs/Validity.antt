@@ -1,11 +1,11 @@
 -- When a document is valid for a schema, read off the schema's JSON value (JSON Schema validation, draft-06), and when
 -- one schema includes another. The section of the standard stands beside each keyword.
-use Rattle.std.specs.Prelude.{ℕ, suc, ◌≡◌, ℤ, pos, int_le, int_lt, nat_abs, List, [], ◌∷◌, map, length, drop, Bool, true, false, ◌&&◌, ◌||◌, not, Option, Some, None, Result, Ok, Err, option_and_then, codes}
+use Rattle.std.specs.Prelude.{ℕ, suc, ℤ, pos, int_le, int_lt, nat_abs, List, [], map, length, drop, Bool, true, false, ◌&&◌, ◌||◌, not, Option, Some, None, Result, Ok, Err, codes}
 use Rattle.documents.specs.Tests.{every, some, same_word}
 use Rattle.documents.specs.Kind.{Kind, Null, Boolean, Number, Text, Array, Object}
 use Rattle.documents.specs.Document as D
 use Rattle.documents.specs.Document.{Document, is_document, kind_of}
-use Rattle.documents.specs.Json.{Json, boolean, number, string, array, object, Members, elements, lookup, count}
+use Rattle.documents.specs.Json.{Json, boolean, array, object, Members, elements, lookup, count}
 use Rattle.documents.specs.Measures.{exactly_one, is_multiple, at_number, at_string, at_array, at_object, meets_in_order, has_name, every_in}
 use Rattle.levels.specs.Levels.{is_met}
 use Rattle.documents.specs.Place.{value_at}
@@ -15,7 +15,7 @@ use Rattle.schemas.specs.Walk.{root_id}
 use Rattle.schemas.specs.Schema.{if_there, meets}
 use Rattle.schemas.specs.Entries.{listed, members, word, whole}
 use Rattle.draft06.specs.Equality.{is_equal}
-use Rattle.draft06.specs.Names.{keys, is_additional}
+use Rattle.draft06.specs.Names.{is_additional}
 
 -- a name of the instance's kind; numbers are whole here, so `integer` and `number` are one kind
 abbrev pub names_kind : List ℕ → Kind → Bool
@@ -94,14 +94,14 @@ module _ (matches : List ℕ → List ℕ → Bool) (here : Json → Bool) (belo
       && meets (λ v. int_le (whole v) (pos (length ns))) (lookup (codes "minProperties") ms)  -- 6.16
       && meets (λ v. every (λ w. has_name (word w) ns) (listed v)) (lookup (codes "required") ms)  -- 6.17
       && meets (λ v. every (λ p. every_in (same_word p.0) (below p.1) ns) (members v))
-          (lookup (codes "properties") ms)  -- 6.18
+      (lookup (codes "properties") ms)  -- 6.18
       && meets (λ v. every (λ p. every_in (matches p.0) (below p.1) ns) (members v))
-          (lookup (codes "patternProperties") ms)  -- 6.19
+      (lookup (codes "patternProperties") ms)  -- 6.19
       && meets (λ s. every_in (is_additional matches (names_in (lookup (codes "properties") ms))
-          (names_in (lookup (codes "patternProperties") ms))) (below s) ns)
-          (lookup (codes "additionalProperties") ms)  -- 6.20
+      (names_in (lookup (codes "patternProperties") ms))) (below s) ns)
+      (lookup (codes "additionalProperties") ms)  -- 6.20
       && meets (λ v. every (λ p. not (has_name p.0 ns) || need_asks here p.1 ns) (members v))
-          (lookup (codes "dependencies") ms)  -- 6.21
+      (lookup (codes "dependencies") ms)  -- 6.21
       && meets (λ s. every (λ n. below s (D.string n.0)) ns) (lookup (codes "propertyNames") ms)  -- 6.22
 
   -- keywords of one kind of document ask nothing of other kinds, and other members ask nothing; a schema with

@@ -1,5 +1,5 @@
 -- Validity over the entries of a table with ranks keeps its one-step equation, and is the only meaning that does.
-use Rattle.std.proofs.Common.{◌≡◌, ℕ, zero, suc, ◌<◌, ◌≤◌, List, [], ◌∷◌, length, Bool, true, false, ◌&&◌, nat_lt, nat_le, refl, ap, sym, ◌∙◌, arith}
+use Rattle.std.proofs.Common.{◌≡◌, ℕ, zero, suc, ◌<◌, ◌≤◌, List, [], ◌∷◌, length, Bool, true, false, nat_lt, nat_le, refl, ap, sym, ◌∙◌, arith}
 use Rattle.std.proofs.lemmas.Bool.{and_parts}
 use Rattle.std.specs.List.{AllByRecursion}
 use Rattle.documents.specs.Tests.{every}
@@ -9,7 +9,7 @@ use Rattle.levels.specs.Within.{RankedWithin, AreAlike}
 use Rattle.levels.proofs.LevelsLaws.{weaker}
 use Rattle.levels.proofs.WithinLaws.{is_met-more, is_met-within, is_met-only}
 use Rattle.schemas.specs.Weight.{most_weight}
-use Rattle.schemas.specs.Entry.{Form, Never, Entry}
+use Rattle.schemas.specs.Entry.{Never, Entry}
 use Rattle.schemas.specs.Schema.{in_place, of_parts, names_below, form_in_range, total_size, is_table}
 use Rattle.draft06.specs.EntryValidity.{asks, form_at, entry_valid}
 use Rattle.draft06_laws.specs.Ranks.{FallInPlace}
@@ -24,7 +24,8 @@ all_below n (e ∷ es) h =
 form_below : (n : ℕ) (es : List Entry) (e : ℕ) → every (λ e. names_below n e.form) es ≡ true
     → names_below n (form_at es e) ≡ true
 form_below n [] e h = refl
-form_below n (f ∷ fs) zero h = let parts = and_parts (names_below n f.form) (every (λ e. names_below n e.form) fs) h in parts.0
+form_below n (f ∷ fs) zero h =
+    let parts = and_parts (names_below n f.form) (every (λ e. names_below n e.form) fs) h in parts.0
 form_below n (f ∷ fs) (suc e) h =
     let parts = and_parts (names_below n f.form) (every (λ e. names_below n e.form) fs) h in form_below n fs e parts.1
 
@@ -56,13 +57,13 @@ module _ (matches : List ℕ → List ℕ → Bool) (es : List Entry) (table : i
   in_place_below : (e : ℕ) → AllByRecursion IsEntry (entries_in_place e)
   in_place_below e =
       let parts = and_parts (every (λ i. nat_lt i (length es)) (in_place (form_at es e)))
-          (every (λ i. nat_lt i (length es)) (of_parts (form_at es e))) (names_entries e) in
+      (every (λ i. nat_lt i (length es)) (of_parts (form_at es e))) (names_entries e) in
       all_below (length es) (in_place (form_at es e)) parts.0
 
   pub parts_below : (e : ℕ) → AllByRecursion IsEntry (of_parts (form_at es e))
   parts_below e =
       let parts = and_parts (every (λ i. nat_lt i (length es)) (in_place (form_at es e)))
-          (every (λ i. nat_lt i (length es)) (of_parts (form_at es e))) (names_entries e) in
+      (every (λ i. nat_lt i (length es)) (of_parts (form_at es e))) (names_entries e) in
       all_below (length es) (of_parts (form_at es e)) parts.1
 
   pub local : AreAlike entry_asks entry_asks (λ e. e) IsEntry entries_in_place

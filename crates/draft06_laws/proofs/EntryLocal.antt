@@ -1,10 +1,10 @@
 -- What a form asks of a document depends only on what the entries that it names in place say of the document, and on
 -- what those that it names for parts say of lesser documents.
-use Rattle.std.proofs.Common.{◌≡◌, ℕ, zero, suc, ◌<◌, List, [], ◌∷◌, ◌++◌, length, drop, Bool, true, false, ◌&&◌, ◌||◌, not, Option, Some, None, refl, ap, arith}
+use Rattle.std.proofs.Common.{◌≡◌, ℕ, ◌<◌, List, [], ◌∷◌, ◌++◌, length, drop, Bool, ◌&&◌, ◌||◌, not, Option, Some, None, refl, ap, arith}
 use Rattle.std.specs.List.{AllByRecursion}
 use Rattle.documents.specs.Tests.{every, some, same_word}
 use Rattle.documents.specs.Document.{Document, null, boolean, number, string, array, object, elements, entries, depth}
-use Rattle.documents.specs.Measures.{exactly_one, at_array, at_object, meets_in_order, has_name, every_in}
+use Rattle.documents.specs.Measures.{meets_in_order, has_name, every_in}
 use Rattle.levels.proofs.LevelsLaws.{weaker}
 use Rattle.schemas.specs.Entry.{ItemsPart, Each, Listed, Needs, Names, Whole, Keywords, Form, Always, Never, Ref, Asks}
 use Rattle.schemas.specs.Schema.{lists, meets, one, all, of_items, of_names, of_needs, in_place, of_parts}
@@ -24,7 +24,8 @@ in_place_of : (P : ℕ → Type 0) (k : Keywords) → AllByRecursion P (in_place
 in_place_of P k h =
     let four = lists all k.all_of ++ lists all k.any_of ++ lists all k.one_of ++ lists one k.not in
     let last = all_halves P four (lists of_needs k.dependencies) h in
-    let fourth = all_halves P (lists all k.all_of ++ lists all k.any_of ++ lists all k.one_of) (lists one k.not) last.0 in
+    let three = lists all k.all_of ++ lists all k.any_of ++ lists all k.one_of in
+    let fourth = all_halves P three (lists one k.not) last.0 in
     let third = all_halves P (lists all k.all_of ++ lists all k.any_of) (lists all k.one_of) fourth.0 in
     let second = all_halves P (lists all k.all_of) (lists all k.any_of) third.0 in
     record {
@@ -96,7 +97,8 @@ module _ (matches : List ℕ → List ℕ → Bool) (here here' : ℕ → Bool) 
     later_element : (m e : ℕ) → Below n e → every (below e) (drop m ds) ≡ every (below' e) (drop m ds)
     later_element m e b = every_same (below e) (below' e) (drop m ds) (all_drop _ m ds (on_each e b))
 
-    rest_same : (items : Option ItemsPart) (e : ℕ) → Below n e → rest_asks below items e ds ≡ rest_asks below' items e ds
+    rest_same : (items : Option ItemsPart) (e : ℕ) → Below n e
+        → rest_asks below items e ds ≡ rest_asks below' items e ds
     rest_same None e b = refl
     rest_same (Some (Each f)) e b = refl
     rest_same (Some (Listed es)) e b = later_element (length es) e b
@@ -114,7 +116,8 @@ module _ (matches : List ℕ → List ℕ → Bool) (here here' : ℕ → Bool) 
 
   -- ---- members
 
-  module _ (n : ℕ) (ms : List (List ℕ × Document)) (less : AllByRecursion (λ m. depth m.1 < n) ms) (some_depth : 0 < n) where
+  module _ (n : ℕ) (ms : List (List ℕ × Document)) (less : AllByRecursion (λ m. depth m.1 < n) ms)
+      (some_depth : 0 < n) where
     every_in_same : (set : List ℕ → Bool) (e : ℕ) → Below n e
         → every_in set (below e) ms ≡ every_in set (below' e) ms
     every_in_same set e b =

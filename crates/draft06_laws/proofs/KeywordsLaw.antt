@@ -1,5 +1,5 @@
 -- The keywords of an object ask the same as the entry that they are read as, keyword by keyword.
-use Rattle.std.proofs.Common.{◌≡◌, ℕ, ℤ, nat_abs, int_le, int_lt, pos, nat_le, List, [], ◌∷◌, ◌++◌, length, map, inl, Bool, true, false, ◌&&◌, ◌||◌, not, cond, Option, Some, None, option_map, option_and_then, codes, slice_get, refl, ap, sym, subst, ◌∙◌}
+use Rattle.std.proofs.Common.{◌≡◌, ℕ, ℤ, int_le, int_lt, pos, nat_le, List, [], ◌∷◌, ◌++◌, length, map, inl, Bool, true, not, cond, Option, Some, None, option_map, codes, slice_get, refl, ap, sym, subst, ◌∙◌}
 use Rattle.documents.specs.Tests.{every, some, same_word}
 use Rattle.documents.specs.Document.{Document, null, boolean, number, string, array, object}
 use Rattle.documents.specs.Document as D
@@ -13,7 +13,7 @@ use Rattle.schemas.specs.Fault.{Rules, keyword_fault}
 use Rattle.schemas.specs.Walk.{places}
 use Rattle.schemas.specs.Reading.{id_fault, shape_fault, fault_at}
 use Rattle.schemas.specs.Entry.{Keywords}
-use Rattle.schemas.specs.Entries.{number_of, document_of, listed, members, word, whole, natural, types_of, field, one_number, list_numbers, items_part, named_numbers, all_needs, rest_number, keywords_of}
+use Rattle.schemas.specs.Entries.{number_of, document_of, listed, word, whole, natural, types_of, field, one_number, list_numbers, items_part, named_numbers, all_needs, keywords_of}
 use Rattle.schemas.specs.Schema.{meets}
 use Rattle.schema_laws.specs.Values.{IsIn, names_differ}
 use Rattle.schema_laws.proofs.Shapes.{IsShaped, is_shaped, read_shape-of}
@@ -37,8 +37,9 @@ value_there (Some c) = c.1
 abbrev pub value_of_entry : List Place → ℕ → Json
 value_of_entry cs e = value_there (slice_get cs e)
 
-module _ {P R : Type 0} (rules : Rules P R) (root : Json) (differ : names_differ root ≡ true) (p : Pointer) (ms : Members)
-    (there : IsIn (p, J.object ms) (places rules root)) (none : fault_at rules root (p, J.object ms) ≡ None)
+module _ {P R : Type 0} (rules : Rules P R) (root : Json) (differ : names_differ root ≡ true) (p : Pointer)
+    (ms : Members) (there : IsIn (p, J.object ms) (places rules root))
+    (none : fault_at rules root (p, J.object ms) ≡ None)
     (plain : lookup (codes "$ref") ms ≡ None)
     (matches : List ℕ → List ℕ → Bool) (here : Json → Bool) (below : Json → Document → Bool) where
   abbrev entry_of : Pointer → ℕ
@@ -58,7 +59,8 @@ module _ {P R : Type 0} (rules : Rules P R) (root : Json) (differ : names_differ
 
   -- ---- what is known of a keyword's value
 
-  leads : (k : List ℕ) (v : Json) → lookup k ms ≡ Some v → Lead entry_of at (in_member (read_shape ms k) (p ++ k ∷ []) v)
+  leads : (k : List ℕ) (v : Json) → lookup k ms ≡ Some v
+      → Lead entry_of at (in_member (read_shape ms k) (p ++ k ∷ []) v)
   leads k v h c i = ap value_there (keyword-number rules root p ms k v c differ there plain h i)
 
   keyword_leads : (k : List ℕ) (S : Shape) → IsShaped k S → (v : Json) → lookup k ms ≡ Some v

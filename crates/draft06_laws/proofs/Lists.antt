@@ -1,9 +1,9 @@
 -- Tests of lists that ask the same.
-use Rattle.std.proofs.Common.{◌≡◌, ℕ, zero, suc, ◌<◌, List, [], ◌∷◌, ◌++◌, map, drop, Bool, true, false, ◌&&◌, ◌||◌, not, cond, Option, Some, None, refl, ap, ap₂, ◌∙◌, arith}
+use Rattle.std.proofs.Common.{◌≡◌, ℕ, zero, suc, ◌<◌, List, [], ◌∷◌, ◌++◌, map, drop, Bool, ◌&&◌, ◌||◌, not, cond, Option, Some, None, refl, ap, ap₂, ◌∙◌, arith}
 use Rattle.std.specs.List.{AllByRecursion}
 use Rattle.documents.specs.Tests.{every, some}
-use Rattle.documents.specs.Document.{Document, array, object, Items, no_items, item, Members, no_members, member, elements, entries, items_depth, members_depth, depth}
-use Rattle.documents.specs.Measures.{exactly_one, meets_in_order, every_in}
+use Rattle.documents.specs.Document.{Items, no_items, item, Members, no_members, member, elements, entries, items_depth, members_depth, depth}
+use Rattle.documents.specs.Measures.{exactly_one}
 use Rattle.schemas.specs.Schema.{lists, meets}
 
 pub both : {a a' b b' : Bool} → a ≡ a' → b ≡ b' → (a && b) ≡ (a' && b')

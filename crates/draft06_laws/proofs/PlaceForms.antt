@@ -5,10 +5,10 @@ use Rattle.documents.specs.Document.{Document}
 use Rattle.documents.specs.Json.{Json, null, boolean, number, not_whole, string, array, object, Members, lookup, count}
 use Rattle.schemas.specs.Places.{Pointer, Place}
 use Rattle.schemas.specs.Fault.{Rules}
-use Rattle.schemas.specs.Walk.{root_id, next_of, go_on, children, walk, places}
-use Rattle.schemas.specs.Reading.{target_fault, reference_fault, object_fault, fault_at, first_fault}
+use Rattle.schemas.specs.Walk.{root_id, next_of, go_on, walk, places}
+use Rattle.schemas.specs.Reading.{reference_fault, object_fault, first_fault}
 use Rattle.schemas.specs.Entry.{Entry}
-use Rattle.schemas.specs.Entries.{number_of, referred_form, reference_form, object_form, form_at, entry_at, entries_at}
+use Rattle.schemas.specs.Entries.{number_of, referred_form, reference_form, object_form, form_at}
 use Rattle.schemas.specs.Schema.{if_there}
 use Rattle.schema_laws.specs.Values.{IsIn, names_differ}
 use Rattle.schema_laws.specs.Sound.{IsSound}

@@ -1,14 +1,13 @@
 -- What the numbers of a keyword's schemas ask is what the schemas ask, where each number leads to its schema.
-use Rattle.std.proofs.Common.{◌≡◌, ℕ, zero, suc, List, [], ◌∷◌, ◌++◌, map, length, drop, Bool, true, false, ◌&&◌, ◌||◌, not, inl, inr, Option, Some, None, option_map, option_and_then, refl, ap, ap₂, sym, ◌∙◌}
+use Rattle.std.proofs.Common.{◌≡◌, ℕ, suc, List, [], ◌∷◌, ◌++◌, map, length, drop, Bool, ◌&&◌, ◌||◌, not, inl, inr, Option, Some, None, option_map, option_and_then, refl, ap, ap₂, sym, ◌∙◌}
 use Rattle.std.proofs.Math.ListN.{length-map}
-use Rattle.documents.specs.Tests.{every, some, same_word}
+use Rattle.documents.specs.Tests.{every, some}
 use Rattle.documents.specs.Document.{Document}
-use Rattle.documents.specs.Document as D
 use Rattle.documents.specs.Json.{Json, array, object, Items, no_items, item, Members, no_members, member, elements, entries}
 use Rattle.documents.specs.Measures.{exactly_one, meets_in_order, has_name, every_in}
 use Rattle.schemas.specs.Places.{Pointer, Place, elements_under}
 use Rattle.schemas.specs.SubSchemas.{in_list, in_list_or_one, members_under, in_map, unless_list, needs_under, in_needs}
-use Rattle.schemas.specs.Entry.{ItemsPart, Each, Listed, Needs, Names, Whole}
+use Rattle.schemas.specs.Entry.{Needs}
 use Rattle.schemas.specs.Entries.{listed, members, word, one_number, list_numbers, items_part, named_numbers, needs_of, all_needs, rest_number}
 use Rattle.schemas.specs.Schema.{meets}
 use Rattle.schema_laws.specs.Values.{IsIn}
@@ -37,7 +36,8 @@ module _ (entry_of : Pointer → ℕ) (at : ℕ → Json) where
     one_at v h = h _ (inl refl)
 
     named_at : (ms : Members) → Lead (members_under (p ++ k ∷ []) ms)
-        → map (λ (n : List ℕ × ℕ). (n.0, at n.1)) (map (λ m. (m.0, entry_of ((p ++ k ∷ []) ++ m.0 ∷ []))) (entries ms)) ≡ entries ms
+        → map (λ (n : List ℕ × ℕ). (n.0, at n.1)) (map (λ m. (m.0, entry_of ((p ++ k ∷ []) ++ m.0 ∷ []))) (entries ms))
+        ≡ entries ms
     named_at no_members h = refl
     named_at (member w v ms) h =
         ap₂ (λ x xs. (w, x) ∷ xs) (h _ (inl refl)) (named_at ms (λ c m. h c (inr m)))
@@ -79,7 +79,8 @@ module _ (entry_of : Pointer → ℕ) (at : ℕ → Json) where
         both (ap (λ b. not (has_name w ns) || b) first.0) (needs_at_members ns ms first.1)
 
     pub needs_at : (ns : List (List ℕ × Document)) (v : Json) → Lead (in_needs (p ++ k ∷ []) v)
-        → every (λ (n : List ℕ × Needs). not (has_name n.0 ns) || E.need_asks (λ e. here (at e)) n.1 ns) (all_needs entry_of p k v)
+        → every (λ (n : List ℕ × Needs). not (has_name n.0 ns) || E.need_asks (λ e. here (at e)) n.1 ns)
+        (all_needs entry_of p k v)
         ≡ every (λ (m : List ℕ × Json). not (has_name m.0 ns) || V.need_asks here m.1 ns) (members v)
     needs_at ns (object ms) h = needs_at_members ns ms h
     needs_at ns _ h = refl

@@ -1,5 +1,5 @@
 -- The types that words are read as are the kinds that the words name.
-use Rattle.std.proofs.Common.{◌≡◌, ℕ, List, [], ◌∷◌, filter_map, Bool, true, false, ◌&&◌, ◌||◌, not, cond, Option, Some, None, codes, refl, ap, sym, subst, ◌∙◌}
+use Rattle.std.proofs.Common.{◌≡◌, ℕ, List, [], ◌∷◌, filter_map, Bool, true, false, ◌||◌, not, cond, Option, Some, None, codes, refl, ap, sym, subst, ◌∙◌}
 use Rattle.std.specs.List.{cons_option}
 use Rattle.std.proofs.lemmas.Bool.{and_parts}
 use Rattle.documents.specs.Tests.{every, some, same_word}

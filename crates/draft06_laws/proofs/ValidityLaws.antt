@@ -1,11 +1,9 @@
--- A document is valid for a schema exactly where it is valid for the first entry that the schema is read as, where ranks
--- of the entries fall in place; and more steps in place change nothing.
-use Rattle.std.proofs.Common.{◌≡◌, ℕ, zero, suc, ◌<◌, ◌≤◌, List, length, Bool, true, None, Some, slice_get, refl, ap, sym, subst, ◌∙◌, arith}
+-- A document is valid for a schema exactly where it is valid for the first entry that the schema is read as, where
+-- ranks of the entries fall in place; and more steps in place change nothing.
+use Rattle.std.proofs.Common.{◌≡◌, ℕ, suc, ◌<◌, ◌≤◌, List, length, Bool, true, None, Some, slice_get, ap, sym, subst, ◌∙◌, arith}
 use Rattle.std.proofs.Math.ListN.{length-map}
-use Rattle.std.specs.List.{AllByRecursion}
-use Rattle.documents.specs.Document.{Document, depth}
+use Rattle.documents.specs.Document.{Document}
 use Rattle.documents.specs.Json.{Json, count}
-use Rattle.levels.specs.Levels.{is_met}
 use Rattle.levels.specs.Within.{AreAlike}
 use Rattle.levels.proofs.LevelsLaws.{weaker}
 use Rattle.levels.proofs.WithinLaws.{is_met-alike}
@@ -13,9 +11,9 @@ use Rattle.schemas.specs.Places.{Place}
 use Rattle.schemas.specs.Fault.{Rules}
 use Rattle.schemas.specs.Walk.{places}
 use Rattle.schemas.specs.Reading.{first_fault}
-use Rattle.schemas.specs.Entry.{Form, Entry}
-use Rattle.schemas.specs.Entries.{number_of, form_at, entry_at, entries_at}
-use Rattle.schemas.specs.Schema.{in_place, of_parts, is_table}
+use Rattle.schemas.specs.Entry.{Entry}
+use Rattle.schemas.specs.Entries.{number_of, entry_at, entries_at}
+use Rattle.schemas.specs.Schema.{of_parts, is_table}
 use Rattle.schema_laws.specs.Sound.{IsSound}
 use Rattle.schema_laws.proofs.TableLaws.{is_table-length}
 use Rattle.schema_laws.proofs.TableLaw.{is_table-entries}
@@ -24,7 +22,7 @@ use Rattle.draft06.specs.Validity.{valid_within, valid}
 use Rattle.draft06.specs.EntryValidity as E
 use Rattle.draft06.specs.EntryValidity.{entry_valid}
 use Rattle.draft06_laws.specs.Ranks.{FallInPlace}
-use Rattle.draft06_laws.proofs.EntryLocal.{Here, Below, asks_same}
+use Rattle.draft06_laws.proofs.EntryLocal.{asks_same}
 use Rattle.draft06_laws.proofs.EntryLaws.{IsEntry, entry_asks, entries_in_place, parts_below, ranked}
 use Rattle.draft06_laws.proofs.KeywordsLaw.{value_there, value_of_entry}
 use Rattle.draft06_laws.proofs.PlaceForms.{place_numbered, form_numbered, length-places, first_place, place_asks}

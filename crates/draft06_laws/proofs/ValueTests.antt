@@ -1,22 +1,16 @@
 -- What a field of an entry asks is what its value asks: types, values, and counts.
-use Rattle.std.proofs.Common.{◌≡◌, ℕ, zero, suc, ℤ, pos, negsuc, int_le, List, [], ◌∷◌, ◌++◌, map, filter_map, Bool, true, false, ◌&&◌, ◌||◌, nat_le, cond, Option, Some, None, option_map, codes, refl, ap, ap₂, sym, subst, ◌∙◌}
+use Rattle.std.proofs.Common.{◌≡◌, ℕ, suc, pos, negsuc, int_le, List, [], ◌∷◌, ◌++◌, map, ◌&&◌, nat_le, Option, Some, None, option_map, refl, ap, sym, ◌∙◌}
 use Rattle.std.specs.List.{AllByRecursion}
 use Rattle.std.proofs.lemmas.Option.{none-some}
-use Rattle.documents.specs.Tests.{every, some, same_word}
-use Rattle.documents.specs.Kind.{Kind, Null, Boolean, Number, Text, Array, Object, all_kinds, same_kind}
+use Rattle.documents.specs.Tests.{some, same_word}
 use Rattle.documents.specs.Json as J
 use Rattle.documents.specs.Document as D
 use Rattle.documents.specs.Measures.{same_document, same_items, same_members}
 use Rattle.schemas.specs.Places.{Pointer, index_token}
-use Rattle.schemas.specs.Fault.{Rules, first_not_whole, not_whole_among, not_whole_in, held_fault, unless, count_fault, value_fault, values_fault, NotWhole, Negative}
-use Rattle.schemas.specs.Entry.{TypeName}
-use Rattle.schemas.specs.Entries.{document_of, items_of, members_of, listed, word, whole, natural, type_named, types_of}
-use Rattle.schemas.specs.Schema.{if_there}
+use Rattle.schemas.specs.Fault.{Rules, first_not_whole, not_whole_among, not_whole_in, held_fault, count_fault, value_fault, values_fault, NotWhole, Negative}
+use Rattle.schemas.specs.Entries.{document_of, items_of, members_of, listed, whole, natural}
 use Rattle.schema_laws.proofs.Faultless.{neither}
-use Rattle.schema_laws.proofs.Pointers.{same_word-eq}
 use Rattle.draft06.specs.Equality.{is_equal, are_equal, have_equal}
-use Rattle.draft06.specs.Validity.{names_kind, type_names}
-use Rattle.draft06.specs.EntryValidity.{kind_named, has_type}
 use Rattle.draft06_laws.proofs.Lists.{both, some_same, some-map}
 
 -- ---- values of `const` and `enum`, which have whole numbers alone

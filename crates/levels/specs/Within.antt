@@ -4,7 +4,8 @@ use Rattle.std.specs.List.{AllByRecursion}
 use Rattle.documents.specs.Document.{Document, depth}
 
 -- ranks of the conditions that are in, below the number of steps, which fall from each to those that it names in place
-pub record RankedWithin {M : Type 0} (IsIn : M → Type 0) (in_place : M → List M) (steps : ℕ) (rank : M → ℕ) : Type 0 where
+pub record RankedWithin {M : Type 0} (IsIn : M → Type 0) (in_place : M → List M) (steps : ℕ) (rank : M → ℕ)
+    : Type 0 where
   pub bounded : (p : M) → IsIn p → rank p < steps
   pub falls : (p : M) → IsIn p → AllByRecursion (λ q. rank q < rank p) (in_place p)
   pub closed : (p : M) → IsIn p → AllByRecursion IsIn (in_place p)
