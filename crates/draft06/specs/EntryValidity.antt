@@ -9,7 +9,7 @@ use Rattle.documents.specs.Measures.{exactly_one, is_multiple, at_number, at_str
 use Rattle.levels.specs.Levels.{is_met}
 use Rattle.schemas.specs.Entry.{TypeName, Null, Boolean, Object, Array, Number, Text, Integer, ItemsPart, Each, Listed, Needs, Names, Whole, Keywords, Form, Always, Never, Ref, Asks, Entry}
 use Rattle.schemas.specs.Schema.{meets}
-use Rattle.draft06.specs.Names.{keys, is_additional}
+use Rattle.draft06.specs.Names.{keys, is_additional, each_asks, where_present}
 
 -- documents of that type; numbers are whole here, so `integer` and `number` are one kind
 abbrev pub kind_named : TypeName → K.Kind
@@ -44,7 +44,7 @@ module _ (matches : List ℕ → List ℕ → Bool) (here : ℕ → Bool) (below
   -- of every document
   abbrev pub asks_any : Document → Bool
   asks_any J =
-      meets (some (λ d. same_document d J)) k.enumeration  -- 6.23
+      meets (some (λ d. same_document d J)) k.enumeration  -- section 6.23
       && meets (λ d. same_document d J) k.constant  -- 6.24
       && meets (some (has_type J)) k.types  -- 6.25
       && meets (every here) k.all_of  -- 6.26
@@ -54,7 +54,7 @@ module _ (matches : List ℕ → List ℕ → Bool) (here : ℕ → Bool) (below
 
   abbrev pub asks_number : P.ℤ → Bool
   asks_number x =
-      meets (λ m. is_multiple m x) k.multiple_of  -- 6.1
+      meets (λ m. is_multiple m x) k.multiple_of  -- section 6.1
       && meets (λ n. int_le x n) k.maximum  -- 6.2
       && meets (λ n. int_lt x n) k.exclusive_maximum  -- 6.3
       && meets (λ n. int_le n x) k.minimum  -- 6.4
@@ -62,30 +62,33 @@ module _ (matches : List ℕ → List ℕ → Bool) (here : ℕ → Bool) (below
 
   abbrev pub asks_string : List ℕ → Bool
   asks_string w =
-      meets (λ n. nat_le (length w) n) k.max_length  -- 6.6
+      meets (λ n. nat_le (length w) n) k.max_length  -- section 6.6
       && meets (λ n. nat_le n (length w)) k.min_length  -- 6.7
       && meets (λ t. matches t w) k.pattern  -- 6.8
 
   -- of an array's elements
   abbrev pub asks_array : List Document → Bool
   asks_array ds =
-      meets (λ s. items_ask below s ds) k.items  -- 6.9
+      meets (λ s. items_ask below s ds) k.items  -- section 6.9
       && meets (λ e. rest_asks below k.items e ds) k.additional_items  -- 6.10
       && meets (λ n. nat_le (length ds) n) k.max_items  -- 6.11
       && meets (λ n. nat_le n (length ds)) k.min_items  -- 6.12
       && meets (λ e. some (below e) ds) k.contains  -- 6.14
 
-  -- of an object's members
+  -- a name that neither `properties` nor `patternProperties` speaks of
+  abbrev pub is_other : List ℕ → Bool
+  is_other w = is_additional matches (keys k.properties) (keys k.pattern_properties) w
+
+  -- of an object's members, by name and value
   abbrev pub asks_object : List (List ℕ × Document) → Bool
   asks_object ms =
-      meets (λ n. nat_le (length ms) n) k.max_properties  -- 6.15
+      meets (λ n. nat_le (length ms) n) k.max_properties  -- section 6.15
       && meets (λ n. nat_le n (length ms)) k.min_properties  -- 6.16
       && meets (every (λ w. has_name w ms)) k.required  -- 6.17
-      && meets (every (λ p. every_in (same_word p.0) (below p.1) ms)) k.properties  -- 6.18
-      && meets (every (λ p. every_in (matches p.0) (below p.1) ms)) k.pattern_properties  -- 6.19
-      && meets (λ e. every_in (is_additional matches (keys k.properties) (keys k.pattern_properties)) (below e) ms)
-      k.additional_properties  -- 6.20
-      && meets (every (λ n. P.not (has_name n.0 ms) || need_asks here n.1 ms)) k.dependencies  -- 6.21
+      && meets (λ ns. each_asks same_word below ns ms) k.properties  -- 6.18
+      && meets (λ ns. each_asks matches below ns ms) k.pattern_properties  -- 6.19
+      && meets (λ e. every_in is_other (below e) ms) k.additional_properties  -- 6.20
+      && meets (λ ns. where_present (λ n. need_asks here n ms) ns ms) k.dependencies  -- 6.21
       && meets (λ e. every (λ m. below e (string m.0)) ms) k.property_names  -- 6.22
 
   -- keywords of one kind of document ask nothing of other kinds

@@ -1,6 +1,7 @@
 -- When a document is valid for a schema, read off the schema's JSON value (JSON Schema validation, draft-06), and when
 -- one schema includes another. The section of the standard stands beside each keyword.
 use Rattle.std.specs.Prelude.{ℕ, suc, ℤ, pos, int_le, int_lt, nat_abs, List, [], map, length, drop, Bool, true, false, ◌&&◌, ◌||◌, not, Option, Some, None, Result, Ok, Err, codes}
+use Prim.Native.String.{String}
 use Rattle.documents.specs.Tests.{every, some, same_word}
 use Rattle.documents.specs.Kind.{Kind, Null, Boolean, Number, Text, Array, Object}
 use Rattle.documents.specs.Document as D
@@ -15,7 +16,7 @@ use Rattle.schemas.specs.Walk.{root_id}
 use Rattle.schemas.specs.Schema.{if_there, meets}
 use Rattle.schemas.specs.Entries.{listed, members, word, whole}
 use Rattle.draft06.specs.Equality.{is_equal}
-use Rattle.draft06.specs.Names.{is_additional}
+use Rattle.draft06.specs.Names.{is_additional, each_asks, where_present}
 
 -- a name of the instance's kind; numbers are whole here, so `integer` and `number` are one kind
 abbrev pub names_kind : List ℕ → Kind → Bool
@@ -53,56 +54,59 @@ names_in (Some v) = map (λ m. m.0) (members v)
 
 -- `matches t w` tells whether the pattern with the text t matches somewhere in w
 module _ (matches : List ℕ → List ℕ → Bool) (here : Json → Bool) (below : Json → Document → Bool) (ms : Members) where
+  -- the value of a keyword, where it is there
+  abbrev pub keyword : String → Option Json
+  keyword k = lookup (codes k) ms
+
   -- of every document
   abbrev pub asks_any : Document → Bool
   asks_any J =
-      meets (λ v. some (λ w. is_equal w J) (listed v)) (lookup (codes "enum") ms)  -- section 6.23
-      && meets (λ v. is_equal v J) (lookup (codes "const") ms)  -- 6.24
-      && meets (type_names (kind_of J)) (lookup (codes "type") ms)  -- 6.25
-      && meets (λ v. every here (listed v)) (lookup (codes "allOf") ms)  -- 6.26
-      && meets (λ v. some here (listed v)) (lookup (codes "anyOf") ms)  -- 6.27
-      && meets (λ v. exactly_one here (listed v)) (lookup (codes "oneOf") ms)  -- 6.28
-      && meets (λ s. not (here s)) (lookup (codes "not") ms)  -- 6.29
+      meets (λ v. some (λ w. is_equal w J) (listed v)) (keyword "enum")  -- section 6.23
+      && meets (λ v. is_equal v J) (keyword "const")  -- 6.24
+      && meets (type_names (kind_of J)) (keyword "type")  -- 6.25
+      && meets (λ v. every here (listed v)) (keyword "allOf")  -- 6.26
+      && meets (λ v. some here (listed v)) (keyword "anyOf")  -- 6.27
+      && meets (λ v. exactly_one here (listed v)) (keyword "oneOf")  -- 6.28
+      && meets (λ s. not (here s)) (keyword "not")  -- 6.29
 
   abbrev pub asks_number : ℤ → Bool
   asks_number x =
-      meets (λ v. is_multiple (nat_abs (whole v)) x) (lookup (codes "multipleOf") ms)  -- section 6.1
-      && meets (λ v. int_le x (whole v)) (lookup (codes "maximum") ms)  -- 6.2
-      && meets (λ v. int_lt x (whole v)) (lookup (codes "exclusiveMaximum") ms)  -- 6.3
-      && meets (λ v. int_le (whole v) x) (lookup (codes "minimum") ms)  -- 6.4
-      && meets (λ v. int_lt (whole v) x) (lookup (codes "exclusiveMinimum") ms)  -- 6.5
+      meets (λ v. is_multiple (nat_abs (whole v)) x) (keyword "multipleOf")  -- section 6.1
+      && meets (λ v. int_le x (whole v)) (keyword "maximum")  -- 6.2
+      && meets (λ v. int_lt x (whole v)) (keyword "exclusiveMaximum")  -- 6.3
+      && meets (λ v. int_le (whole v) x) (keyword "minimum")  -- 6.4
+      && meets (λ v. int_lt (whole v) x) (keyword "exclusiveMinimum")  -- 6.5
 
   abbrev pub asks_string : List ℕ → Bool
   asks_string w =
-      meets (λ v. int_le (pos (length w)) (whole v)) (lookup (codes "maxLength") ms)  -- section 6.6
-      && meets (λ v. int_le (whole v) (pos (length w))) (lookup (codes "minLength") ms)  -- 6.7
-      && meets (λ v. matches (word v) w) (lookup (codes "pattern") ms)  -- 6.8
+      meets (λ v. int_le (pos (length w)) (whole v)) (keyword "maxLength")  -- section 6.6
+      && meets (λ v. int_le (whole v) (pos (length w))) (keyword "minLength")  -- 6.7
+      && meets (λ v. matches (word v) w) (keyword "pattern")  -- 6.8
 
   -- of an array's elements
   abbrev pub asks_array : List Document → Bool
   asks_array ds =
-      meets (λ v. items_ask below v ds) (lookup (codes "items") ms)  -- section 6.9
-      && meets (λ s. rest_asks below (lookup (codes "items") ms) s ds) (lookup (codes "additionalItems") ms)  -- 6.10
-      && meets (λ v. int_le (pos (length ds)) (whole v)) (lookup (codes "maxItems") ms)  -- 6.11
-      && meets (λ v. int_le (whole v) (pos (length ds))) (lookup (codes "minItems") ms)  -- 6.12
-      && meets (λ s. some (below s) ds) (lookup (codes "contains") ms)  -- 6.14
+      meets (λ v. items_ask below v ds) (keyword "items")  -- section 6.9
+      && meets (λ s. rest_asks below (keyword "items") s ds) (keyword "additionalItems")  -- 6.10
+      && meets (λ v. int_le (pos (length ds)) (whole v)) (keyword "maxItems")  -- 6.11
+      && meets (λ v. int_le (whole v) (pos (length ds))) (keyword "minItems")  -- 6.12
+      && meets (λ s. some (below s) ds) (keyword "contains")  -- 6.14
+
+  -- a name that neither `properties` nor `patternProperties` speaks of
+  abbrev pub is_other : List ℕ → Bool
+  is_other w = is_additional matches (names_in (keyword "properties")) (names_in (keyword "patternProperties")) w
 
   -- of an object's members, by name and value
   abbrev pub asks_object : List (List ℕ × Document) → Bool
   asks_object ns =
-      meets (λ v. int_le (pos (length ns)) (whole v)) (lookup (codes "maxProperties") ms)  -- section 6.15
-      && meets (λ v. int_le (whole v) (pos (length ns))) (lookup (codes "minProperties") ms)  -- 6.16
-      && meets (λ v. every (λ w. has_name (word w) ns) (listed v)) (lookup (codes "required") ms)  -- 6.17
-      && meets (λ v. every (λ p. every_in (same_word p.0) (below p.1) ns) (members v))
-      (lookup (codes "properties") ms)  -- 6.18
-      && meets (λ v. every (λ p. every_in (matches p.0) (below p.1) ns) (members v))
-      (lookup (codes "patternProperties") ms)  -- 6.19
-      && meets (λ s. every_in (is_additional matches (names_in (lookup (codes "properties") ms))
-      (names_in (lookup (codes "patternProperties") ms))) (below s) ns)
-      (lookup (codes "additionalProperties") ms)  -- 6.20
-      && meets (λ v. every (λ p. not (has_name p.0 ns) || need_asks here p.1 ns) (members v))
-      (lookup (codes "dependencies") ms)  -- 6.21
-      && meets (λ s. every (λ n. below s (D.string n.0)) ns) (lookup (codes "propertyNames") ms)  -- 6.22
+      meets (λ v. int_le (pos (length ns)) (whole v)) (keyword "maxProperties")  -- section 6.15
+      && meets (λ v. int_le (whole v) (pos (length ns))) (keyword "minProperties")  -- 6.16
+      && meets (λ v. every (λ w. has_name (word w) ns) (listed v)) (keyword "required")  -- 6.17
+      && meets (λ v. each_asks same_word below (members v) ns) (keyword "properties")  -- 6.18
+      && meets (λ v. each_asks matches below (members v) ns) (keyword "patternProperties")  -- 6.19
+      && meets (λ s. every_in is_other (below s) ns) (keyword "additionalProperties")  -- 6.20
+      && meets (λ v. where_present (λ s. need_asks here s ns) (members v) ns) (keyword "dependencies")  -- 6.21
+      && meets (λ s. every (λ n. below s (D.string n.0)) ns) (keyword "propertyNames")  -- 6.22
 
   -- keywords of one kind of document ask nothing of other kinds, and other members ask nothing; a schema with
   -- `uniqueItems` (section 6.13) other than `false` isn't read
