@@ -8,3 +8,4 @@ pub mod KeywordsLaw
 pub mod PlaceForms
 pub mod ValidityLaws
 pub mod RankLaws
+pub mod DocumentEquality
