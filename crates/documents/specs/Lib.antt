@@ -5,3 +5,5 @@ pub mod Document
 pub mod Json
 pub mod WellFormed
 pub mod Place
+-- The tests that keywords and positions ask of documents.
+pub mod Measures
