@@ -1,0 +1,5 @@
+-- What a reader must believe: how many characters a pattern reads in how many places, which of these places a partial
+-- match read last, and what is kept of a word.
+pub mod Position
+pub mod LastRead
+pub mod PatternState
