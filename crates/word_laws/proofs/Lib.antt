@@ -1,0 +1,9 @@
+pub mod Lists
+pub mod Mentions
+pub mod Rows
+pub mod Classes
+pub mod States
+pub mod Firsts
+pub mod StateSteps
+pub mod RowLaws
+mod WordExamples
