@@ -3,3 +3,5 @@ pub mod Tests
 pub mod Kind
 pub mod Document
 pub mod Json
+-- The tests that keywords and positions ask of documents.
+pub mod Measures
