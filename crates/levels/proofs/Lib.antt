@@ -1,1 +1,2 @@
 pub mod LevelsLaws
+pub mod WithinLaws

@@ -1,4 +1,4 @@
-mod ExampleRules
+pub mod ExampleRules
 mod ShapeExamples
 mod FaultExamples
 mod WalkExamples

@@ -1,0 +1,5 @@
+mod ExampleVerdicts
+mod ArrayExamples
+mod ObjectExamples
+mod ScalarExamples
+mod InPlaceExamples

@@ -1,0 +1,11 @@
+pub mod Lists
+pub mod EntryLocal
+pub mod EntryLaws
+pub mod ValueTests
+pub mod TypeNames
+pub mod SubSchemas
+pub mod KeywordsLaw
+pub mod PlaceForms
+pub mod ValidityLaws
+pub mod RankLaws
+pub mod DocumentEquality
