@@ -1,22 +1,29 @@
 -- The nodes of values: a document meets one exactly where it is the value.
-use Rattle.std.specs.Prelude.{ℕ, List, [], ◌∷◌, ◌++◌, map, length}
+use Rattle.std.specs.Prelude.{ℕ, List, [], ◌∷◌, map, length}
 use Rattle.documents.specs.Kind.{Kind, Null, Boolean, Number, Text, Array, Object}
-use Rattle.documents.specs.Document.{Document, null, boolean, number, string, array, object, Items, no_items, item, Members, no_members, member, elements, entries}
-use Rattle.positions.specs.Position.{Position, True, False, All, Types, BoolIs, NumIn, Words, CountMin, CountMax, MembersOf, Named, Others, Has}
-use Rattle.positions.specs.Position as Q
+use Rattle.documents.specs.Document as D
+use Rattle.documents.specs.Document.{Document, null, boolean, number, string, array, object, no_items, item, Members, no_members, member, elements, entries}
+use Rattle.positions.specs.Position.{Position, True, False, All, Types, BoolIs, NumIn, Words, Items, CountMin, CountMax, MembersOf, Named, Others, Has}
 use Rattle.normal_forms.specs.Nodes.{Maker, nothing, node, both, above, the_one}
 
 -- documents of one kind that meet a further position
 abbrev pub of_kind : Kind → Position → Maker
 of_kind t P = above All (both (node (Types (t ∷ []))) (node P))
 
--- the last of the numbers is asked of all elements after those that the others speak of
+-- all numbers but the last, and the last one
+abbrev pub but_last : List ℕ → List ℕ
+but_last [] = []
+but_last (q ∷ []) = []
+but_last (q ∷ r ∷ rs) = q ∷ but_last (r ∷ rs)
+
+abbrev pub last_of : List ℕ → ℕ
+last_of [] = 0
+last_of (q ∷ []) = q
+last_of (q ∷ r ∷ rs) = last_of (r ∷ rs)
+
+-- the last number is asked of all elements after those that the others speak of
 abbrev pub items_of : List ℕ → Position
-items_of [] = Q.Items [] 0
-items_of (q ∷ qs) = with_last [] q qs where
-  with_last : List ℕ → ℕ → List ℕ → Position
-  with_last done q [] = Q.Items done q
-  with_last done q (r ∷ rs) = with_last (done ++ q ∷ []) r rs
+items_of qs = Items (but_last qs) (last_of qs)
 
 abbrev pub names_of : Members → List (List ℕ)
 names_of ms = map (λ m. m.0) (entries ms)
@@ -43,7 +50,7 @@ abbrev mutual
   value_node (object ms) =
       above All (both (node (Types (Object ∷ []))) (both (member_nodes ms) (no_others (names_of ms))))
 
-  pub item_nodes : Items → Maker
+  pub item_nodes : D.Items → Maker
   item_nodes no_items = nothing
   item_nodes (item d ds) = both (value_node d) (item_nodes ds)
 

@@ -1,2 +1,4 @@
 pub mod MakingLemmas
 pub mod MemberTests
+pub mod ItemTests
+pub mod ValueNodes
