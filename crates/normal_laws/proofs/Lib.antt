@@ -2,3 +2,4 @@ pub mod MakingLemmas
 pub mod MemberTests
 pub mod ItemTests
 pub mod ValueNodes
+pub mod Repeats
