@@ -3,3 +3,4 @@ pub mod MemberTests
 pub mod ItemTests
 pub mod ValueNodes
 pub mod Repeats
+pub mod EnumNodes

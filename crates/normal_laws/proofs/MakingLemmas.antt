@@ -16,6 +16,11 @@ stands-append T n (x ∷ xs) ys h =
     let place : suc n + length xs ≡ n + length (x ∷ xs) = omega arith in
     ((h.0, rest.0), subst (λ k. Stands T k ys) place rest.1)
 
+-- the tests of each of a list
+abbrev pub tests_of : {A : Type 0} → (A → Document → Bool) → List A → List (Document → Bool)
+tests_of t [] = []
+tests_of t (x ∷ xs) = t x ∷ tests_of t xs
+
 module _ (T : List Position) (holds : ℕ → Document → Bool) (meaning : IsMeaning T holds) where
   pub met-append : (qs rs : List ℕ) (ps ts : List (Document → Bool)) → AreMet T holds qs ps → AreMet T holds rs ts
       → AreMet T holds (qs ++ rs) (ps ++ ts)
@@ -74,11 +79,6 @@ module _ (T : List Position) (holds : ℕ → Document → Bool) (meaning : IsMe
   pub makes-any : (f : Maker) (ps : List (Document → Bool)) → Makes T holds f ps
       → Makes T holds (above Any f) ((λ J. some (λ p. p J) ps) ∷ [])
   makes-any f ps a = makes-above Any (λ J. some (λ p. p J) ps) f ps a (λ qs m J d. some-met qs ps m J d)
-
-  -- the tests of each of a list
-  abbrev pub tests_of : {A : Type 0} → (A → Document → Bool) → List A → List (Document → Bool)
-  tests_of t [] = []
-  tests_of t (x ∷ xs) = t x ∷ tests_of t xs
 
   pub makes-each : {A : Type 0} (f : A → Maker) (t : A → Document → Bool) (xs : List A)
       → ((x : A) → Makes T holds (f x) (t x ∷ []))
