@@ -5,6 +5,7 @@ use Rattle.documents.specs.Tests.{every, is_scalar}
 use Rattle.documents.specs.Json as J
 use Rattle.documents.specs.WellFormed as W
 use Rattle.documents.specs.Document as D
+use Rattle.documents.proofs.Parts.{member_parts}
 
 -- the last two of four tests
 last_two : (a b c d : Bool) → (a && b && c && d) ≡ true → (c ≡ true) × (d ≡ true)
@@ -14,8 +15,8 @@ last_two a b c d h =
 pub names_rise-are_members : (ms : J.Members) → W.are_members ms ≡ true → W.names_rise ms ≡ true
 names_rise-are_members J.no_members h = refl
 names_rise-are_members (J.member k v ms) h =
-    let two = last_two (every is_scalar k) (W.is_json v) (W.is_before k ms) (W.are_members ms) h in
-    and_from (W.is_before k ms) (W.names_rise ms) two.0 (names_rise-are_members ms two.1)
+    let parts = member_parts k v ms h in
+    and_from (W.is_before k ms) (W.names_rise ms) parts.before (names_rise-are_members ms parts.others)
 
 pub names_rise-document_members : (ms : D.Members) → D.are_members ms ≡ true → D.names_rise ms ≡ true
 names_rise-document_members D.no_members h = refl

@@ -5,12 +5,12 @@ use Rattle.documents.specs.Tests.{same_word}
 use Rattle.documents.specs.Json.{Json, boolean}
 use Rattle.documents.specs.Document.{Document, string, array, object, items_of, members_of}
 use Rattle.patterns.specs.Tree.{Tree, one_of, at_start, in_turn, tree, no_trees}
-use Rattle.patterns.specs.Decision.{finds}
 use Rattle.schemas.specs.Entry.{Entry}
 use Rattle.schemas.specs.Fault.{Fault, Rules}
 use Rattle.schemas.specs.Entries.{read}
 use Rattle.schemas.proofs.ExampleRules.{Bad, rules_up_to}
 use Rattle.schemas.proofs.ExampleRules.{object as object_of}
+use Rattle.draft06.specs.Matching.{finds_text}
 use Rattle.draft06.specs.Validity.{valid}
 use Rattle.draft06.specs.EntryValidity.{entry_valid}
 
@@ -21,20 +21,17 @@ b_tree = one_of ((98, 98) ∷ [])
 abbrev tree_of : List ℕ → Tree
 tree_of t = cond (same_word t (codes "^b")) (in_turn (tree at_start (tree b_tree no_trees))) b_tree
 
-abbrev matches : List ℕ → List ℕ → Bool
-matches t w = finds (tree_of t) w
-
 abbrev rules : Rules ℕ Bad
-rules = rules_up_to 2147483647
+rules = record (rules_up_to 2147483647) { pattern = λ t. Ok (tree_of t) }
 
 -- what is said over the entries of a schema that is read
 abbrev over_entries : Result (List Entry) (Fault ℕ Bad) → Document → Option Bool
-over_entries (Ok es) J = Some (entry_valid matches es zero J)
+over_entries (Ok es) J = Some (entry_valid (finds_text rules) es zero J)
 over_entries (Err f) J = None
 
 -- what is said over the schema's value, and over its entries
 abbrev pub says : Json → Document → Bool × Option Bool
-says s J = (valid matches rules s J, over_entries (read rules s) J)
+says s J = (valid rules s J, over_entries (read rules s) J)
 
 abbrev pub accepted : Bool × Option Bool
 accepted = (true, Some true)

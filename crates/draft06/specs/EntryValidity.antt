@@ -1,6 +1,6 @@
 -- When a document is valid for an entry of a schema, keyword by keyword (JSON Schema validation, draft-06). The section
 -- of the standard stands beside each keyword.
-use Rattle.std.specs.Prelude.{ℕ, zero, suc, ◌≡◌, int_le, int_lt, nat_le, List, [], ◌∷◌, map, length, drop, Bool, true, false, ◌&&◌, ◌||◌, Option, Some, None}
+use Rattle.std.specs.Prelude.{ℕ, zero, suc, int_le, int_lt, nat_le, List, [], ◌∷◌, length, drop, Bool, true, false, ◌&&◌, ◌||◌, Option, Some, None}
 use Rattle.std.specs.Prelude as P
 use Rattle.documents.specs.Tests.{every, some, same_word}
 use Rattle.documents.specs.Kind as K

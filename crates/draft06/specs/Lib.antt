@@ -1,6 +1,7 @@
--- What a reader must believe: when a document is valid for a schema, when one schema includes another, and when a
--- document is valid for an entry of a schema.
+-- What a reader must believe: when a document is valid for a schema, and when one schema includes another.
 pub mod Equality
+pub mod Matching
 pub mod Names
 pub mod Validity
+-- The same over the entries that a schema is read as, for validators and for tables of positions.
 pub mod EntryValidity

@@ -1,6 +1,6 @@
 -- When a document is valid for a schema, read off the schema's JSON value (JSON Schema validation, draft-06), and when
 -- one schema includes another. The section of the standard stands beside each keyword.
-use Rattle.std.specs.Prelude.{ℕ, suc, ℤ, pos, int_le, int_lt, nat_abs, List, [], map, length, drop, Bool, true, false, ◌&&◌, ◌||◌, not, Option, Some, None, Result, Ok, Err, codes}
+use Rattle.std.specs.Prelude.{◌≡◌, ℕ, suc, ℤ, pos, int_le, int_lt, nat_abs, List, [], map, length, drop, Bool, true, false, ◌&&◌, ◌||◌, not, Option, Some, None, Result, Ok, Err, codes}
 use Prim.Native.String.{String}
 use Rattle.documents.specs.Tests.{every, some, same_word}
 use Rattle.documents.specs.Kind.{Kind, Null, Boolean, Number, Text, Array, Object}
@@ -16,6 +16,7 @@ use Rattle.schemas.specs.Walk.{root_id}
 use Rattle.schemas.specs.Schema.{if_there, meets}
 use Rattle.schemas.specs.Entries.{listed, members, word, whole}
 use Rattle.draft06.specs.Equality.{is_equal}
+use Rattle.draft06.specs.Matching.{finds_text}
 use Rattle.draft06.specs.Names.{is_additional, each_asks, where_present}
 
 -- a name of the instance's kind; numbers are whole here, so `integer` and `number` are one kind
@@ -129,7 +130,7 @@ module _ (matches : List ℕ → List ℕ → Bool) (target : List ℕ → Optio
   asks here below (object ms) J = object_asks (lookup (codes "$ref") ms) here below ms J
   asks here below _ J = false
 
-module _ {P R : Type 0} (matches : List ℕ → List ℕ → Bool) (rules : Rules P R) (root : Json) where
+module _ {P R : Type 0} (rules : Rules P R) (root : Json) where
   -- the value at a place, where a reference leads to one
   abbrev pub value_referred : Result Pointer R → Option Json
   value_referred (Ok q) = value_at q root
@@ -141,9 +142,19 @@ module _ {P R : Type 0} (matches : List ℕ → List ℕ → Bool) (rules : Rule
 
   -- the document is valid for a schema of the file, with less than n steps from schema to schema at one document
   abbrev pub valid_within : ℕ → Json → Document → Bool
-  valid_within n s J = is_met (asks matches target) n s J
+  valid_within n s J = is_met (asks (finds_text rules) target) n s J
 
   -- the document is valid for the schema that the file's value is. As many steps in place as the file has values are
   -- more than a schema without a circle in place needs
   unfoldable pub valid : Document → Bool
   valid J = valid_within (suc (count root)) root J
+
+-- every document that is valid for the first is valid for the second
+abbrev pub Included : {P R : Type 0} → Rules P R → Json → Json → Type 0
+Included rules a b = (J : Document) → is_document J ≡ true → valid rules a J ≡ true → valid rules b J ≡ true
+
+-- a document that the first accepts and the second does not
+pub record Separates {P R : Type 0} (rules : Rules P R) (a b : Json) (J : Document) : Type 0 where
+  pub document : is_document J ≡ true
+  pub first : valid rules a J ≡ true
+  pub second : valid rules b J ≡ false

@@ -41,54 +41,58 @@ names_of es h =
     let range = and_parts _ (every (λ e. form_in_range e.form) es) weight.0 in
     let names = and_parts (nat_lt 0 (length es)) (every (λ e. names_below (length es) e.form) es) range.0 in names.1
 
+abbrev pub IsEntry : List Entry → ℕ → Type 0
+IsEntry es e = e < length es
+
+-- what the entry with a number asks, and which entries it names in place
+abbrev pub entry_asks : (List ℕ → List ℕ → Bool) → List Entry → (ℕ → Bool) → (ℕ → Document → Bool) → ℕ → Document → Bool
+entry_asks matches es here below e J = asks matches here below (form_at es e) J
+
+abbrev pub named_in_place : List Entry → ℕ → List ℕ
+named_in_place es e = in_place (form_at es e)
+
 module _ (matches : List ℕ → List ℕ → Bool) (es : List Entry) (table : is_table es ≡ true) where
-  abbrev pub IsEntry : ℕ → Type 0
-  IsEntry e = e < length es
-
-  abbrev pub entry_asks : (ℕ → Bool) → (ℕ → Document → Bool) → ℕ → Document → Bool
-  entry_asks here below e J = asks matches here below (form_at es e) J
-
-  abbrev pub entries_in_place : ℕ → List ℕ
-  entries_in_place e = in_place (form_at es e)
-
   names_entries : (e : ℕ) → names_below (length es) (form_at es e) ≡ true
   names_entries e = form_below (length es) es e (names_of es table)
 
-  in_place_below : (e : ℕ) → AllByRecursion IsEntry (entries_in_place e)
+  in_place_below : (e : ℕ) → AllByRecursion (IsEntry es) (named_in_place es e)
   in_place_below e =
       let parts = and_parts (every (λ i. nat_lt i (length es)) (in_place (form_at es e)))
       (every (λ i. nat_lt i (length es)) (of_parts (form_at es e))) (names_entries e) in
       all_below (length es) (in_place (form_at es e)) parts.0
 
-  pub parts_below : (e : ℕ) → AllByRecursion IsEntry (of_parts (form_at es e))
+  pub parts_below : (e : ℕ) → AllByRecursion (IsEntry es) (of_parts (form_at es e))
   parts_below e =
       let parts = and_parts (every (λ i. nat_lt i (length es)) (in_place (form_at es e)))
       (every (λ i. nat_lt i (length es)) (of_parts (form_at es e))) (names_entries e) in
       all_below (length es) (of_parts (form_at es e)) parts.1
 
-  pub local : AreAlike entry_asks entry_asks (λ e. e) IsEntry entries_in_place
+  pub local : AreAlike (entry_asks matches es) (entry_asks matches es) (λ e. e) (IsEntry es) (named_in_place es)
   local here here' below below' e J i h b =
       asks_same matches here here' below below' (form_at es e) J h
-      (weaker IsEntry _ (of_parts (form_at es e)) (λ q k K l. b q K k l) (parts_below e))
+      (weaker (IsEntry es) _ (of_parts (form_at es e)) (λ q k K l. b q K k l) (parts_below e))
 
   module _ (rank : ℕ → ℕ) (falls : FallInPlace es rank) where
-    pub ranked : RankedWithin IsEntry entries_in_place (length es) rank
+    pub ranked : RankedWithin (IsEntry es) (named_in_place es) (length es) rank
     ranked = record { bounded = falls.bounded; falls = falls.falls; closed = λ e i. in_place_below e }
 
+    -- what lies in a document
+    abbrev lesser : Document → ℕ → Document → Bool
+    lesser J = met_below (entry_asks matches es) (length es) (depth J)
+
     past_last : (n e : ℕ) (J : Document) → form_at es e ≡ Never
-        → met_here entry_asks (length es) (met_below entry_asks (length es) (depth J)) n e J ≡ false
+        → met_here (entry_asks matches es) (length es) (lesser J) n e J ≡ false
     past_last zero e J h = refl
     past_last (suc n) e J h =
-        ap (λ f. asks matches
-        (λ q. met_here entry_asks (length es) (met_below entry_asks (length es) (depth J)) n q J)
-        (met_below entry_asks (length es) (depth J)) f J) h
+        ap (λ f. asks matches (λ q. met_here (entry_asks matches es) (length es) (lesser J) n q J) (lesser J) f J) h
 
     equation : (e : ℕ) (J : Document) (test : Bool) → nat_lt e (length es) ≡ test
         → entry_valid matches es e J
         ≡ asks matches (λ q. entry_valid matches es q J) (entry_valid matches es) (form_at es e) J
     unfolding entry_valid is_met
     equation e J true h =
-        is_met-within entry_asks IsEntry entries_in_place local (length es) rank ranked e J (grind (arith, h))
+        is_met-within (entry_asks matches es) (IsEntry es) (named_in_place es) local (length es) rank ranked e J
+        (grind (arith, h))
     equation e J false h =
         let past = form_at-past es e (grind (arith, h)) in
         past_last (length es) e J past
@@ -102,9 +106,10 @@ module _ (matches : List ℕ → List ℕ → Bool) (es : List Entry) (table : i
 
     -- more steps in place change nothing
     pub entry_valid-more : (n e : ℕ) (J : Document) → length es ≤ n → e < length es
-        → is_met entry_asks n e J ≡ entry_valid matches es e J
+        → is_met (entry_asks matches es) n e J ≡ entry_valid matches es e J
     unfolding entry_valid
-    entry_valid-more n e J h i = is_met-more entry_asks IsEntry entries_in_place local (length es) rank ranked n e J h i
+    entry_valid-more n e J h i =
+        is_met-more (entry_asks matches es) (IsEntry es) (named_in_place es) local (length es) rank ranked n e J h i
 
     -- any meaning that keeps the equation is validity
     pub entry_valid-only : (m : ℕ → Document → Bool)
@@ -112,4 +117,4 @@ module _ (matches : List ℕ → List ℕ → Bool) (es : List Entry) (table : i
         → (e : ℕ) (J : Document) → e < length es → m e J ≡ entry_valid matches es e J
     unfolding entry_valid
     entry_valid-only m eq e J i =
-        is_met-only entry_asks IsEntry entries_in_place local (length es) rank ranked m eq e J i
+        is_met-only (entry_asks matches es) (IsEntry es) (named_in_place es) local (length es) rank ranked m eq e J i

@@ -15,6 +15,7 @@ use Rattle.schema_laws.specs.Sound.{IsSound}
 use Rattle.schema_laws.proofs.NamesLaws.{names_differ-is_json}
 use Rattle.schema_laws.proofs.Faultless.{faultless}
 use Rattle.schema_laws.proofs.KeywordLaws.{reference-number}
+use Rattle.draft06.specs.Matching.{finds_text}
 use Rattle.draft06.specs.Validity as V
 use Rattle.draft06.specs.EntryValidity as E
 use Rattle.draft06_laws.proofs.KeywordsLaw.{value_there, value_of_entry, keywords_law}
@@ -25,6 +26,11 @@ place_numbered [] e h = absurd (omega (arith, h))
 place_numbered (c ∷ cs) zero h = (c, refl, inl refl)
 place_numbered (c ∷ cs) (suc e) h =
     let next = place_numbered cs e (omega (arith, h)) in (next.0, next.1, inr next.2)
+
+pub numbered_below : (cs : List Place) (e : ℕ) (c : Place) → slice_get cs e ≡ Some c → e < length cs
+numbered_below [] e c h = absurd (none-some c h)
+numbered_below (d ∷ cs) zero c h = omega arith
+numbered_below (d ∷ cs) (suc e) c h = let less = numbered_below cs e c h in omega (arith, less)
 
 -- the entry of the place with that number
 pub form_numbered : (f : Place → Entry) (cs : List Place) (e : ℕ) (c : Place) → slice_get cs e ≡ Some c
@@ -60,8 +66,8 @@ first_place rules (string w) = refl
 first_place rules (array vs) = refl
 first_place rules (object ms) = refl
 
-module _ {P R : Type 0} (matches : List ℕ → List ℕ → Bool) (rules : Rules P R) (root : Json)
-    (sound : IsSound rules root) (none : first_fault rules root ≡ None)
+module _ {P R : Type 0} (rules : Rules P R) (root : Json) (sound : IsSound rules root)
+    (none : first_fault rules root ≡ None)
     (here : Json → Bool) (below : Json → Document → Bool) where
   abbrev entry_of : Pointer → ℕ
   entry_of = number_of (places rules root)
@@ -70,7 +76,7 @@ module _ {P R : Type 0} (matches : List ℕ → List ℕ → Bool) (rules : Rule
   at = value_of_entry (places rules root)
 
   abbrev asks_at : Place → Document → Bool
-  asks_at c J = E.asks matches (λ e. here (at e)) (λ e. below (at e)) (form_at rules root entry_of c) J
+  asks_at c J = E.asks (finds_text rules) (λ e. here (at e)) (λ e. below (at e)) (form_at rules root entry_of c) J
 
   differ : names_differ root ≡ true
   differ = names_differ-is_json root sound.well_formed
@@ -78,8 +84,8 @@ module _ {P R : Type 0} (matches : List ℕ → List ℕ → Bool) (rules : Rule
   -- a reference
   referred_asks : (p : Pointer) (ms : Members) (w : List ℕ) (K : Document) → IsIn (p, object ms) (places rules root)
       → lookup (codes "$ref") ms ≡ Some (string w) → (r : Result Pointer R) → rules.target root w (root_id root) ≡ r
-      → E.asks matches (λ e. here (at e)) (λ e. below (at e)) (referred_form rules root entry_of r) K
-      ≡ if_there false here (V.value_referred matches rules root r)
+      → E.asks (finds_text rules) (λ e. here (at e)) (λ e. below (at e)) (referred_form rules root entry_of r) K
+      ≡ if_there false here (V.value_referred rules root r)
   referred_asks p ms w K there h (Ok q) to =
       let leads = sound.leads w q to in
       ap (λ o. here (value_there o)) (reference-number rules root p q ms w leads.0 differ there h to leads.1)
@@ -88,24 +94,25 @@ module _ {P R : Type 0} (matches : List ℕ → List ℕ → Bool) (rules : Rule
 
   reference_asks : (p : Pointer) (ms : Members) (v : Json) (K : Document) → IsIn (p, object ms) (places rules root)
       → lookup (codes "$ref") ms ≡ Some v → reference_fault rules root p v ≡ None
-      → E.asks matches (λ e. here (at e)) (λ e. below (at e)) (reference_form rules root entry_of v) K
-      ≡ V.object_asks matches (V.target matches rules root) (Some v) here below ms K
+      → E.asks (finds_text rules) (λ e. here (at e)) (λ e. below (at e)) (reference_form rules root entry_of v) K
+      ≡ V.object_asks (finds_text rules) (V.target rules root) (Some v) here below ms K
   reference_asks p ms (string w) K there h right =
       referred_asks p ms w K there h (rules.target root w (root_id root)) refl
   reference_asks p ms _ K there h right = absurd (none-some _ (sym right))
 
   object_asks : (p : Pointer) (ms : Members) (K : Document) → IsIn (p, object ms) (places rules root)
       → (r : Option Json) → lookup (codes "$ref") ms ≡ r
-      → E.asks matches (λ e. here (at e)) (λ e. below (at e)) (object_form rules root entry_of r p ms) K
-      ≡ V.object_asks matches (V.target matches rules root) r here below ms K
+      → E.asks (finds_text rules) (λ e. here (at e)) (λ e. below (at e)) (object_form rules root entry_of r p ms) K
+      ≡ V.object_asks (finds_text rules) (V.target rules root) r here below ms K
   object_asks p ms K there (Some v) h =
       reference_asks p ms v K there h
       (subst (λ r. object_fault rules root r p ms ≡ None) h (faultless rules root (p, object ms) none there))
   object_asks p ms K there None h =
-      keywords_law rules root differ p ms there (faultless rules root (p, object ms) none there) h matches here below K
+      keywords_law rules root differ p ms there (faultless rules root (p, object ms) none there) h (finds_text rules)
+      here below K
 
   pub place_asks : (c : Place) (K : Document) → IsIn c (places rules root)
-      → asks_at c K ≡ V.asks matches (V.target matches rules root) here below c.1 K
+      → asks_at c K ≡ V.asks (finds_text rules) (V.target rules root) here below c.1 K
   place_asks (p, boolean true) K there = refl
   place_asks (p, boolean false) K there = refl
   place_asks (p, object ms) K there = object_asks p ms K there (lookup (codes "$ref") ms) refl

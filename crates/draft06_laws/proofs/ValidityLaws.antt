@@ -1,6 +1,6 @@
 -- A document is valid for a schema exactly where it is valid for the first entry that the schema is read as, where
 -- ranks of the entries fall in place; and more steps in place change nothing.
-use Rattle.std.proofs.Common.{◌≡◌, ℕ, suc, ◌<◌, ◌≤◌, List, length, Bool, true, None, Some, slice_get, ap, sym, subst, ◌∙◌, arith}
+use Rattle.std.proofs.Common.{◌≡◌, ℕ, suc, ◌<◌, ◌≤◌, List, [], length, Bool, true, None, Some, slice_get, ap, sym, subst, ◌∙◌, arith}
 use Rattle.std.proofs.Math.ListN.{length-map}
 use Rattle.documents.specs.Document.{Document}
 use Rattle.documents.specs.Json.{Json, count}
@@ -17,72 +17,78 @@ use Rattle.schemas.specs.Schema.{of_parts, is_table}
 use Rattle.schema_laws.specs.Sound.{IsSound}
 use Rattle.schema_laws.proofs.TableLaws.{is_table-length}
 use Rattle.schema_laws.proofs.TableLaw.{is_table-entries}
+use Rattle.draft06.specs.Matching.{finds_text}
 use Rattle.draft06.specs.Validity as V
 use Rattle.draft06.specs.Validity.{valid_within, valid}
 use Rattle.draft06.specs.EntryValidity as E
 use Rattle.draft06.specs.EntryValidity.{entry_valid}
 use Rattle.draft06_laws.specs.Ranks.{FallInPlace}
 use Rattle.draft06_laws.proofs.EntryLocal.{asks_same}
-use Rattle.draft06_laws.proofs.EntryLaws.{IsEntry, entry_asks, entries_in_place, parts_below, ranked}
+use Rattle.draft06_laws.proofs.EntryLaws.{IsEntry, entry_asks, named_in_place, parts_below, ranked}
 use Rattle.draft06_laws.proofs.KeywordsLaw.{value_there, value_of_entry}
-use Rattle.draft06_laws.proofs.PlaceForms.{place_numbered, form_numbered, length-places, first_place, place_asks}
+use Rattle.draft06_laws.proofs.PlaceForms.{place_numbered, numbered_below, form_numbered, length-places, first_place, place_asks}
 
-module _ {P R : Type 0} (matches : List ℕ → List ℕ → Bool) (rules : Rules P R) (root : Json)
-    (sound : IsSound rules root) (none : first_fault rules root ≡ None) where
+module _ {P R : Type 0} (rules : Rules P R) (root : Json) (sound : IsSound rules root)
+    (none : first_fault rules root ≡ None) where
   abbrev cs : List Place
   cs = places rules root
 
   -- the entries that the schema is read as
-  abbrev pub entries : List Entry
-  entries = entries_at rules root cs
+  abbrev es : List Entry
+  es = entries_at rules root cs
 
-  length-entries : length entries ≡ length cs
-  length-entries = length-map cs (entry_at rules root (number_of cs))
+  abbrev matches : List ℕ → List ℕ → Bool
+  matches = finds_text rules
 
-  table : is_table entries ≡ true
+  abbrev at : ℕ → Json
+  at = value_of_entry cs
+
+  length-es : length es ≡ length cs
+  length-es = length-map cs (entry_at rules root (number_of cs))
+
+  table : is_table es ≡ true
   table = is_table-entries rules root sound none
 
   -- an entry asks what its value asks, where the entries that it names say the same as their values
-  alike : AreAlike (entry_asks matches entries table) (V.asks matches (V.target matches rules root)) (value_of_entry cs)
-      (IsEntry matches entries table) (entries_in_place matches entries table)
+  alike : AreAlike (entry_asks matches es) (V.asks matches (V.target rules root)) at (IsEntry es) (named_in_place es)
   alike here here' below below' e K i h b =
-      let there = place_numbered cs e (subst (λ n. e < n) length-entries i) in
+      let there = place_numbered cs e (subst (λ n. e < n) length-es i) in
       let form = form_numbered (entry_at rules root (number_of cs)) cs e there.0 there.1 in
-      asks_same matches here (λ q. here' (value_of_entry cs q)) below (λ q. below' (value_of_entry cs q))
-      (E.form_at entries e) K h
-      (weaker (IsEntry matches entries table) _ (of_parts (E.form_at entries e)) (λ q k L l. b q L k l)
-      (parts_below matches entries table e))
-      ∙ ap (λ f. E.asks matches (λ q. here' (value_of_entry cs q)) (λ q. below' (value_of_entry cs q)) f K) form
-      ∙ place_asks matches rules root sound none here' below' there.0 K there.2
-      ∙ ap (λ o. V.asks matches (V.target matches rules root) here' below' (value_there o) K) (sym there.1)
+      asks_same matches here (λ q. here' (at q)) below (λ q. below' (at q)) (E.form_at es e) K h
+      (weaker (IsEntry es) _ (of_parts (E.form_at es e)) (λ q k L l. b q L k l) (parts_below matches es table e))
+      ∙ ap (λ f. E.asks matches (λ q. here' (at q)) (λ q. below' (at q)) f K) form
+      ∙ place_asks rules root sound none here' below' there.0 K there.2
+      ∙ ap (λ o. V.asks matches (V.target rules root) here' below' (value_there o) K) (sym there.1)
 
-  module _ (rank : ℕ → ℕ) (falls : FallInPlace entries rank) where
+  few_entries : length es ≤ count root
+  few_entries = let few = length-places rules root in let same = length-es in omega (arith, few, same)
+
+  root_is_entry : 0 < length es
+  root_is_entry = let parts = is_table-length es table in parts.0
+
+  module _ (rank : ℕ → ℕ) (falls : FallInPlace (entries_at rules root (places rules root)) rank) where
     -- an entry accepts what the value at its place accepts, with any number of steps that is no less than the entries
-    pub entry_valid-within : (n e : ℕ) (c : Place) (K : Document) → length entries ≤ n → slice_get cs e ≡ Some c
-        → e < length entries → entry_valid matches entries e K ≡ valid_within matches rules root n c.1 K
+    pub entry_valid-within : (n e : ℕ) (c : Place) (K : Document)
+        → length (entries_at rules root (places rules root)) ≤ n → slice_get (places rules root) e ≡ Some c
+        → entry_valid (finds_text rules) (entries_at rules root (places rules root)) e K
+        ≡ valid_within rules root n c.1 K
     unfolding entry_valid
-    entry_valid-within n e c K enough at i =
-        is_met-alike (entry_asks matches entries table) (V.asks matches (V.target matches rules root))
-        (value_of_entry cs) (IsEntry matches entries table) (entries_in_place matches entries table) alike
-        (length entries) n rank (ranked matches entries table rank falls)
-        (λ q k. let less = falls.bounded q k in omega (arith, less, enough)) e K i
-        ∙ ap (λ o. valid_within matches rules root n (value_there o) K) at
-
-    few_entries : length entries ≤ count root
-    few_entries = let few = length-places rules root in let same = length-entries in omega (arith, few, same)
-
-    root_is_entry : 0 < length entries
-    root_is_entry = let parts = is_table-length entries table in parts.0
+    entry_valid-within n e c K enough there =
+        is_met-alike (entry_asks matches es) (V.asks matches (V.target rules root)) at (IsEntry es) (named_in_place es)
+        alike (length es) n rank (ranked matches es table rank falls)
+        (λ q k. let less = falls.bounded q k in omega (arith, less, enough)) e K
+        (subst (λ m. e < m) (sym length-es) (numbered_below cs e c there))
+        ∙ ap (λ o. valid_within rules root n (value_there o) K) there
 
     -- validity over the entries is validity over the value
-    pub entry_valid-valid : (K : Document) → entry_valid matches entries 0 K ≡ valid matches rules root K
+    pub entry_valid-valid : (K : Document)
+        → entry_valid (finds_text rules) (entries_at rules root (places rules root)) 0 K ≡ valid rules root K
     unfolding valid
     entry_valid-valid K =
-        entry_valid-within (suc (count root)) 0 _ K (omega (arith, few_entries)) (first_place rules root) root_is_entry
+        entry_valid-within (suc (count root)) 0 ([], root) K (omega (arith, few_entries)) (first_place rules root)
 
     -- more steps in place change nothing
-    pub valid-more : (n : ℕ) (K : Document) → count root ≤ n
-        → valid_within matches rules root n root K ≡ valid matches rules root K
+    pub valid-more : (n : ℕ) (K : Document) → count root ≤ n → valid_within rules root n root K ≡ valid rules root K
     valid-more n K enough =
-        sym (entry_valid-within n 0 _ K (omega (arith, few_entries, enough)) (first_place rules root) root_is_entry)
+        sym (entry_valid-within n 0 ([], root) K (omega (arith, few_entries, enough)) (first_place rules root))
         ∙ entry_valid-valid K

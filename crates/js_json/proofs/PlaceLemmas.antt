@@ -1,5 +1,5 @@
 -- Elements by their index, and the steps of a pointer.
-use Rattle.std.proofs.Common.{◌≡◌, ℕ, ◌<◌, ◌≤◌, ◌^◌, List, [], ◌∷◌, map, length, get_or, Bool, true, false, ltb, Option, Some, None, option_map, Result, Ok, Err, IsUtf8, IsAscii, chars, arith, rules, refl, sym, ap, ◌∙◌}
+use Rattle.std.proofs.Common.{◌≡◌, ℕ, ◌+◌, ◌<◌, ◌≤◌, ◌^◌, List, [], ◌∷◌, map, length, get_or, drop, drop-cons, add-one, Bool, true, false, ltb, Option, Some, None, option_map, Result, Ok, Err, IsUtf8, IsAscii, chars, arith, rules, refl, sym, ap, ◌∙◌}
 use Rattle.std.specs.Char.{is_ascii_digit}
 use Rattle.std.specs.List.{list_all}
 use Rattle.std.specs.Borrow.{Bor}
@@ -16,7 +16,7 @@ use Rattle.documents.specs.Json as J
 use Rattle.js_doc.specs.declared.json.Json.{Json}
 use Rattle.js_doc.specs.JsonView.{view}
 use Rattle.js_doc.proofs.Levels.{json_elements-of}
-use Rattle.documents.specs.Place.{is_index, index_of, child_at}
+use Rattle.documents.specs.Place.{is_index, index_of, child_at, value_at}
 
 abbrev AreDigits : List ℕ → Type 0
 AreDigits ds = list_all is_ascii_digit ds ≡ true
@@ -88,3 +88,12 @@ element_absent items l token made past = go (index_of token) refl
     go : (o : Option ℕ) → index_of token ≡ o → child_at token (J.array l) ≡ None
     go None is = rw is refl
     go (Some i) is = rw (is, json_elements-of _ _ made, slice_get-map, slice_get_past items i (past i is)) refl
+
+-- one token further
+pub value_at-step : (tokens : List (List ℕ)) (i : ℕ) (token : List ℕ) (here next : J.Json) → i < length tokens
+    → token ≡ get_or tokens i token → child_at token here ≡ Some next
+    → value_at (drop (i + 1) tokens) next ≡ value_at (drop i tokens) here
+value_at-step tokens i token here next within is step =
+    let cut : drop i tokens ≡ token ∷ drop (i + 1) tokens =
+    rw (add-one, drop-cons tokens i token, ← is) refl in
+    rw (cut, step) refl

@@ -1,11 +1,9 @@
 -- Multiples, least common multiples, and the least number that passes a test.
-use Rattle.std.specs.Prelude.{◌≡◌, ℕ, zero, suc, ◌*◌, ◌%◌, ◌<◌, ◌==◌, List, [], ◌∷◌, Bool, true, false, ℤ, unsigned_abs}
+use Rattle.std.specs.Prelude.{◌≡◌, ℕ, zero, suc, ◌*◌, ◌%◌, ◌<◌, ◌==◌, List, [], ◌∷◌, Bool, true, false}
 use Rattle.std.specs.List.{list_all}
 use Prim.Native.Nat.{◌∣◌}
-
 -- m divides x; every number divides 0
-abbrev pub is_multiple : ℕ → ℤ → Bool
-is_multiple m x = unsigned_abs x % m == 0
+pub use Rattle.documents.specs.Measures.{is_multiple}
 
 -- each of the numbers divides x
 abbrev pub is_common : List ℕ → ℕ → Bool

@@ -4,10 +4,10 @@ use Rattle.std.proofs.lemmas.Bool.{and_parts, and_from}
 use Rattle.documents.specs.Tests.{same_word, comes_before}
 use Rattle.documents.specs.Json.{Json, array, object, Items, no_items, item, Members, no_members, member, lookup}
 use Rattle.documents.specs.WellFormed.{is_before, is_json, are_items, are_members}
+use Rattle.documents.proofs.Parts.{member_parts}
 use Rattle.documents.proofs.NameOrder.{comes_before-same, comes_before-trans}
 use Rattle.schema_laws.specs.Values.{names_differ, names_differ_in, members_differ}
 use Rattle.schema_laws.proofs.Pointers.{same_word-eq}
-use Rattle.schema_laws.proofs.WellFormedLaws.{member_parts}
 
 is_before-trans : (k l : List ℕ) (ms : Members) → comes_before k l ≡ true → is_before l ms ≡ true
     → is_before k ms ≡ true

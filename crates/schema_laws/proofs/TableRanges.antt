@@ -6,6 +6,7 @@ use Rattle.documents.specs.Tests.{every}
 use Rattle.documents.specs.Document.{is_document}
 use Rattle.documents.specs.Json.{Json, number, array, object, no_items, item, Members, no_members, member, lookup, entries}
 use Rattle.documents.specs.WellFormed.{is_json, are_members}
+use Rattle.documents.proofs.Parts.{member_parts, lookup_well_formed}
 use Rattle.schemas.specs.Places.{Pointer}
 use Rattle.schemas.specs.Keyword.{Shape, WholeNumber, PositiveNumber, Count, SchemaList, is_held, shape_of, read_shape}
 use Rattle.schemas.specs.Fault.{Rules, unless, whole_fault, positive_fault, count_fault, schema_list_fault, keyword_fault}
@@ -13,7 +14,7 @@ use Rattle.schemas.specs.Reading.{id_fault, shape_fault, fault_at}
 use Rattle.schemas.specs.Entry.{Needs}
 use Rattle.schemas.specs.Entries.{document_of, listed, word, whole, natural, field, list_numbers, items_part, named_numbers, needs_of, all_needs, rest_number, keywords_of}
 use Rattle.schemas.specs.Schema.{meets, is_count, is_multiple, is_filled, is_word, are_keys, need_words, are_needs, fits_items, is_in_range}
-use Rattle.schema_laws.proofs.WellFormedLaws.{member_parts, lookup_well_formed, is_document-document_of, documents_listed, is_word-word, words_of, words_listed, are_keys-named}
+use Rattle.schema_laws.proofs.WellFormedLaws.{is_document-document_of, documents_listed, is_word-word, words_of, words_listed, are_keys-named}
 use Rattle.schema_laws.proofs.Shapes.{IsShaped, is_shaped, read_shape-of}
 use Rattle.schema_laws.proofs.Faultless.{neither, member_faultless}
 

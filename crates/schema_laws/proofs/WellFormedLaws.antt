@@ -1,30 +1,16 @@
 -- Each value in a value that is well formed is so too, and what is made of it is what documents, words and names are.
-use Rattle.std.proofs.Common.{◌≡◌, ℕ, suc, List, [], ◌∷◌, ◌++◌, map, inl, inr, ⊎_elim, Bool, true, false, ◌&&◌, cond, Some, refl, sym, ap, ◌∙◌}
+use Rattle.std.proofs.Common.{◌≡◌, ℕ, suc, List, [], ◌∷◌, ◌++◌, map, inl, inr, ⊎_elim, true, ◌&&◌, refl, ap, ◌∙◌}
 use Rattle.std.proofs.lemmas.Bool.{and_parts, and_from}
-use Rattle.std.proofs.lemmas.Option.{none-some, same_Some}
-use Rattle.documents.specs.Tests.{every, is_scalar, comes_before, same_word}
+use Rattle.documents.specs.Tests.{every, is_scalar, comes_before}
 use Rattle.documents.specs.Document as D
-use Rattle.documents.specs.Json.{Json, string, array, object, Items, no_items, item, Members, no_members, member, lookup, elements, entries}
+use Rattle.documents.specs.Json.{Json, string, array, object, Items, no_items, item, Members, no_members, member, elements, entries}
 use Rattle.documents.specs.WellFormed.{is_before, is_json, are_items, are_members}
+use Rattle.documents.proofs.Parts.{member_parts}
 use Rattle.schemas.specs.Places.{Pointer, Place, index_token}
 use Rattle.schemas.specs.Entries.{document_of, items_of, members_of, word, listed}
 use Rattle.schemas.specs.Schema.{is_word, is_ascending, are_keys}
 use Rattle.schema_laws.specs.Values.{IsIn, inside, of_items, of_members, values_from}
 use Rattle.schema_laws.proofs.Members.{in_append}
-
--- the parts of members that are well formed
-pub record IsMember (k : List ℕ) (v : Json) (ms : Members) : Type 0 where
-  pub name : every is_scalar k ≡ true
-  pub value : is_json v ≡ true
-  pub before : is_before k ms ≡ true
-  pub others : are_members ms ≡ true
-
-pub member_parts : (k : List ℕ) (v : Json) (ms : Members) → are_members (member k v ms) ≡ true → IsMember k v ms
-member_parts k v ms h =
-    let last = and_parts (every is_scalar k && is_json v && is_before k ms) (are_members ms) h in
-    let third = and_parts (every is_scalar k && is_json v) (is_before k ms) last.0 in
-    let first = and_parts (every is_scalar k) (is_json v) third.0 in
-    record { name = first.0; value = first.1; before = third.1; others = last.1 }
 
 mutual
   inside_well_formed : (p : Pointer) (v : Json) (c : Place) → is_json v ≡ true → IsIn c (inside p v)
@@ -59,19 +45,6 @@ pub values_well_formed : (p : Pointer) (v : Json) (c : Place) → is_json v ≡ 
     → is_json c.1 ≡ true
 values_well_formed p v c h (inl e) = ap (λ z. is_json z.1) e ∙ h
 values_well_formed p v c h (inr i) = inside_well_formed p v c h i
-
-found_well_formed : (k n : List ℕ) (v w : Json) (ms : Members) (test : Bool) → is_json w ≡ true
-    → cond test (Some w) (lookup k ms) ≡ Some v
-    → (lookup k ms ≡ Some v → is_json v ≡ true) → is_json v ≡ true
-found_well_formed k n v w ms true h e later = ap is_json (sym (same_Some w v e)) ∙ h
-found_well_formed k n v w ms false h e later = later e
-
-pub lookup_well_formed : (k : List ℕ) (ms : Members) (v : Json) → are_members ms ≡ true → lookup k ms ≡ Some v
-    → is_json v ≡ true
-lookup_well_formed k no_members v h e = absurd (none-some v e)
-lookup_well_formed k (member n w ms) v h e =
-    let parts = member_parts n w ms h in
-    found_well_formed k n v w ms (same_word k n) parts.value e (lookup_well_formed k ms v parts.others)
 
 -- ---- documents and words
 
