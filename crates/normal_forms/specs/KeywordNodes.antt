@@ -19,7 +19,7 @@ use Rattle.normal_forms.specs.Values.{of_kind, value_node}
 
 -- the kinds that the types name, each once, in the order of kinds
 abbrev pub kinds_of : List TypeName → List Kind
-kinds_of ts = P.filter (λ t. some (λ n. K.same_kind (kind_named n) t) ts) all_kinds
+kinds_of ts = P.filter (λ t. some (λ n. K.same_kind t (kind_named n)) ts) all_kinds
 
 -- each once, where it stands first
 abbrev pub once_among : {A : Type 0} → (A → A → Bool) → List A → List A → List A

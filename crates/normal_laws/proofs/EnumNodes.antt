@@ -30,7 +30,7 @@ some-either f g (x ∷ xs) = rw (some-either f g xs) (shuffled (f x) (g x) (some
   shuffled false true false y = refl
   shuffled false false x y = refl
 
-some-alike : {A : Type 0} (f g : A → Bool) (xs : List A) → ((x : A) → f x ≡ g x) → some f xs ≡ some g xs
+pub some-alike : {A : Type 0} (f g : A → Bool) (xs : List A) → ((x : A) → f x ≡ g x) → some f xs ≡ some g xs
 some-alike f g [] h = refl
 some-alike f g (x ∷ xs) h = rw (h x) (rw (some-alike f g xs h) refl)
 
@@ -48,7 +48,7 @@ some-filter_map {B = B} h p (x ∷ xs) = by_value (h x) refl (some-filter_map h 
   by_value None e rest = rw e rest
   by_value (Some y) e rest = rw e (rw rest refl)
 
-some-filter : {A : Type 0} (q p : A → Bool) (xs : List A) → some (λ x. q x && p x) xs ≡ some p (filter q xs)
+pub some-filter : {A : Type 0} (q p : A → Bool) (xs : List A) → some (λ x. q x && p x) xs ≡ some p (filter q xs)
 some-filter q p [] = refl
 some-filter q p (x ∷ xs) = by_test (q x) refl (some-filter q p xs) where
   by_test : (b : Bool) → q x ≡ b → some (λ x. q x && p x) xs ≡ some p (filter q xs)

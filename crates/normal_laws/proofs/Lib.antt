@@ -4,3 +4,4 @@ pub mod ItemTests
 pub mod ValueNodes
 pub mod Repeats
 pub mod EnumNodes
+pub mod KeywordNodes

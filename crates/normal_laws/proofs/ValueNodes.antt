@@ -219,7 +219,7 @@ module _ (T : List Position) (holds : ℕ → Document → Bool) (meaning : IsMe
   items_asked ds qs m (object ms) d = refl
 
   -- ---- objects
-  values_in : (ms : Members) → are_members ms ≡ true → AllByRecursion (λ m. is_document m.1 ≡ true) (entries ms)
+  pub values_in : (ms : Members) → are_members ms ≡ true → AllByRecursion (λ m. is_document m.1 ≡ true) (entries ms)
   values_in no_members h = tt
   values_in (member k d ms) h =
       let last = and_parts (every is_scalar k && is_document d && is_before k ms) (are_members ms) h in
