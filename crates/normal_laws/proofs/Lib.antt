@@ -5,3 +5,4 @@ pub mod ValueNodes
 pub mod Repeats
 pub mod EnumNodes
 pub mod KeywordNodes
+pub mod KeywordLaw

@@ -1,0 +1,135 @@
+-- The key lemma: a document passes the tests of an object's nodes exactly where it meets what its keywords ask.
+use Rattle.std.proofs.Common.{◌≡◌, ℕ, ℤ, pos, ◌+ℤ◌, ◌-ℤ◌, int_le, int_lt, nat_le, List, [], ◌∷◌, ◌++◌, length, Bool, true, false, ◌&&◌, not, Option, Some, None, refl, ap, ap₂, sym, ◌∙◌, arith}
+use Rattle.documents.specs.Tests.{every, some, same_word}
+use Rattle.documents.specs.Kind.{same_kind}
+use Rattle.documents.specs.Document.{Document, null, boolean, number, string, array, object, is_document, kind_of}
+use Rattle.documents.specs.Measures.{exactly_one, is_multiple, at_number, at_string, at_array, at_object, has_name, every_in, same_document}
+use Rattle.patterns.specs.Tree.{Tree}
+use Rattle.patterns.specs.Decision.{finds}
+use Rattle.schemas.specs.Entry.{Keywords}
+use Rattle.schemas.specs.Schema.{if_there, meets}
+use Rattle.draft06.specs.Names.{each_asks, where_present}
+use Rattle.draft06.specs.EntryValidity.{asks_any, asks_number, asks_string, asks_array, asks_object, asks_keywords, has_type, items_ask, rest_asks, need_asks, is_other}
+use Rattle.position_laws.proofs.Lists.{every-append}
+use Rattle.positions.specs.Position.{Position, All, Any, One, Not, Types, NumMin, NumMax, Multiple, Match, LengthMin, LengthMax, Contains, CountMin, CountMax, MembersOf, Named, Matching, Has, PropsMin, PropsMax, NamesIn}
+use Rattle.normal_forms.specs.Nodes.{Maker, node, both, above, each, if_some}
+use Rattle.normal_forms.specs.Values.{value_node}
+use Rattle.normal_forms.specs.KeywordNodes.{kinds_of, once, groups, items_node, dependency_node, pattern_of, others_of, any_nodes, number_nodes, string_nodes, array_nodes, member_nodes, count_nodes, in_place_nodes, keyword_nodes}
+use Rattle.normal_laws.specs.Making.{all_pass, IsMeaning, Makes}
+use Rattle.normal_laws.proofs.MakingLemmas.{makes-node, makes-both, makes-if, tests_of}
+use Rattle.normal_laws.proofs.ValueNodes.{value_makes}
+use Rattle.normal_laws.proofs.EnumNodes.{enum_makes}
+use Rattle.normal_laws.proofs.KeywordNodes as N
+
+-- ---- tests in any order
+and-swap : (a b : Bool) → (a && b) ≡ (b && a)
+and-swap true true = refl
+and-swap true false = refl
+and-swap false true = refl
+and-swap false false = refl
+
+and-group : (a b c : Bool) → ((a && b) && c) ≡ (a && (b && c))
+and-group true b c = refl
+and-group false b c = refl
+
+and-true : (a : Bool) → (a && true) ≡ a
+and-true true = refl
+and-true false = refl
+
+last_first : (a b c : Bool) → (a && (b && c)) ≡ ((b && c) && a)
+last_first a b c = and-swap a (b && c)
+
+backwards : (a b c : Bool) → (a && (b && c)) ≡ (c && (b && a))
+backwards true true true = refl
+backwards true true false = refl
+backwards true false true = refl
+backwards true false false = refl
+backwards false true true = refl
+backwards false true false = refl
+backwards false false true = refl
+backwards false false false = refl
+
+between : (a x i : Bool) → (a && (x && i)) ≡ ((a && i) && x)
+between true x i = and-swap x i
+between false x i = refl
+
+-- ---- tests of a keyword that may be there
+pass-if : {A : Type 0} (ps : A → List (Document → Bool)) (o : Option A) (q : A → Bool) (J : Document)
+    → ((x : A) → all_pass (ps x) J ≡ q x) → all_pass (if_there [] ps o) J ≡ meets q o
+pass-if ps None q J h = refl
+pass-if ps (Some x) q J h = h x
+
+-- a single test
+abbrev one_test : {A : Type 0} → (A → Document → Bool) → Option A → List (Document → Bool)
+one_test t o = if_there [] (λ x. t x ∷ []) o
+
+pass-one : {A : Type 0} (t : A → Document → Bool) (o : Option A) (J : Document)
+    → all_pass (one_test t o) J ≡ meets (λ x. t x J) o
+pass-one t None J = refl
+pass-one t (Some x) J = and-true (t x J)
+
+always : {A : Type 0} (o : Option A) → meets (λ x. true) o ≡ true
+always None = refl
+always (Some x) = refl
+
+pass-append : (ps ts : List (Document → Bool)) (J : Document) → all_pass (ps ++ ts) J ≡ (all_pass ps J && all_pass ts J)
+pass-append ps ts J = every-append (λ p. p J) ps ts
+
+meets-same : {A : Type 0} (p q : A → Bool) (o : Option A) → ((x : A) → p x ≡ q x) → meets p o ≡ meets q o
+meets-same p q None h = refl
+meets-same p q (Some x) h = h x
+
+-- ---- the tests of each group
+module _ (k : Keywords) where
+  abbrev pub number_tests : List (Document → Bool)
+  number_tests =
+      one_test (λ m. at_number (is_multiple m)) k.multiple_of
+      ++ (one_test (λ n. at_number (int_le n)) k.minimum
+      ++ (one_test (λ n. at_number (int_lt n)) k.exclusive_minimum
+      ++ (one_test (λ n. at_number (λ x. int_le x n)) k.maximum
+      ++ one_test (λ n. at_number (λ x. int_lt x n)) k.exclusive_maximum)))
+
+  numbers_pass : (matches : List ℕ → List ℕ → Bool) (here : ℕ → Bool) (below : ℕ → Document → Bool) (J : Document)
+      → all_pass number_tests J ≡ at_number (asks_number matches here below k) J
+  numbers_pass matches here below J =
+      pass-append (one_test (λ m. at_number (is_multiple m)) k.multiple_of) _ J
+      ∙ ap₂ ◌&&◌ (pass-one (λ m. at_number (is_multiple m)) k.multiple_of J)
+      (pass-append (one_test (λ n. at_number (int_le n)) k.minimum) _ J
+      ∙ ap₂ ◌&&◌ (pass-one (λ n. at_number (int_le n)) k.minimum J)
+      (pass-append (one_test (λ n. at_number (int_lt n)) k.exclusive_minimum) _ J
+      ∙ ap₂ ◌&&◌ (pass-one (λ n. at_number (int_lt n)) k.exclusive_minimum J)
+      (pass-append (one_test (λ n. at_number (λ x. int_le x n)) k.maximum) _ J
+      ∙ ap₂ ◌&&◌ (pass-one (λ n. at_number (λ x. int_le x n)) k.maximum J)
+      (pass-one (λ n. at_number (λ x. int_lt x n)) k.exclusive_maximum J))))
+      ∙ by_kind J where
+    ordered : (m mi emi ma ema : Bool) → (m && (mi && (emi && (ma && ema)))) ≡ ((((m && ma) && ema) && mi) && emi)
+    ordered false mi emi ma ema = refl
+    ordered true mi emi ma ema =
+        sym (and-group mi emi (ma && ema)) ∙ and-swap (mi && emi) (ma && ema)
+        ∙ sym (and-group (ma && ema) mi emi)
+    by_kind : (J : Document)
+        → (meets (λ m. at_number (is_multiple m) J) k.multiple_of
+        && (meets (λ n. at_number (int_le n) J) k.minimum
+        && (meets (λ n. at_number (int_lt n) J) k.exclusive_minimum
+        && (meets (λ n. at_number (λ x. int_le x n) J) k.maximum
+        && meets (λ n. at_number (λ x. int_lt x n) J) k.exclusive_maximum))))
+        ≡ at_number (asks_number matches here below k) J
+    by_kind (number x) =
+        ordered (meets (λ m. is_multiple m x) k.multiple_of) (meets (λ n. int_le n x) k.minimum)
+        (meets (λ n. int_lt n x) k.exclusive_minimum) (meets (λ n. int_le x n) k.maximum)
+        (meets (λ n. int_lt x n) k.exclusive_maximum)
+    by_kind null =
+        rw (always k.multiple_of) (rw (always k.minimum) (rw (always k.exclusive_minimum) (rw (always k.maximum)
+        (always k.exclusive_maximum))))
+    by_kind (boolean b) =
+        rw (always k.multiple_of) (rw (always k.minimum) (rw (always k.exclusive_minimum) (rw (always k.maximum)
+        (always k.exclusive_maximum))))
+    by_kind (string w) =
+        rw (always k.multiple_of) (rw (always k.minimum) (rw (always k.exclusive_minimum) (rw (always k.maximum)
+        (always k.exclusive_maximum))))
+    by_kind (array ds) =
+        rw (always k.multiple_of) (rw (always k.minimum) (rw (always k.exclusive_minimum) (rw (always k.maximum)
+        (always k.exclusive_maximum))))
+    by_kind (object ms) =
+        rw (always k.multiple_of) (rw (always k.minimum) (rw (always k.exclusive_minimum) (rw (always k.maximum)
+        (always k.exclusive_maximum))))
