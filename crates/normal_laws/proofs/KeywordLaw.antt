@@ -2,6 +2,8 @@
 use Rattle.std.proofs.Common.{◌≡◌, ℕ, ℤ, pos, ◌+ℤ◌, ◌-ℤ◌, int_le, int_lt, nat_le, List, [], ◌∷◌, ◌++◌, length, Bool, true, false, ◌&&◌, not, Option, Some, None, refl, ap, ap₂, sym, ◌∙◌, arith}
 use Rattle.documents.specs.Tests.{every, some, same_word}
 use Rattle.documents.specs.Kind.{same_kind}
+use Rattle.documents.specs.Document as D
+use Rattle.schemas.specs.Entry as E
 use Rattle.documents.specs.Document.{Document, null, boolean, number, string, array, object, is_document, kind_of}
 use Rattle.documents.specs.Measures.{exactly_one, is_multiple, at_number, at_string, at_array, at_object, has_name, every_in, same_document}
 use Rattle.patterns.specs.Tree.{Tree}
@@ -133,3 +135,86 @@ module _ (k : Keywords) where
     by_kind (object ms) =
         rw (always k.multiple_of) (rw (always k.minimum) (rw (always k.exclusive_minimum) (rw (always k.maximum)
         (always k.exclusive_maximum))))
+
+  abbrev pub string_tests : (List ℕ → Tree) → List (Document → Bool)
+  string_tests tree_of =
+      one_test (λ n. at_string (λ w. nat_le n (length w))) k.min_length
+      ++ (one_test (λ n. at_string (λ w. nat_le (length w) n)) k.max_length
+      ++ one_test (λ t. at_string (finds (tree_of t))) k.pattern)
+
+  strings_pass : (tree_of : List ℕ → Tree) (here : ℕ → Bool) (below : ℕ → Document → Bool) (J : Document)
+      → all_pass (string_tests tree_of) J ≡ at_string (asks_string (λ t. finds (tree_of t)) here below k) J
+  strings_pass tree_of here below J =
+      pass-append (one_test (λ n. at_string (λ w. nat_le n (length w))) k.min_length) _ J
+      ∙ ap₂ ◌&&◌ (pass-one (λ n. at_string (λ w. nat_le n (length w))) k.min_length J)
+      (pass-append (one_test (λ n. at_string (λ w. nat_le (length w) n)) k.max_length) _ J
+      ∙ ap₂ ◌&&◌ (pass-one (λ n. at_string (λ w. nat_le (length w) n)) k.max_length J)
+      (pass-one (λ t. at_string (finds (tree_of t))) k.pattern J))
+      ∙ by_kind J where
+    ordered : (mi ma p : Bool) → (mi && (ma && p)) ≡ ((ma && mi) && p)
+    ordered mi ma p = sym (and-group mi ma p) ∙ ap (λ b. b && p) (and-swap mi ma)
+    by_kind : (J : Document)
+        → (meets (λ n. at_string (λ w. nat_le n (length w)) J) k.min_length
+        && (meets (λ n. at_string (λ w. nat_le (length w) n) J) k.max_length
+        && meets (λ t. at_string (finds (tree_of t)) J) k.pattern))
+        ≡ at_string (asks_string (λ t. finds (tree_of t)) here below k) J
+    by_kind (string w) =
+        ordered (meets (λ n. nat_le n (length w)) k.min_length) (meets (λ n. nat_le (length w) n) k.max_length)
+        (meets (λ t. finds (tree_of t) w) k.pattern)
+    by_kind null = rw (always k.min_length) (rw (always k.max_length) (always k.pattern))
+    by_kind (boolean b) = rw (always k.min_length) (rw (always k.max_length) (always k.pattern))
+    by_kind (number n) = rw (always k.min_length) (rw (always k.max_length) (always k.pattern))
+    by_kind (array ds) = rw (always k.min_length) (rw (always k.max_length) (always k.pattern))
+    by_kind (object ms) = rw (always k.min_length) (rw (always k.max_length) (always k.pattern))
+
+  module _ (below : ℕ → Document → Bool) where
+    abbrev pub items_test : E.ItemsPart → Document → Bool
+    items_test s =
+        at_array (λ ds. items_ask below s ds && if_there true (λ e. rest_asks below (Some s) e ds) k.additional_items)
+
+    abbrev pub array_tests : List (Document → Bool)
+    array_tests =
+        one_test items_test k.items
+        ++ (one_test (λ e. at_array (some (below e))) k.contains
+        ++ (one_test (λ n. at_array (λ ds. nat_le n (length ds))) k.min_items
+        ++ one_test (λ n. at_array (λ ds. nat_le (length ds) n)) k.max_items))
+
+    -- `items` and what it says of further elements
+    both_items : (ds : List Document) (o : Option E.ItemsPart)
+        → meets (λ s. items_ask below s ds && if_there true (λ e. rest_asks below (Some s) e ds) k.additional_items) o
+        ≡ (meets (λ s. items_ask below s ds) o && meets (λ e. rest_asks below o e ds) k.additional_items)
+    both_items ds None = sym (always k.additional_items)
+    both_items ds (Some s) = refl
+
+    arrays_pass : (matches : List ℕ → List ℕ → Bool) (here : ℕ → Bool) (J : Document)
+        → all_pass array_tests J ≡ at_array (asks_array matches here below k) J
+    arrays_pass matches here J =
+        pass-append (one_test items_test k.items) _ J
+        ∙ ap₂ ◌&&◌ (pass-one items_test k.items J)
+        (pass-append (one_test (λ e. at_array (some (below e))) k.contains) _ J
+        ∙ ap₂ ◌&&◌ (pass-one (λ e. at_array (some (below e))) k.contains J)
+        (pass-append (one_test (λ n. at_array (λ ds. nat_le n (length ds))) k.min_items) _ J
+        ∙ ap₂ ◌&&◌ (pass-one (λ n. at_array (λ ds. nat_le n (length ds))) k.min_items J)
+        (pass-one (λ n. at_array (λ ds. nat_le (length ds) n)) k.max_items J)))
+        ∙ by_kind J where
+      ordered : (i c mi ma : Bool) → (i && (c && (mi && ma))) ≡ (((i && ma) && mi) && c)
+      ordered false c mi ma = refl
+      ordered true c mi ma = backwards c mi ma ∙ sym (and-group ma mi c)
+      by_kind : (J : Document)
+          → (meets (λ s. items_test s J) k.items
+          && (meets (λ e. at_array (some (below e)) J) k.contains
+          && (meets (λ n. at_array (λ ds. nat_le n (length ds)) J) k.min_items
+          && meets (λ n. at_array (λ ds. nat_le (length ds) n) J) k.max_items)))
+          ≡ at_array (asks_array matches here below k) J
+      by_kind (array ds) =
+          ap (λ b. b && (meets (λ e. some (below e) (D.elements ds)) k.contains
+          && (meets (λ n. nat_le n (length (D.elements ds))) k.min_items
+          && meets (λ n. nat_le (length (D.elements ds)) n) k.max_items))) (both_items (D.elements ds) k.items)
+          ∙ ordered _ (meets (λ e. some (below e) (D.elements ds)) k.contains)
+          (meets (λ n. nat_le n (length (D.elements ds))) k.min_items)
+          (meets (λ n. nat_le (length (D.elements ds)) n) k.max_items)
+      by_kind null = rw (always k.items) (rw (always k.contains) (rw (always k.min_items) (always k.max_items)))
+      by_kind (boolean b) = rw (always k.items) (rw (always k.contains) (rw (always k.min_items) (always k.max_items)))
+      by_kind (number n) = rw (always k.items) (rw (always k.contains) (rw (always k.min_items) (always k.max_items)))
+      by_kind (string w) = rw (always k.items) (rw (always k.contains) (rw (always k.min_items) (always k.max_items)))
+      by_kind (object ms) = rw (always k.items) (rw (always k.contains) (rw (always k.min_items) (always k.max_items)))
