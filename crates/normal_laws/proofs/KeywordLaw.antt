@@ -1,5 +1,5 @@
 -- The key lemma: a document passes the tests of an object's nodes exactly where it meets what its keywords ask.
-use Rattle.std.proofs.Common.{◌≡◌, ℕ, ℤ, pos, ◌+ℤ◌, ◌-ℤ◌, int_le, int_lt, nat_le, List, [], ◌∷◌, ◌++◌, length, Bool, true, false, ◌&&◌, not, Option, Some, None, refl, ap, ap₂, sym, ◌∙◌, arith}
+use Rattle.std.proofs.Common.{◌≡◌, ℕ, ℤ, pos, ◌+ℤ◌, ◌-ℤ◌, int_le, int_lt, nat_le, List, [], ◌∷◌, ◌++◌, length, Bool, true, false, ◌&&◌, ◌||◌, not, Option, Some, None, refl, ap, ap₂, sym, ◌∙◌, arith}
 use Rattle.documents.specs.Tests.{every, some, same_word}
 use Rattle.documents.specs.Kind.{same_kind}
 use Rattle.documents.specs.Document as D
@@ -218,3 +218,132 @@ module _ (k : Keywords) where
       by_kind (number n) = rw (always k.items) (rw (always k.contains) (rw (always k.min_items) (always k.max_items)))
       by_kind (string w) = rw (always k.items) (rw (always k.contains) (rw (always k.min_items) (always k.max_items)))
       by_kind (object ms) = rw (always k.items) (rw (always k.contains) (rw (always k.min_items) (always k.max_items)))
+
+module _ (T : List Position) (holds : ℕ → Document → Bool) (meaning : IsMeaning T holds) (tree_of : List ℕ → Tree)
+    (below : ℕ → Document → Bool)
+    (agree : (q : ℕ) (K : Document) → is_document K ≡ true → holds q K ≡ below q K) (k : Keywords) where
+  abbrev matches : List ℕ → List ℕ → Bool
+  matches t = finds (tree_of t)
+
+  -- which entries the document itself meets
+  abbrev here : Document → ℕ → Bool
+  here J e = holds e J
+
+  abbrev has_test : List ℕ → Document → Bool
+  has_test w = at_object (has_name w)
+
+  abbrev named_test : (List ℕ → List ℕ → Bool) → List ℕ × ℕ → Document → Bool
+  named_test goes n = at_object (every_in (goes n.0) (below n.1))
+
+  abbrev other_test : ℕ → Document → Bool
+  other_test e = at_object (every_in (is_other matches (λ e. true) below k) (below e))
+
+  abbrev names_test : ℕ → Document → Bool
+  names_test e = at_object (λ ms. every (λ m. below e (string m.0)) ms)
+
+  abbrev dependency_test : List ℕ × E.Needs → Document → Bool
+  dependency_test d J = at_object (λ ms. not (has_name d.0 ms) || need_asks (here J) d.1 ms) J
+
+  abbrev required_tests : List (Document → Bool)
+  required_tests = if_there [] (λ ws. tests_of has_test (once same_word ws)) k.required
+
+  abbrev property_tests : List (Document → Bool)
+  property_tests = if_there [] (tests_of (named_test same_word)) k.properties
+
+  abbrev pattern_tests : List (Document → Bool)
+  pattern_tests = if_there [] (tests_of (named_test matches)) k.pattern_properties
+
+  abbrev dependency_tests : List (Document → Bool)
+  dependency_tests = if_there [] (tests_of dependency_test) k.dependencies
+
+  abbrev member_tests : List (Document → Bool)
+  member_tests =
+      required_tests ++ (property_tests ++ (pattern_tests ++ (one_test other_test k.additional_properties
+      ++ (one_test names_test k.property_names ++ dependency_tests))))
+
+  abbrev count_tests : List (Document → Bool)
+  count_tests =
+      one_test (λ n. at_object (λ ms. nat_le n (length ms))) k.min_properties
+      ++ one_test (λ n. at_object (λ ms. nat_le (length ms) n)) k.max_properties
+
+  -- the tests of members one after another
+  members_split : (J : Document) → all_pass member_tests J
+      ≡ (meets (λ ws. at_object (λ ms. every (λ w. has_name w ms) ws) J) k.required
+      && (meets (λ ns. at_object (each_asks same_word below ns) J) k.properties
+      && (meets (λ ns. at_object (each_asks matches below ns) J) k.pattern_properties
+      && (meets (λ e. other_test e J) k.additional_properties
+      && (meets (λ e. names_test e J) k.property_names
+      && meets (λ ds. at_object (λ ms. where_present (λ n. need_asks (here J) n ms) ds ms) J) k.dependencies)))))
+  members_split J =
+      pass-append required_tests _ J
+      ∙ ap₂ ◌&&◌ (pass-if (λ ws. tests_of has_test (once same_word ws)) k.required _ J
+      (λ ws. N.required_pass T holds meaning tree_of below agree ws J))
+      (pass-append property_tests _ J
+      ∙ ap₂ ◌&&◌ (pass-if (tests_of (named_test same_word)) k.properties _ J
+      (λ ns. N.named_pass T holds meaning tree_of below agree same_word ns J))
+      (pass-append pattern_tests _ J
+      ∙ ap₂ ◌&&◌ (pass-if (tests_of (named_test matches)) k.pattern_properties _ J
+      (λ ns. N.named_pass T holds meaning tree_of below agree matches ns J))
+      (pass-append (one_test other_test k.additional_properties) _ J
+      ∙ ap₂ ◌&&◌ (pass-one other_test k.additional_properties J)
+      (pass-append (one_test names_test k.property_names) _ J
+      ∙ ap₂ ◌&&◌ (pass-one names_test k.property_names J)
+      (pass-if (tests_of dependency_test) k.dependencies _ J
+      (λ ds. N.dependencies_pass T holds meaning tree_of below agree ds J))))))
+
+  counts_split : (J : Document) → all_pass count_tests J
+      ≡ (meets (λ n. at_object (λ ms. nat_le n (length ms)) J) k.min_properties
+      && meets (λ n. at_object (λ ms. nat_le (length ms) n) J) k.max_properties)
+  counts_split J =
+      pass-append (one_test (λ n. at_object (λ ms. nat_le n (length ms))) k.min_properties) _ J
+      ∙ ap₂ ◌&&◌ (pass-one (λ n. at_object (λ ms. nat_le n (length ms))) k.min_properties J)
+      (pass-one (λ n. at_object (λ ms. nat_le (length ms) n)) k.max_properties J)
+
+  -- members and then their number: what is asked of objects
+  objects_pass : (J : Document) → (all_pass member_tests J && all_pass count_tests J)
+      ≡ at_object (asks_object matches (here J) below k) J
+  objects_pass J = ap₂ ◌&&◌ (members_split J) (counts_split J) ∙ by_kind J where
+    ordered : (r p q a n d mi ma : Bool)
+        → ((r && (p && (q && (a && (n && d))))) && (mi && ma)) ≡ (((((((ma && mi) && r) && p) && q) && a) && d) && n)
+    ordered r p q a n d mi ma =
+        and-swap (r && (p && (q && (a && (n && d))))) (mi && ma)
+        ∙ ap (λ b. b && (r && (p && (q && (a && (n && d)))))) (and-swap mi ma)
+        ∙ ap (λ b. (ma && mi) && (r && (p && (q && (a && b))))) (and-swap n d)
+        ∙ sym (and-group (ma && mi) r (p && (q && (a && (d && n)))))
+        ∙ sym (and-group ((ma && mi) && r) p (q && (a && (d && n))))
+        ∙ sym (and-group (((ma && mi) && r) && p) q (a && (d && n)))
+        ∙ sym (and-group ((((ma && mi) && r) && p) && q) a (d && n))
+        ∙ sym (and-group (((((ma && mi) && r) && p) && q) && a) d n)
+    none : (meets (λ ws. true) k.required && (meets (λ ns. true) k.properties
+        && (meets (λ ns. true) k.pattern_properties && (meets (λ e. true) k.additional_properties
+        && (meets (λ e. true) k.property_names && meets (λ ds. true) k.dependencies))))) ≡ true
+    none =
+        rw (always k.required) (rw (always k.properties) (rw (always k.pattern_properties)
+        (rw (always k.additional_properties) (rw (always k.property_names) (always k.dependencies)))))
+    no_count : (meets (λ n. true) k.min_properties && meets (λ n. true) k.max_properties) ≡ true
+    no_count = rw (always k.min_properties) (always k.max_properties)
+    by_kind : (J : Document)
+        → ((meets (λ ws. at_object (λ ms. every (λ w. has_name w ms) ws) J) k.required
+        && (meets (λ ns. at_object (each_asks same_word below ns) J) k.properties
+        && (meets (λ ns. at_object (each_asks matches below ns) J) k.pattern_properties
+        && (meets (λ e. other_test e J) k.additional_properties
+        && (meets (λ e. names_test e J) k.property_names
+        && meets (λ ds. at_object (λ ms. where_present (λ n. need_asks (here J) n ms) ds ms) J) k.dependencies)))))
+        && (meets (λ n. at_object (λ ms. nat_le n (length ms)) J) k.min_properties
+        && meets (λ n. at_object (λ ms. nat_le (length ms) n) J) k.max_properties))
+        ≡ at_object (asks_object matches (here J) below k) J
+    by_kind (object ms) =
+        ordered (meets (every (λ w. has_name w (D.entries ms))) k.required)
+        (meets (λ ns. each_asks same_word below ns (D.entries ms)) k.properties)
+        (meets (λ ns. each_asks matches below ns (D.entries ms)) k.pattern_properties)
+        (meets (λ e. other_test e (object ms)) k.additional_properties)
+        (meets (λ e. names_test e (object ms)) k.property_names)
+        (meets (λ ds. where_present (λ n. need_asks (here (object ms)) n (D.entries ms)) ds (D.entries ms))
+        k.dependencies)
+        (meets (λ n. nat_le n (length (D.entries ms))) k.min_properties)
+        (meets (λ n. nat_le (length (D.entries ms)) n) k.max_properties)
+    by_kind null = rw none no_count
+    by_kind (boolean b) = rw none no_count
+    by_kind (number n) = rw none no_count
+    by_kind (string w) = rw none no_count
+    by_kind (array ds) = rw none no_count
