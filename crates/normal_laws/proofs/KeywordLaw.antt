@@ -14,11 +14,12 @@ use Rattle.draft06.specs.Names.{each_asks, where_present}
 use Rattle.draft06.specs.EntryValidity.{asks_any, asks_number, asks_string, asks_array, asks_object, asks_keywords, has_type, items_ask, rest_asks, need_asks, is_other}
 use Rattle.position_laws.proofs.Lists.{every-append}
 use Rattle.positions.specs.Position.{Position, All, Any, One, Not, Types, NumMin, NumMax, Multiple, Match, LengthMin, LengthMax, Contains, CountMin, CountMax, MembersOf, Named, Matching, Has, PropsMin, PropsMax, NamesIn}
+use Rattle.positions.specs.Holds.{asks}
 use Rattle.normal_forms.specs.Nodes.{Maker, node, both, above, each, if_some}
 use Rattle.normal_forms.specs.Values.{value_node}
 use Rattle.normal_forms.specs.KeywordNodes.{kinds_of, once, groups, items_node, dependency_node, pattern_of, others_of, any_nodes, number_nodes, string_nodes, array_nodes, member_nodes, count_nodes, in_place_nodes, keyword_nodes}
 use Rattle.normal_laws.specs.Making.{all_pass, IsMeaning, Makes}
-use Rattle.normal_laws.proofs.MakingLemmas.{makes-node, makes-both, makes-if, tests_of}
+use Rattle.normal_laws.proofs.MakingLemmas.{makes-nothing, makes-node, makes-both, makes-if, tests_of}
 use Rattle.normal_laws.proofs.ValueNodes.{value_makes}
 use Rattle.normal_laws.proofs.EnumNodes.{enum_makes}
 use Rattle.normal_laws.proofs.KeywordNodes as N
@@ -347,3 +348,119 @@ module _ (T : List Position) (holds : ℕ → Document → Bool) (meaning : IsMe
     by_kind (number n) = rw none no_count
     by_kind (string w) = rw none no_count
     by_kind (array ds) = rw none no_count
+
+  -- ---- of every document
+  abbrev types_test : List E.TypeName → Document → Bool
+  types_test ts J = some (same_kind (D.kind_of J)) (kinds_of ts)
+
+  abbrev enum_test : List Document → Document → Bool
+  enum_test ds J = some (λ d. same_document d J) ds
+
+  abbrev any_tests : List (Document → Bool)
+  any_tests =
+      one_test types_test k.types ++ (one_test enum_test k.enumeration ++ one_test same_document k.constant)
+
+  abbrev in_place_tests : List (Document → Bool)
+  in_place_tests =
+      one_test (λ es J. every (here J) es) k.all_of
+      ++ (one_test (λ es J. some (here J) es) k.any_of
+      ++ (one_test (λ es J. exactly_one (here J) es) k.one_of
+      ++ one_test (λ e J. not (here J e)) k.not))
+
+  any_split : (J : Document) → all_pass any_tests J
+      ≡ ((meets (some (λ d. same_document d J)) k.enumeration && meets (λ d. same_document d J) k.constant)
+      && meets (some (has_type J)) k.types)
+  any_split J =
+      pass-append (one_test types_test k.types) _ J
+      ∙ ap₂ ◌&&◌ (pass-one types_test k.types J
+      ∙ meets-same (λ ts. types_test ts J) (some (has_type J)) k.types (λ ts. N.types_same ts J))
+      (pass-append (one_test enum_test k.enumeration) _ J
+      ∙ ap₂ ◌&&◌ (pass-one enum_test k.enumeration J) (pass-one same_document k.constant J))
+      ∙ and-swap (meets (some (has_type J)) k.types)
+      (meets (λ ds. enum_test ds J) k.enumeration && meets (λ d. same_document d J) k.constant)
+
+  in_place_split : (J : Document) → all_pass in_place_tests J
+      ≡ (meets (every (here J)) k.all_of && (meets (some (here J)) k.any_of
+      && (meets (exactly_one (here J)) k.one_of && meets (λ e. not (here J e)) k.not)))
+  in_place_split J =
+      pass-append (one_test (λ es J. every (here J) es) k.all_of) _ J
+      ∙ ap₂ ◌&&◌ (pass-one (λ es J. every (here J) es) k.all_of J)
+      (pass-append (one_test (λ es J. some (here J) es) k.any_of) _ J
+      ∙ ap₂ ◌&&◌ (pass-one (λ es J. some (here J) es) k.any_of J)
+      (pass-append (one_test (λ es J. exactly_one (here J) es) k.one_of) _ J
+      ∙ ap₂ ◌&&◌ (pass-one (λ es J. exactly_one (here J) es) k.one_of J)
+      (pass-one (λ e J. not (here J e)) k.not J)))
+
+  -- what is asked of every document, and of schemas at the same document
+  everywhere_pass : (J : Document) → (all_pass any_tests J && all_pass in_place_tests J)
+      ≡ asks_any matches (here J) below k J
+  everywhere_pass J = ap₂ ◌&&◌ (any_split J) (in_place_split J)
+      ∙ grouped ((meets (some (λ d. same_document d J)) k.enumeration && meets (λ d. same_document d J) k.constant)
+      && meets (some (has_type J)) k.types) (meets (every (here J)) k.all_of) (meets (some (here J)) k.any_of)
+      (meets (exactly_one (here J)) k.one_of) (meets (λ e. not (here J e)) k.not) where
+    grouped : (x a b c d : Bool) → (x && (a && (b && (c && d)))) ≡ ((((x && a) && b) && c) && d)
+    grouped x a b c d =
+        sym (and-group x a (b && (c && d))) ∙ sym (and-group (x && a) b (c && d))
+        ∙ sym (and-group ((x && a) && b) c d)
+
+  -- ---- all tests
+  abbrev pub keyword_tests : List (Document → Bool)
+  keyword_tests =
+      any_tests ++ (number_tests k ++ (string_tests k tree_of ++ (array_tests k below
+      ++ (member_tests ++ (count_tests ++ in_place_tests)))))
+
+  pub keywords_pass : (J : Document) → all_pass keyword_tests J ≡ asks_keywords matches (here J) below k J
+  keywords_pass J =
+      pass-append any_tests _ J
+      ∙ ap (λ b. all_pass any_tests J && b) (pass-append (number_tests k) _ J
+      ∙ ap₂ ◌&&◌ (numbers_pass k matches (here J) below J) (pass-append (string_tests k tree_of) _ J
+      ∙ ap₂ ◌&&◌ (strings_pass k tree_of (here J) below J) (pass-append (array_tests k below) _ J
+      ∙ ap₂ ◌&&◌ (arrays_pass k below matches (here J) J) (pass-append member_tests _ J
+      ∙ ap (λ b. all_pass member_tests J && b) (pass-append count_tests in_place_tests J)
+      ∙ sym (and-group (all_pass member_tests J) (all_pass count_tests J) (all_pass in_place_tests J))
+      ∙ ap (λ b. b && all_pass in_place_tests J) (objects_pass J)))))
+      ∙ ordered (all_pass any_tests J) (at_number (asks_number matches (here J) below k) J)
+      (at_string (asks_string matches (here J) below k) J) (at_array (asks_array matches (here J) below k) J)
+      (at_object (asks_object matches (here J) below k) J) (all_pass in_place_tests J)
+      ∙ ap (λ b. (((b && at_number (asks_number matches (here J) below k) J)
+      && at_string (asks_string matches (here J) below k) J) && at_array (asks_array matches (here J) below k) J)
+      && at_object (asks_object matches (here J) below k) J) (everywhere_pass J) where
+    ordered : (x n s a o i : Bool) → (x && (n && (s && (a && (o && i))))) ≡ (((((x && i) && n) && s) && a) && o)
+    ordered x n s a o i =
+        ap (λ b. x && (n && (s && b))) (sym (and-group a o i))
+        ∙ ap (λ b. x && (n && b)) (sym (and-group s (a && o) i))
+        ∙ ap (λ b. x && b) (sym (and-group n (s && (a && o)) i))
+        ∙ between x (n && (s && (a && o))) i
+        ∙ sym (and-group (x && i) n (s && (a && o))) ∙ sym (and-group ((x && i) && n) s (a && o))
+        ∙ sym (and-group (((x && i) && n) && s) a o)
+
+  -- ---- the nodes stand for the tests
+  makes-there : {A : Type 0} (f : A → Maker) (ps : A → List (Document → Bool)) (ok : A → Bool) (o : Option A)
+      → meets ok o ≡ true → ((x : A) → ok x ≡ true → Makes T holds (f x) (ps x))
+      → Makes T holds (if_some f o) (if_there [] ps o)
+  makes-there f ps ok None h m = makes-nothing T holds meaning
+  makes-there f ps ok (Some x) h m = m x h
+
+  -- one node that asks what the test says
+  makes-plain : {A : Type 0} (P : A → Position) (t : A → Document → Bool) (o : Option A)
+      → ((x : A) (J : Document) → is_document J ≡ true → asks (λ q. holds q J) holds (P x) J ≡ t x J)
+      → Makes T holds (if_some (λ x. node (P x)) o) (one_test t o)
+  makes-plain P t o h =
+      makes-if T holds meaning (λ x. node (P x)) (λ x. t x ∷ []) o
+      (λ x. makes-node T holds meaning (P x) (t x) (h x))
+
+  after_least : (n : ℤ) (J : Document) → at_number (int_le (n +ℤ pos 1)) J ≡ at_number (int_lt n) J
+  after_least n (number x) = grind arith
+  after_least n null = refl
+  after_least n (boolean b) = refl
+  after_least n (string w) = refl
+  after_least n (array ds) = refl
+  after_least n (object ms) = refl
+
+  before_most : (n : ℤ) (J : Document) → at_number (λ x. int_le x (n -ℤ pos 1)) J ≡ at_number (λ x. int_lt x n) J
+  before_most n (number x) = grind arith
+  before_most n null = refl
+  before_most n (boolean b) = refl
+  before_most n (string w) = refl
+  before_most n (array ds) = refl
+  before_most n (object ms) = refl

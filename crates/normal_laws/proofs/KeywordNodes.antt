@@ -42,7 +42,7 @@ kind_among p K.Text = or-false (p K.Text)
 kind_among p K.Array = or-false (p K.Array)
 kind_among p K.Object = or-false (p K.Object)
 
-types_same : (ts : List TypeName) (J : Document) → some (K.same_kind (kind_of J)) (kinds_of ts) ≡ some (has_type J) ts
+pub types_same : (ts : List TypeName) (J : Document) → some (K.same_kind (kind_of J)) (kinds_of ts) ≡ some (has_type J) ts
 types_same ts J =
     sym (some-filter (λ t. some (λ n. K.same_kind t (kind_named n)) ts) (K.same_kind (kind_of J)) K.all_kinds)
     ∙ some-alike _ (λ x. K.same_kind (kind_of J) x && some (λ n. K.same_kind x (kind_named n)) ts) K.all_kinds
