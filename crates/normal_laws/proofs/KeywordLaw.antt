@@ -464,3 +464,217 @@ module _ (T : List Position) (holds : ℕ → Document → Bool) (meaning : IsMe
   before_most n (string w) = refl
   before_most n (array ds) = refl
   before_most n (object ms) = refl
+
+  -- ---- the makers of each group, one after another
+  abbrev number_4 : Maker
+  number_4 = (if_some (λ x. node (NumMax (x -ℤ pos 1))) k.exclusive_maximum)
+
+  abbrev number_tests_4 : List (Document → Bool)
+  number_tests_4 = (one_test (λ n. at_number (λ x. int_lt x n)) k.exclusive_maximum)
+
+  abbrev number_3 : Maker
+  number_3 = both (if_some (λ x. node (NumMax x)) k.maximum) number_4
+
+  abbrev number_tests_3 : List (Document → Bool)
+  number_tests_3 = (one_test (λ n. at_number (λ x. int_le x n)) k.maximum) ++ number_tests_4
+
+  abbrev number_2 : Maker
+  number_2 = both (if_some (λ x. node (NumMin (x +ℤ pos 1))) k.exclusive_minimum) number_3
+
+  abbrev number_tests_2 : List (Document → Bool)
+  number_tests_2 = (one_test (λ n. at_number (int_lt n)) k.exclusive_minimum) ++ number_tests_3
+
+  abbrev number_1 : Maker
+  number_1 = both (if_some (λ x. node (NumMin x)) k.minimum) number_2
+
+  abbrev number_tests_1 : List (Document → Bool)
+  number_tests_1 = (one_test (λ n. at_number (int_le n)) k.minimum) ++ number_tests_2
+
+  numbers_make : Makes T holds (number_nodes tree_of k) (number_tests k)
+  numbers_make =
+      makes-both T holds meaning (if_some (λ x. node (Multiple x)) k.multiple_of) number_1 (one_test (λ m. at_number (is_multiple m)) k.multiple_of) number_tests_1
+      (makes-plain Multiple (λ m. at_number (is_multiple m)) k.multiple_of (λ x J d. refl))
+      (makes-both T holds meaning (if_some (λ x. node (NumMin x)) k.minimum) number_2 (one_test (λ n. at_number (int_le n)) k.minimum) number_tests_2
+      (makes-plain NumMin (λ n. at_number (int_le n)) k.minimum (λ x J d. refl))
+      (makes-both T holds meaning (if_some (λ x. node (NumMin (x +ℤ pos 1))) k.exclusive_minimum) number_3 (one_test (λ n. at_number (int_lt n)) k.exclusive_minimum) number_tests_3
+      (makes-plain (λ x. NumMin (x +ℤ pos 1)) (λ n. at_number (int_lt n)) k.exclusive_minimum (λ x J d. after_least x J))
+      (makes-both T holds meaning (if_some (λ x. node (NumMax x)) k.maximum) number_4 (one_test (λ n. at_number (λ x. int_le x n)) k.maximum) number_tests_4
+      (makes-plain NumMax (λ n. at_number (λ x. int_le x n)) k.maximum (λ x J d. refl))
+      ((makes-plain (λ x. NumMax (x -ℤ pos 1)) (λ n. at_number (λ x. int_lt x n)) k.exclusive_maximum (λ x J d. before_most x J))))))
+
+  abbrev string_2 : Maker
+  string_2 = (if_some (λ x. node (Match (pattern_of tree_of x))) k.pattern)
+
+  abbrev string_tests_2 : List (Document → Bool)
+  string_tests_2 = (one_test (λ t. at_string (finds (tree_of t))) k.pattern)
+
+  abbrev string_1 : Maker
+  string_1 = both (if_some (λ x. node (LengthMax x)) k.max_length) string_2
+
+  abbrev string_tests_1 : List (Document → Bool)
+  string_tests_1 = (one_test (λ n. at_string (λ w. nat_le (length w) n)) k.max_length) ++ string_tests_2
+
+  strings_make : Makes T holds (string_nodes tree_of k) (string_tests k tree_of)
+  strings_make =
+      makes-both T holds meaning (if_some (λ x. node (LengthMin x)) k.min_length) string_1 (one_test (λ n. at_string (λ w. nat_le n (length w))) k.min_length) string_tests_1
+      (makes-plain LengthMin (λ n. at_string (λ w. nat_le n (length w))) k.min_length (λ x J d. refl))
+      (makes-both T holds meaning (if_some (λ x. node (LengthMax x)) k.max_length) string_2 (one_test (λ n. at_string (λ w. nat_le (length w) n)) k.max_length) string_tests_2
+      (makes-plain LengthMax (λ n. at_string (λ w. nat_le (length w) n)) k.max_length (λ x J d. refl))
+      ((makes-plain (λ x. Match (pattern_of tree_of x)) (λ t. at_string (finds (tree_of t))) k.pattern (λ x J d. refl))))
+
+  abbrev array_3 : Maker
+  array_3 = (if_some (λ x. node (CountMax x)) k.max_items)
+
+  abbrev array_tests_3 : List (Document → Bool)
+  array_tests_3 = (one_test (λ n. at_array (λ ds. nat_le (length ds) n)) k.max_items)
+
+  abbrev array_2 : Maker
+  array_2 = both (if_some (λ x. node (CountMin x)) k.min_items) array_3
+
+  abbrev array_tests_2 : List (Document → Bool)
+  array_tests_2 = (one_test (λ n. at_array (λ ds. nat_le n (length ds))) k.min_items) ++ array_tests_3
+
+  abbrev array_1 : Maker
+  array_1 = both (if_some (λ e. node (Contains e)) k.contains) array_2
+
+  abbrev array_tests_1 : List (Document → Bool)
+  array_tests_1 = (one_test (λ e. at_array (some (below e))) k.contains) ++ array_tests_2
+
+  arrays_make : Makes T holds (array_nodes tree_of k) (array_tests k below)
+  arrays_make =
+      makes-both T holds meaning (if_some (items_node k.additional_items) k.items) array_1 (one_test (items_test k below) k.items) array_tests_1
+      (makes-if T holds meaning (items_node k.additional_items) (λ s. items_test k below s ∷ []) k.items (N.items_makes T holds meaning tree_of below agree k.additional_items))
+      (makes-both T holds meaning (if_some (λ e. node (Contains e)) k.contains) array_2 (one_test (λ e. at_array (some (below e))) k.contains) array_tests_2
+      (makes-if T holds meaning (λ e. node (Contains e)) (λ e. at_array (some (below e)) ∷ []) k.contains (N.contains_makes T holds meaning tree_of below agree))
+      (makes-both T holds meaning (if_some (λ x. node (CountMin x)) k.min_items) array_3 (one_test (λ n. at_array (λ ds. nat_le n (length ds))) k.min_items) array_tests_3
+      (makes-plain CountMin (λ n. at_array (λ ds. nat_le n (length ds))) k.min_items (λ x J d. refl))
+      ((makes-plain CountMax (λ n. at_array (λ ds. nat_le (length ds) n)) k.max_items (λ x J d. refl)))))
+
+  abbrev member_5 : Maker
+  member_5 = (if_some (each dependency_node) k.dependencies)
+
+  abbrev member_tests_5 : List (Document → Bool)
+  member_tests_5 = dependency_tests
+
+  abbrev member_4 : Maker
+  member_4 = both (if_some (λ e. node (NamesIn e)) k.property_names) member_5
+
+  abbrev member_tests_4 : List (Document → Bool)
+  member_tests_4 = (one_test names_test k.property_names) ++ member_tests_5
+
+  abbrev member_3 : Maker
+  member_3 = both (if_some (λ e. node (MembersOf (others_of tree_of k) e)) k.additional_properties) member_4
+
+  abbrev member_tests_3 : List (Document → Bool)
+  member_tests_3 = (one_test other_test k.additional_properties) ++ member_tests_4
+
+  abbrev member_2 : Maker
+  member_2 = both (if_some (each (λ p. node (MembersOf (Matching (pattern_of tree_of p.0)) p.1))) k.pattern_properties) member_3
+
+  abbrev member_tests_2 : List (Document → Bool)
+  member_tests_2 = pattern_tests ++ member_tests_3
+
+  abbrev member_1 : Maker
+  member_1 = both (if_some (each (λ p. node (MembersOf (Named p.0) p.1))) k.properties) member_2
+
+  abbrev member_tests_1 : List (Document → Bool)
+  member_tests_1 = property_tests ++ member_tests_2
+
+  members_make : Makes T holds (member_nodes tree_of k) (member_tests)
+  members_make =
+      makes-both T holds meaning (if_some (λ ws. each (λ w. node (Has w)) (once same_word ws)) k.required) member_1 required_tests member_tests_1
+      (makes-if T holds meaning (λ ws. each (λ w. node (Has w)) (once same_word ws)) (λ ws. tests_of has_test (once same_word ws)) k.required (λ ws. N.required_make T holds meaning tree_of below agree (once same_word ws)))
+      (makes-both T holds meaning (if_some (each (λ p. node (MembersOf (Named p.0) p.1))) k.properties) member_2 property_tests member_tests_2
+      (makes-if T holds meaning (each (λ p. node (MembersOf (Named p.0) p.1))) (tests_of (named_test same_word)) k.properties (N.properties_make T holds meaning tree_of below agree))
+      (makes-both T holds meaning (if_some (each (λ p. node (MembersOf (Matching (pattern_of tree_of p.0)) p.1))) k.pattern_properties) member_3 pattern_tests member_tests_3
+      (makes-if T holds meaning (each (λ p. node (MembersOf (Matching (pattern_of tree_of p.0)) p.1))) (tests_of (named_test matches)) k.pattern_properties (N.patterns_make T holds meaning tree_of below agree))
+      (makes-both T holds meaning (if_some (λ e. node (MembersOf (others_of tree_of k) e)) k.additional_properties) member_4 (one_test other_test k.additional_properties) member_tests_4
+      (makes-if T holds meaning (λ e. node (MembersOf (others_of tree_of k) e)) (λ e. other_test e ∷ []) k.additional_properties (N.others_make T holds meaning tree_of below agree k))
+      (makes-both T holds meaning (if_some (λ e. node (NamesIn e)) k.property_names) member_5 (one_test names_test k.property_names) member_tests_5
+      (makes-if T holds meaning (λ e. node (NamesIn e)) (λ e. names_test e ∷ []) k.property_names (N.names_make T holds meaning tree_of below agree))
+      ((makes-if T holds meaning (each dependency_node) (tests_of dependency_test) k.dependencies (N.dependencies_make T holds meaning tree_of below agree)))))))
+
+  abbrev count_1 : Maker
+  count_1 = (if_some (λ x. node (PropsMax x)) k.max_properties)
+
+  abbrev count_tests_1 : List (Document → Bool)
+  count_tests_1 = (one_test (λ n. at_object (λ ms. nat_le (length ms) n)) k.max_properties)
+
+  counts_make : Makes T holds (count_nodes tree_of k) (count_tests)
+  counts_make =
+      makes-both T holds meaning (if_some (λ x. node (PropsMin x)) k.min_properties) count_1 (one_test (λ n. at_object (λ ms. nat_le n (length ms))) k.min_properties) count_tests_1
+      (makes-plain PropsMin (λ n. at_object (λ ms. nat_le n (length ms))) k.min_properties (λ x J d. refl))
+      ((makes-plain PropsMax (λ n. at_object (λ ms. nat_le (length ms) n)) k.max_properties (λ x J d. refl)))
+
+  abbrev in_place_3 : Maker
+  in_place_3 = (if_some (λ x. node (Not x)) k.not)
+
+  abbrev in_place_tests_3 : List (Document → Bool)
+  in_place_tests_3 = (one_test (λ e J. not (here J e)) k.not)
+
+  abbrev in_place_2 : Maker
+  in_place_2 = both (if_some (λ x. node (One x)) k.one_of) in_place_3
+
+  abbrev in_place_tests_2 : List (Document → Bool)
+  in_place_tests_2 = (one_test (λ es J. exactly_one (here J) es) k.one_of) ++ in_place_tests_3
+
+  abbrev in_place_1 : Maker
+  in_place_1 = both (if_some (λ x. node (Any x)) k.any_of) in_place_2
+
+  abbrev in_place_tests_1 : List (Document → Bool)
+  in_place_tests_1 = (one_test (λ es J. some (here J) es) k.any_of) ++ in_place_tests_2
+
+  in_places_make : Makes T holds (in_place_nodes tree_of k) (in_place_tests)
+  in_places_make =
+      makes-both T holds meaning (if_some (λ x. node (All x)) k.all_of) in_place_1 (one_test (λ es J. every (here J) es) k.all_of) in_place_tests_1
+      (makes-plain All (λ es J. every (here J) es) k.all_of (λ x J d. refl))
+      (makes-both T holds meaning (if_some (λ x. node (Any x)) k.any_of) in_place_2 (one_test (λ es J. some (here J) es) k.any_of) in_place_tests_2
+      (makes-plain Any (λ es J. some (here J) es) k.any_of (λ x J d. refl))
+      (makes-both T holds meaning (if_some (λ x. node (One x)) k.one_of) in_place_3 (one_test (λ es J. exactly_one (here J) es) k.one_of) in_place_tests_3
+      (makes-plain One (λ es J. exactly_one (here J) es) k.one_of (λ x J d. refl))
+      ((makes-plain Not (λ e J. not (here J e)) k.not (λ x J d. refl)))))
+
+  module _ (values : meets (every is_document) k.enumeration ≡ true) (value : meets is_document k.constant ≡ true) where
+    abbrev any_2 : Maker
+    any_2 = if_some value_node k.constant
+
+    abbrev any_1 : Maker
+    any_1 = both (if_some (λ ds. above Any (groups ds)) k.enumeration) any_2
+
+    anys_make : Makes T holds (any_nodes tree_of k) any_tests
+    anys_make =
+        makes-both T holds meaning (if_some (λ ts. node (Types (kinds_of ts))) k.types) any_1
+        (one_test types_test k.types) (one_test enum_test k.enumeration ++ one_test same_document k.constant)
+        (makes-plain (λ ts. Types (kinds_of ts)) types_test k.types (λ ts J d. refl))
+        (makes-both T holds meaning (if_some (λ ds. above Any (groups ds)) k.enumeration) any_2
+        (one_test enum_test k.enumeration) (one_test same_document k.constant)
+        (makes-there (λ ds. above Any (groups ds)) (λ ds. enum_test ds ∷ []) (every is_document) k.enumeration values
+        (enum_makes T holds meaning))
+        (makes-there value_node (λ d. same_document d ∷ []) is_document k.constant value
+        (value_makes T holds meaning)))
+
+    abbrev all_5 : Maker
+    all_5 = both (count_nodes tree_of k) (in_place_nodes tree_of k)
+
+    abbrev all_4 : Maker
+    all_4 = both (member_nodes tree_of k) all_5
+
+    abbrev all_3 : Maker
+    all_3 = both (array_nodes tree_of k) all_4
+
+    abbrev all_2 : Maker
+    all_2 = both (string_nodes tree_of k) all_3
+
+    abbrev all_1 : Maker
+    all_1 = both (number_nodes tree_of k) all_2
+
+    -- an object's nodes stand for the tests of its keywords
+    pub keywords_make : Makes T holds (keyword_nodes tree_of k) keyword_tests
+    keywords_make =
+        makes-both T holds meaning (any_nodes tree_of k) all_1 any_tests _ anys_make
+        (makes-both T holds meaning (number_nodes tree_of k) all_2 (number_tests k) _ numbers_make
+        (makes-both T holds meaning (string_nodes tree_of k) all_3 (string_tests k tree_of) _ strings_make
+        (makes-both T holds meaning (array_nodes tree_of k) all_4 (array_tests k below) _ arrays_make
+        (makes-both T holds meaning (member_nodes tree_of k) all_5 member_tests _ members_make
+        (makes-both T holds meaning (count_nodes tree_of k) (in_place_nodes tree_of k) count_tests in_place_tests
+        counts_make in_places_make)))))
