@@ -6,3 +6,4 @@ pub mod Repeats
 pub mod EnumNodes
 pub mod KeywordNodes
 pub mod KeywordLaw
+pub mod NormalLaw
