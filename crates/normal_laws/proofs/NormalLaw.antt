@@ -9,13 +9,16 @@ use Rattle.levels.specs.Within.{RankedWithin}
 use Rattle.patterns.specs.Tree.{Tree}
 use Rattle.patterns.specs.Decision.{finds}
 use Rattle.schemas.specs.Entry.{Form, Always, Never, Ref, Asks, Keywords, Entry}
-use Rattle.schemas.specs.Schema.{meets, in_place, of_parts, form_in_range, is_in_range, is_multiple, is_count, is_word, fits_items, are_keys, are_needs, is_filled, is_table}
+use Rattle.schemas.specs.Schema.{meets, in_place, of_parts, form_in_range, is_in_range, is_multiple, is_count, is_word, fits_items, are_keys, are_needs, is_filled, is_table, total_size}
+use Rattle.schemas.specs.Weight.{most_weight}
 use Rattle.schemas.specs.Keyword.{is_held}
 use Rattle.draft06.specs.EntryValidity as V
 use Rattle.draft06.specs.EntryValidity.{form_at, entry_valid}
 use Rattle.draft06_laws.specs.Ranks.{FallInPlace}
 use Rattle.draft06_laws.proofs.EntryLocal.{asks_same}
-use Rattle.draft06_laws.proofs.EntryLaws.{entry_valid-asks, ranked, parts_below}
+use Rattle.draft06_laws.proofs.EntryLaws.{entry_valid-asks, ranked, parts_below, IsEntry, named_in_place}
+use Rattle.levels.proofs.LevelsLaws.{weaker}
+use Rattle.position_laws.proofs.Lists.{all-both}
 use Rattle.position_laws.proofs.Joined.{position_at-append_left, position_at-append_right}
 use Rattle.positions.specs.Position.{Position, True, False, Same, All, position_at}
 use Rattle.positions.specs.Holds.{asks}
@@ -145,3 +148,47 @@ module _ (tree_of : List ℕ → Tree) (es : List Entry)
         (keyword_tests (table_of tree_of es) holds meaning tree_of below agree k)
         (keywords_make (table_of tree_of es) holds meaning tree_of below agree k there.0 there.1 n s) J d
         ∙ keywords_pass (table_of tree_of es) holds meaning tree_of below agree k J
+
+module _ (tree_of : List ℕ → Tree) (es : List Entry) (table : is_table es ≡ true) (rank : ℕ → ℕ)
+    (falls : FallInPlace es rank) (holds : ℕ → Document → Bool) (meaning : IsMeaning (table_of tree_of es) holds) where
+  abbrev valid : ℕ → Document → Bool
+  valid = entry_valid (λ t. finds (tree_of t)) es
+
+  -- what is asked of a part: of a document what its position asks, and of what is none what validity asks
+  abbrev of_part : ℕ → Document → Bool
+  of_part q K = cond (is_document K) (holds q K) (valid q K)
+
+  agrees : (q : ℕ) (K : Document) → is_document K ≡ true → holds q K ≡ of_part q K
+  agrees q K d = rw d refl
+
+  entries_in_range : every (λ f. form_in_range f.form) es ≡ true
+  entries_in_range =
+      let weight = and_parts _ (nat_le (total_size es) most_weight) table in
+      (and_parts _ (every (λ e. form_in_range e.form) es) weight.0).1
+
+  part_same : (q : ℕ) (K : Document) (test : Bool) → is_document K ≡ test → (test ≡ true → holds q K ≡ valid q K)
+      → of_part q K ≡ valid q K
+  part_same q K true e h = rw e (h refl)
+  part_same q K false e h = rw e refl
+
+  within : RankedWithin (IsEntry es) (named_in_place es) (length es) rank
+  within = ranked (λ t. finds (tree_of t)) es table rank falls
+
+  holds_valid : (d n e : ℕ) (J : Document) → depth J < d → rank e < n → e < length es → is_document J ≡ true
+      → holds e J ≡ valid e J
+  holds_valid zero n e J a b l h = absurd (omega arith)
+  holds_valid (suc d) zero e J a b l h = absurd (omega arith)
+  holds_valid (suc d) (suc n) e J a b l h =
+      entry_asks tree_of es entries_in_range holds meaning of_part agrees e J l h
+      ∙ asks_same (λ t. finds (tree_of t)) (λ q. holds q J) (λ q. valid q J) of_part valid (form_at es e) J
+      (all-both _ _ _ (in_place (form_at es e))
+      (λ q r m. holds_valid (suc d) n q J a (omega arith) m h) (within.falls e l) (within.closed e l))
+      (weaker (IsEntry es) _ (of_parts (form_at es e))
+      (λ q m K r. part_same q K (is_document K) refl
+      (λ k. holds_valid d (length es) q K (omega arith) (within.bounded q m) m k))
+      (parts_below (λ t. finds (tree_of t)) es table e))
+      ∙ sym (entry_valid-asks (λ t. finds (tree_of t)) es table rank falls e J)
+
+  -- the position of an entry holds of the documents that are valid for it
+  pub holds-valid : (e : ℕ) (J : Document) → e < length es → is_document J ≡ true → holds e J ≡ valid e J
+  holds-valid e J l h = holds_valid (suc (depth J)) (length es) e J (omega arith) (within.bounded e l) l h
