@@ -7,3 +7,4 @@ pub mod EnumNodes
 pub mod KeywordNodes
 pub mod KeywordLaw
 pub mod NormalLaw
+pub mod Growth

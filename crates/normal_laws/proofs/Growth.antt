@@ -1,0 +1,85 @@
+-- What is appended names what stands before it: of the same document its own nodes and the entries that are asked in
+-- place, of parts any position before it.
+use Rattle.std.proofs.Common.{◌≡◌, ℕ, zero, suc, ◌+◌, ◌<◌, ◌≤◌, ◌⊎◌, inl, inr, List, [], ◌∷◌, ◌++◌, length, map, Bool, true, false, Option, Some, None, refl, ap, sym, ◌∙◌, subst, arith, add-zero, cond, filter}
+use Rattle.std.specs.List.{AllByRecursion}
+use Rattle.documents.specs.Document.{Document, null, boolean, number, string, array, object, Items, no_items, item, Members, no_members, member, elements}
+use Rattle.documents.specs.Kind.{Kind}
+use Rattle.positions.specs.Position.{Position, True, False, All, Any, Types, BoolIs, NumIn, Words, CountMin, CountMax, MembersOf, Named, Others, Has, in_place, of_parts, in_range}
+use Rattle.normal_forms.specs.Nodes.{Nodes, Maker, nothing, node, entry, both, above, each, if_some, the_one, after}
+use Rattle.normal_forms.specs.Values.{of_kind, but_last, last_of, items_of, value_node, item_nodes, member_nodes, member_of, no_others}
+
+-- `In` are the entries that may be named in place, all of them below `first`, where nodes begin
+module _ (In : ℕ → Type 0) (first : ℕ) (some_entry : 0 < first) where
+  -- a node of a block that begins at n, or an entry
+  abbrev pub MayName : ℕ → ℕ → ℕ → Type 0
+  MayName n p q = ((n ≤ q) × (q < p)) ⊎ In q
+
+  -- the positions from p on, in a block that begins at n
+  abbrev pub Grown : ℕ → ℕ → List Position → Type 0
+  Grown n p [] = Unit {0}
+  Grown n p (P ∷ Ps) =
+      (AllByRecursion (MayName n p) (in_place P) × AllByRecursion (λ q. q < p) (of_parts P) × (in_range P ≡ true))
+      × Grown n (suc p) Ps
+
+  abbrev pub Grows : Maker → Type 0
+  Grows f = (n : ℕ) → first ≤ n
+      → Grown n n (f n).added × AllByRecursion (MayName n (after n (f n))) (f n).named
+
+  all_weaker : {A : Type 0} (P Q : A → Type 0) (xs : List A) → ((x : A) → P x → Q x) → AllByRecursion P xs
+      → AllByRecursion Q xs
+  all_weaker P Q [] f h = tt
+  all_weaker P Q (x ∷ xs) f h = (f x h.0, all_weaker P Q xs f h.1)
+
+  all_append : {A : Type 0} (P : A → Type 0) (xs ys : List A) → AllByRecursion P xs → AllByRecursion P ys
+      → AllByRecursion P (xs ++ ys)
+  all_append P [] ys a b = b
+  all_append P (x ∷ xs) ys a b = (a.0, all_append P xs ys a.1 b)
+
+  -- a block may begin earlier
+  may_earlier : (m n p p' q : ℕ) → m ≤ n → p ≤ p' → MayName n p q → MayName m p' q
+  may_earlier m n p p' q l k (inl h) = let a = h.0 in let b = h.1 in inl (omega (arith, l, a), omega (arith, k, b))
+  may_earlier m n p p' q l k (inr h) = inr h
+
+  grown_earlier : (m n p : ℕ) (Ps : List Position) → m ≤ n → Grown n p Ps → Grown m p Ps
+  grown_earlier m n p [] l h = tt
+  grown_earlier m n p (P ∷ Ps) l h =
+      ((all_weaker _ _ (in_place P) (λ q r. may_earlier m n p p q l (omega arith) r) h.0.0, h.0.1, h.0.2),
+      grown_earlier m n (suc p) Ps l h.1)
+
+  grown_append : (n p : ℕ) (Ps Qs : List Position) → Grown n p Ps → Grown n (p + length Ps) Qs → Grown n p (Ps ++ Qs)
+  grown_append n p [] Qs a b = subst (λ k. Grown n k Qs) (add-zero p) b
+  grown_append n p (P ∷ Ps) Qs a b =
+      let place : p + length (P ∷ Ps) ≡ suc p + length Ps = omega arith in
+      (a.0, grown_append n (suc p) Ps Qs a.1 (subst (λ k. Grown n k Qs) place b))
+
+  length-append : (xs ys : List Position) → length (xs ++ ys) ≡ length xs + length ys
+  length-append [] ys = omega arith
+  length-append (x ∷ xs) ys = let rest = length-append xs ys in omega (arith, rest)
+
+  pub grows-nothing : Grows nothing
+  grows-nothing n l = (tt, tt)
+
+  -- a position that names nothing of the same document, and of parts entries alone
+  pub grows-node : (P : Position) → AllByRecursion In (in_place P) → AllByRecursion (λ q. q < first) (of_parts P)
+      → in_range P ≡ true → Grows (node P)
+  grows-node P a b c n l =
+      (((all_weaker In _ (in_place P) (λ q h. inr h) a,
+      all_weaker (λ q. q < first) (λ q. q < n) (of_parts P) (λ q h. omega (arith, h, l)) b, c), tt),
+      (inl (omega arith, omega arith), tt))
+
+  pub grows-entry : (e : ℕ) → In e → Grows (entry e)
+  grows-entry e h n l = (tt, (inr h, tt))
+
+  pub grows-both : (f g : Maker) → Grows f → Grows g → Grows (both f g)
+  grows-both f g a b n l =
+      let one = a n l in
+      let later : first ≤ after n (f n) = omega (arith, l) in
+      let two = b (after n (f n)) later in
+      let more = length-append (f n).added (g (after n (f n))).added in
+      (grown_append n n (f n).added (g (after n (f n))).added one.0
+      (grown_earlier n (after n (f n)) (after n (f n)) (g (after n (f n))).added (omega arith) two.0),
+      all_append _ (f n).named (g (after n (f n))).named
+      (all_weaker _ _ (f n).named (λ q h. may_earlier n n (after n (f n)) (n + length ((f n).added ++ (g (after n (f n))).added)) q (omega arith)
+      (omega (arith, more)) h) one.1)
+      (all_weaker _ _ (g (after n (f n))).named (λ q h. may_earlier n (after n (f n)) (after (after n (f n)) (g (after n (f n))))
+      (n + length ((f n).added ++ (g (after n (f n))).added)) q (omega arith) (omega (arith, more)) h) two.1))
