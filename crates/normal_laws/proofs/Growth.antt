@@ -27,7 +27,7 @@ module _ (In : ℕ → Type 0) (first : ℕ) (some_entry : 0 < first) (below_fir
   Grows f = (n : ℕ) → first ≤ n
       → Grown n n (f n).added × AllByRecursion (MayName n (after n (f n))) (f n).named
 
-  all_weaker : {A : Type 0} (P Q : A → Type 0) (xs : List A) → ((x : A) → P x → Q x) → AllByRecursion P xs
+  pub all_weaker : {A : Type 0} (P Q : A → Type 0) (xs : List A) → ((x : A) → P x → Q x) → AllByRecursion P xs
       → AllByRecursion Q xs
   all_weaker P Q [] f h = tt
   all_weaker P Q (x ∷ xs) f h = (f x h.0, all_weaker P Q xs f h.1)
@@ -143,7 +143,7 @@ module _ (In : ℕ → Type 0) (first : ℕ) (some_entry : 0 < first) (below_fir
   is_listed es below n p qs l h =
       (tt, (the_one_below n p qs l h, all_weaker (λ q. q < first) (λ q. q < p) es (λ q b. omega (arith, b, l)) below), refl)
 
-  plain : (P : Position) → in_place P ≡ [] → of_parts P ≡ [] → in_range P ≡ true → Grows (node P)
+  pub plain : (P : Position) → in_place P ≡ [] → of_parts P ≡ [] → in_range P ≡ true → Grows (node P)
   plain P a b c =
       let In-all : List ℕ → Type 0 = λ qs. AllByRecursion In qs in
       let Below-all : List ℕ → Type 0 = λ qs. AllByRecursion (λ q. q < first) qs in

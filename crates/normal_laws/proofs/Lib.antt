@@ -8,3 +8,4 @@ pub mod KeywordNodes
 pub mod KeywordLaw
 pub mod NormalLaw
 pub mod Growth
+pub mod KeywordGrowth
