@@ -7,7 +7,6 @@ use Rattle.documents.specs.Tests.{some, same_word}
 use Rattle.documents.specs.Kind.{Kind, Null, Boolean, Number, Text, all_kinds}
 use Rattle.documents.specs.Document.{Document, null, boolean, number, string, array, object}
 use Rattle.patterns.specs.Tree.{Tree}
-use Rattle.schemas.specs.Entry as E
 use Rattle.schemas.specs.Entry.{TypeName, ItemsPart, Each, Listed, Needs, Names, Whole, Keywords}
 use Rattle.draft06.specs.Names.{keys}
 use Rattle.draft06.specs.EntryValidity.{kind_named}

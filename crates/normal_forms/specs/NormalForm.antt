@@ -1,27 +1,22 @@
 -- The core table of a schema: first a position for each entry, then the nodes that these need, entry by entry.
-use Rattle.std.specs.Prelude.{ℕ, ◌+◌, ◌*◌, List, [], ◌∷◌, ◌++◌, map, length}
+use Rattle.std.specs.Prelude.{ℕ, suc, ◌+◌, ◌-◌, ◌*◌, ◌^◌, List, [], ◌∷◌, ◌++◌, map, length}
 use Rattle.patterns.specs.Tree.{Tree}
 use Rattle.schemas.specs.Entry.{Form, Always, Never, Ref, Asks, Entry}
-use Rattle.positions.specs.Position.{Position, True, False, Same, Not, All, Any, One, Depends}
+use Rattle.positions.specs.Position.{Position, True, False, Same, All}
 use Rattle.normal_forms.specs.Nodes.{Nodes, Maker, nothing, after}
 use Rattle.normal_forms.specs.KeywordNodes.{keyword_nodes}
 
--- a node lies above those that it names in place: 0 for those that name none
-abbrev pub level : Position → ℕ
-level (All qs) = 1
-level (Any qs) = 2
-level (One qs) = 2
-level (Not q) = 2
-level (Depends h q) = 2
-level (Same q) = 3
-level _ = 0
-
--- the rank of a node of an entry with that rank; the entry itself lies above its nodes
-abbrev pub node_rank : ℕ → Position → ℕ
-node_rank r P = 4 * r + level P
+-- a node's rank is that of its entry, and among an entry's nodes its number; the entry itself lies above its nodes
+abbrev pub node_rank : ℕ → ℕ → ℕ
+node_rank r p = r * 2 ^ 32 + p
 
 abbrev pub entry_rank : ℕ → ℕ
-entry_rank r = 4 * r + 3
+entry_rank r = r * 2 ^ 32 + (2 ^ 32 - 1)
+
+-- the ranks of nodes that are numbered from p on
+abbrev pub numbered : ℕ → ℕ → List Position → List ℕ
+numbered r p [] = []
+numbered r p (P ∷ Ps) = node_rank r p ∷ numbered r (suc p) Ps
 
 module _ (tree_of : List ℕ → Tree) where
   -- the nodes that an entry needs
@@ -50,7 +45,7 @@ module _ (tree_of : List ℕ → Tree) where
 
   abbrev pub node_ranks : ℕ → List Entry → List ℕ → List ℕ
   node_ranks n (e ∷ es) (r ∷ rs) =
-      map (node_rank r) (form_nodes e.form n).added ++ node_ranks (after n (form_nodes e.form n)) es rs
+      numbered r n (form_nodes e.form n).added ++ node_ranks (after n (form_nodes e.form n)) es rs
   node_ranks n _ _ = []
 
   -- position e is that of entry e

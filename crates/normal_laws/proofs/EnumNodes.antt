@@ -1,24 +1,23 @@
 -- A document meets the groups of an `enum` exactly where it is one of the values.
-use Rattle.std.proofs.Common.{◌≡◌, ℕ, ℤ, List, [], ◌∷◌, ◌++◌, Bool, true, false, ◌&&◌, ◌||◌, not, cond, Option, Some, None, refl, ap, sym, ◌∙◌, filter}
+use Rattle.std.proofs.Common.{◌≡◌, ℕ, ℤ, List, [], ◌∷◌, ◌++◌, Bool, true, false, ◌&&◌, ◌||◌, not, cond, Option, Some, None, refl, sym, ◌∙◌, filter}
 use Rattle.std.proofs.lemmas.Bool.{and_parts, and_from}
 use Rattle.std.proofs.lemmas.Bool.Decides.{Decides-int_eq}
 use Rattle.std.specs.List.{list_any, filter_map}
 use Rattle.std.specs.Ordering.{int_eq}
 use Rattle.documents.specs.Tests.{every, some, same_word}
-use Rattle.documents.specs.Kind.{Kind, Null, Boolean, Number, Text, same_kind}
+use Rattle.documents.specs.Kind.{Null, Boolean, Number, Text, same_kind}
 use Rattle.documents.specs.Document.{Document, null, boolean, number, string, array, object, is_document, kind_of}
 use Rattle.documents.specs.Measures.{at_number, at_string, same_document}
 use Rattle.positions.specs.Position.{Position, Any, Types, NumIn, Words}
 use Rattle.position_laws.proofs.Lists.{some-append}
 use Rattle.schema_laws.proofs.Pointers.{same_word-eq}
 use Rattle.normal_forms.specs.Nodes.{Maker, nothing, node, both, above, each}
-use Rattle.normal_forms.specs.Values.{of_kind, value_node}
+use Rattle.normal_forms.specs.Values.{value_node}
 use Rattle.normal_forms.specs.KeywordNodes.{once, is_null, truth_in, number_in, word_in, is_container, one_of_kind, truths, groups}
 use Rattle.normal_laws.specs.Making.{IsMeaning, Makes}
 use Rattle.normal_laws.proofs.MakingLemmas.{makes-nothing, makes-node, makes-both, makes-any, tests_of}
 use Rattle.normal_laws.proofs.ValueNodes.{makes-same, makes-kind, value_makes, kind_test, same_word-swap}
 use Rattle.normal_laws.proofs.Repeats.{or-false, some-once}
-
 
 -- a test of either kind, over a list
 some-either : {A : Type 0} (f g : A → Bool) (xs : List A) → some (λ x. f x || g x) xs ≡ (some f xs || some g xs)
@@ -134,22 +133,22 @@ among_truths J [] = refl
 among_truths J (true ∷ bs) =
     rw (among_truths J bs) (first (some not bs) (some (λ b. b) bs) (same_document (boolean false) J)
     (same_document (boolean true) J)) where
-  first : (f t x y : Bool) → (y || ((f && x) || (t && y))) ≡ ((f && x) || (true && y))
-  first true t true true = refl
-  first true t true false = refl
-  first true t false true = refl
-  first true true false false = refl
-  first true false false false = refl
-  first false t x true = refl
-  first false true x false = refl
-  first false false x false = refl
+      first : (f t x y : Bool) → (y || ((f && x) || (t && y))) ≡ ((f && x) || (true && y))
+      first true t true true = refl
+      first true t true false = refl
+      first true t false true = refl
+      first true true false false = refl
+      first true false false false = refl
+      first false t x true = refl
+      first false true x false = refl
+      first false false x false = refl
 among_truths J (false ∷ bs) =
     rw (among_truths J bs) (first (some not bs) (some (λ b. b) bs) (same_document (boolean false) J)
     (same_document (boolean true) J)) where
-  first : (f t x y : Bool) → (x || ((f && x) || (t && y))) ≡ ((true && x) || (t && y))
-  first f t true y = refl
-  first true t false y = refl
-  first false t false y = refl
+      first : (f t x y : Bool) → (x || ((f && x) || (t && y))) ≡ ((true && x) || (t && y))
+      first f t true y = refl
+      first true t false y = refl
+      first false t false y = refl
 
 some-list_any : {A : Type 0} (p : A → Bool) (xs : List A) → some p xs ≡ list_any p xs
 some-list_any p [] = refl
@@ -223,11 +222,11 @@ values_grouped : (ds : List Document) (J : Document) → some (λ d. same_docume
 values_grouped ds J =
     some-alike (λ d. same_document d J) _ ds (value_grouped J)
     ∙ some-either (λ d. is_null d && kind_test Null J)
-      (λ d. of_truth J d || (of_number J d || (of_word J d || of_container J d))) ds
+    (λ d. of_truth J d || (of_number J d || (of_word J d || of_container J d))) ds
     ∙ rw (some-and is_null (kind_test Null J) ds)
-      (rw (some-either (of_truth J) (λ d. of_number J d || (of_word J d || of_container J d)) ds)
-      (rw (some-either (of_number J) (λ d. of_word J d || of_container J d) ds)
-      (rw (some-either (of_word J) (of_container J) ds) refl)))
+    (rw (some-either (of_truth J) (λ d. of_number J d || (of_word J d || of_container J d)) ds)
+    (rw (some-either (of_number J) (λ d. of_word J d || of_container J d) ds)
+    (rw (some-either (of_word J) (of_container J) ds) refl)))
 
 truths_of : (ds : List Document) (J : Document) → one_passes (truth_tests (false_in ds) (true_in ds)) J
     ≡ some (of_truth J) ds
@@ -259,22 +258,22 @@ pub groups_pass : (ds : List Document) (J : Document) → one_passes (group_test
 groups_pass ds J =
     some-append (λ p. p J) (null_tests (some is_null ds)) _
     ∙ rw (some-append (λ p. p J) (truth_tests (false_in ds) (true_in ds))
-      (number_tests (once int_eq (filter_map number_in ds))
-      ++ (word_tests (once same_word (filter_map word_in ds)) ++ tests_of same_document (filter is_container ds))))
-      (rw (some-append (λ p. p J) (number_tests (once int_eq (filter_map number_in ds)))
-      (word_tests (once same_word (filter_map word_in ds)) ++ tests_of same_document (filter is_container ds)))
-      (rw (some-append (λ p. p J) (word_tests (once same_word (filter_map word_in ds)))
-      (tests_of same_document (filter is_container ds)))
-      (rw (nulls (some is_null ds) J) (rw (truths_of ds J) (rw (numbers_of ds J) (rw (words_of ds J)
-      (rw (containers_of ds J) (sym (values_grouped ds J)))))))))
+    (number_tests (once int_eq (filter_map number_in ds))
+    ++ (word_tests (once same_word (filter_map word_in ds)) ++ tests_of same_document (filter is_container ds))))
+    (rw (some-append (λ p. p J) (number_tests (once int_eq (filter_map number_in ds)))
+    (word_tests (once same_word (filter_map word_in ds)) ++ tests_of same_document (filter is_container ds)))
+    (rw (some-append (λ p. p J) (word_tests (once same_word (filter_map word_in ds)))
+    (tests_of same_document (filter is_container ds)))
+    (rw (nulls (some is_null ds) J) (rw (truths_of ds J) (rw (numbers_of ds J) (rw (words_of ds J)
+    (rw (containers_of ds J) (sym (values_grouped ds J)))))))))
 
 every-filter : {A : Type 0} (q p : A → Bool) (xs : List A) → every p xs ≡ true → every p (filter q xs) ≡ true
 every-filter q p [] h = refl
 every-filter q p (x ∷ xs) h =
     let parts = and_parts (p x) (every p xs) h in by_test (q x) refl parts.0 (every-filter q p xs parts.1) where
-  by_test : (b : Bool) → q x ≡ b → p x ≡ true → every p (filter q xs) ≡ true → every p (filter q (x ∷ xs)) ≡ true
-  by_test false e one rest = rw e rest
-  by_test true e one rest = rw e (and_from (p x) (every p (filter q xs)) one rest)
+      by_test : (b : Bool) → q x ≡ b → p x ≡ true → every p (filter q xs) ≡ true → every p (filter q (x ∷ xs)) ≡ true
+      by_test false e one rest = rw e rest
+      by_test true e one rest = rw e (and_from (p x) (every p (filter q xs)) one rest)
 
 module _ (T : List Position) (holds : ℕ → Document → Bool) (meaning : IsMeaning T holds) where
   values_make : (ds : List Document) → every is_document ds ≡ true

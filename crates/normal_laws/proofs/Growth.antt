@@ -1,13 +1,13 @@
 -- What is appended names what stands before it: of the same document its own nodes and the entries that are asked in
 -- place, of parts any position before it.
-use Rattle.std.proofs.Common.{◌≡◌, ℕ, zero, suc, ◌+◌, ◌<◌, ◌≤◌, ◌⊎◌, inl, inr, List, [], ◌∷◌, ◌++◌, length, map, Bool, true, false, Option, Some, None, refl, ap, sym, ◌∙◌, subst, arith, add-zero, cond, filter}
+use Rattle.std.proofs.Common.{◌≡◌, ℕ, suc, ◌+◌, ◌<◌, ◌≤◌, ◌⊎◌, inl, inr, List, [], ◌∷◌, ◌++◌, length, true, refl, sym, subst, arith, add-zero}
 use Rattle.std.specs.List.{AllByRecursion}
 use Rattle.documents.specs.Document.{Document, null, boolean, number, string, array, object, Items, no_items, item, Members, no_members, member, elements}
 use Rattle.documents.specs.Kind.{Kind}
 use Rattle.documents.specs.Kind as K
 use Rattle.positions.specs.Position as Q
 use Rattle.positions.specs.Position.{Position, True, False, All, Any, Types, BoolIs, NumIn, Words, CountMin, CountMax, MembersOf, Named, Others, Has, in_place, of_parts, in_range}
-use Rattle.normal_forms.specs.Nodes.{Nodes, Maker, nothing, node, entry, both, above, each, if_some, the_one, after}
+use Rattle.normal_forms.specs.Nodes.{Maker, nothing, node, entry, both, above, each, the_one, after}
 use Rattle.normal_forms.specs.Values.{of_kind, but_last, last_of, items_of, names_of, value_node, item_nodes, member_nodes, member_of, no_others}
 
 -- `In` are the entries that may be named in place, all of them below `first`, where nodes begin
@@ -44,9 +44,10 @@ module _ (In : ℕ → Type 0) (first : ℕ) (some_entry : 0 < first) (below_fir
 
   grown_earlier : (m n p : ℕ) (Ps : List Position) → m ≤ n → Grown n p Ps → Grown m p Ps
   grown_earlier m n p [] l h = tt
-  grown_earlier m n p (P ∷ Ps) l h =
-      ((all_weaker _ _ (in_place P) (λ q r. may_earlier m n p p q l (omega arith) r) h.0.0, h.0.1, h.0.2),
-      grown_earlier m n (suc p) Ps l h.1)
+  grown_earlier m n p (P ∷ Ps) l h = (
+    (all_weaker _ _ (in_place P) (λ q r. may_earlier m n p p q l (omega arith) r) h.0.0, h.0.1, h.0.2),
+    grown_earlier m n (suc p) Ps l h.1,
+  )
 
   grown_append : (n p : ℕ) (Ps Qs : List Position) → Grown n p Ps → Grown n (p + length Ps) Qs → Grown n p (Ps ++ Qs)
   grown_append n p [] Qs a b = subst (λ k. Grown n k Qs) (add-zero p) b
@@ -64,10 +65,17 @@ module _ (In : ℕ → Type 0) (first : ℕ) (some_entry : 0 < first) (below_fir
   -- a position that names nothing of the same document, and of parts entries alone
   pub grows-node : (P : Position) → AllByRecursion In (in_place P) → AllByRecursion (λ q. q < first) (of_parts P)
       → in_range P ≡ true → Grows (node P)
-  grows-node P a b c n l =
-      (((all_weaker In _ (in_place P) (λ q h. inr h) a,
-      all_weaker (λ q. q < first) (λ q. q < n) (of_parts P) (λ q h. omega (arith, h, l)) b, c), tt),
-      (inl (omega arith, omega arith), tt))
+  grows-node P a b c n l = (
+    (
+      (
+        all_weaker In _ (in_place P) (λ q h. inr h) a,
+        all_weaker (λ q. q < first) (λ q. q < n) (of_parts P) (λ q h. omega (arith, h, l)) b,
+        c,
+      ),
+      tt,
+    ),
+    (inl (omega arith, omega arith), tt),
+  )
 
   pub grows-entry : (e : ℕ) → In e → Grows (entry e)
   grows-entry e h n l = (tt, (inr h, tt))
@@ -77,14 +85,15 @@ module _ (In : ℕ → Type 0) (first : ℕ) (some_entry : 0 < first) (below_fir
       let one = a n l in
       let later : first ≤ after n (f n) = omega (arith, l) in
       let two = b (after n (f n)) later in
-      let more = length-append (f n).added (g (after n (f n))).added in
-      (grown_append n n (f n).added (g (after n (f n))).added one.0
-      (grown_earlier n (after n (f n)) (after n (f n)) (g (after n (f n))).added (omega arith) two.0),
-      all_append _ (f n).named (g (after n (f n))).named
-      (all_weaker _ _ (f n).named (λ q h. may_earlier n n (after n (f n)) (n + length ((f n).added ++ (g (after n (f n))).added)) q (omega arith)
-      (omega (arith, more)) h) one.1)
-      (all_weaker _ _ (g (after n (f n))).named (λ q h. may_earlier n (after n (f n)) (after (after n (f n)) (g (after n (f n))))
-      (n + length ((f n).added ++ (g (after n (f n))).added)) q (omega arith) (omega (arith, more)) h) two.1))
+      let more = length-append (f n).added (g (after n (f n))).added in (
+        grown_append n n (f n).added (g (after n (f n))).added one.0
+            (grown_earlier n (after n (f n)) (after n (f n)) (g (after n (f n))).added (omega arith) two.0),
+        all_append _ (f n).named (g (after n (f n))).named
+            (all_weaker _ _ (f n).named (λ q h. may_earlier n n (after n (f n)) (n + length ((f n).added ++ (g (after n (f n))).added)) q (omega arith)
+            (omega (arith, more)) h) one.1)
+            (all_weaker _ _ (g (after n (f n))).named (λ q h. may_earlier n (after n (f n)) (after (after n (f n)) (g (after n (f n))))
+            (n + length ((f n).added ++ (g (after n (f n))).added)) q (omega arith) (omega (arith, more)) h) two.1),
+      )
 
   may_below : (n p q : ℕ) → first ≤ p → MayName n p q → q < p
   may_below n p q l (inl h) = h.1
@@ -100,9 +109,10 @@ module _ (In : ℕ → Type 0) (first : ℕ) (some_entry : 0 < first) (below_fir
   grows-above P f ok a n l =
       let one = a n l in
       let later : first ≤ after n (f n) = omega (arith, l) in
-      let more = length-append (f n).added (P (f n).named ∷ []) in
-      (grown_append n n (f n).added (P (f n).named ∷ []) one.0 (ok n (after n (f n)) (f n).named later one.1, tt),
-      (inl (omega arith, omega (arith, more)), tt))
+      let more = length-append (f n).added (P (f n).named ∷ []) in (
+        grown_append n n (f n).added (P (f n).named ∷ []) one.0 (ok n (after n (f n)) (f n).named later one.1, tt),
+        (inl (omega arith, omega (arith, more)), tt),
+      )
 
   pub grows-each : {A : Type 0} (f : A → Maker) (xs : List A) → AllByRecursion (λ x. Grows (f x)) xs → Grows (each f xs)
   grows-each f [] h = grows-nothing

@@ -1,13 +1,7 @@
 -- What the nodes of an array's value ask of an array: that it has the same elements, one by one.
-use Rattle.std.proofs.Common.{◌≡◌, ℕ, suc, List, [], ◌∷◌, ◌++◌, length, drop, Bool, true, false, ◌&&◌, nat_le, refl, ap, sym, ◌∙◌, arith}
-use Rattle.std.proofs.lemmas.Bool.{and_parts}
-use Rattle.documents.specs.Tests.{every}
-use Rattle.documents.specs.Document.{Document, Items, no_items, item, elements, is_document, are_documents}
+use Rattle.std.proofs.Common.{◌≡◌, ℕ, suc, List, [], ◌∷◌, length, Bool, true, false, ◌&&◌, nat_le, refl, ap, sym, ◌∙◌, arith}
+use Rattle.documents.specs.Document.{Document, Items, no_items, item, elements}
 use Rattle.documents.specs.Measures.{meets_in_order, same_document, same_items}
-use Rattle.normal_forms.specs.Values.{items_of}
-use Rattle.positions.specs.Position.{Position}
-use Rattle.positions.specs.Position as Q
-use Rattle.normal_laws.specs.Making.{AreMet}
 
 -- the test of each element
 abbrev pub item_tests : Items → List (Document → Bool)

@@ -1,23 +1,22 @@
 -- The nodes of an object's keywords name what stands before them, and have their ranges.
-use Rattle.std.proofs.Common.{◌≡◌, ℕ, ℤ, pos, negsuc, ◌+ℤ◌, ◌-ℤ◌, ◌^◌, ◌-◌, ◌<◌, ◌≤◌, int_le, nat_lt, List, [], ◌∷◌, ◌++◌, map, Bool, true, false, ◌&&◌, not, Option, Some, None, refl, ap, sym, ◌∙◌, arith, cond, filter}
+use Rattle.std.proofs.Common.{◌≡◌, ℕ, ℤ, pos, negsuc, ◌+ℤ◌, ◌-ℤ◌, ◌^◌, ◌-◌, ◌<◌, int_le, nat_lt, List, [], ◌∷◌, Bool, true, false, not, Option, Some, None, refl, arith, cond, filter}
 use Rattle.std.proofs.lemmas.Bool.{and_parts, and_from}
 use Rattle.std.specs.List.{AllByRecursion, filter_map}
 use Rattle.std.specs.Ordering.{int_eq}
 use Rattle.documents.specs.Tests.{every, some, same_word}
 use Rattle.documents.specs.Kind as K
-use Rattle.documents.specs.Document.{Document, boolean, is_document}
+use Rattle.documents.specs.Document.{Document, boolean}
 use Rattle.patterns.specs.Tree.{Tree}
 use Rattle.schemas.specs.Keyword.{is_held}
 use Rattle.schemas.specs.Entry.{ItemsPart, Each, Listed, Needs, Names, Whole, Keywords, Asks}
 use Rattle.schemas.specs.Schema.{meets, lists, all, one, of_items, of_names, of_need, of_needs, in_place, of_parts, is_in_range, is_multiple, is_count, is_word, fits_items, are_keys, are_needs, is_filled}
-use Rattle.draft06.specs.Names.{keys}
 use Rattle.draft06_laws.proofs.EntryLocal.{InPlace, in_place_of, OfParts, of_parts_of}
 use Rattle.positions.specs.Position as Q
 use Rattle.positions.specs.Position.{Position, True, All, Any, One, Not, Depends, Types, NumMin, NumMax, Multiple, NumIn, Words, Match, LengthMin, LengthMax, Contains, CountMin, CountMax, MembersOf, Named, Matching, Has, PropsMin, PropsMax, NamesIn}
-use Rattle.normal_forms.specs.Nodes.{Maker, nothing, node, entry, both, above, each, if_some, the_one}
+use Rattle.normal_forms.specs.Nodes.{Maker, nothing, node, both, above, each, if_some, the_one}
 use Rattle.normal_forms.specs.Values.{value_node}
 use Rattle.normal_forms.specs.KeywordNodes.{kinds_of, once, is_null, truth_in, number_in, word_in, is_container, one_of_kind, truths, groups, items_node, depends_of, need_node, dependency_node, pattern_of, others_of, any_nodes, number_nodes, string_nodes, array_nodes, member_nodes, count_nodes, in_place_nodes, keyword_nodes}
-use Rattle.normal_laws.proofs.Growth.{Grows, MayName, IsNode, grows-nothing, grows-node, grows-entry, grows-both, grows-above, grows-each, grows-kind, grows-value, plain, everywhere, is_all, is_any, is_member, is_listed}
+use Rattle.normal_laws.proofs.Growth.{Grows, IsNode, grows-nothing, grows-node, grows-entry, grows-both, grows-above, grows-each, grows-kind, grows-value, plain, everywhere, is_all, is_any, is_listed}
 
 -- the ranges of numbers that nodes need
 pub record NodeRanges (k : Keywords) : Type 0 where
@@ -87,6 +86,9 @@ before_in_range n h =
     let a : int_le (negsuc (2 ^ 63)) (n -ℤ pos 1) ≡ true = grind (arith, low) in
     let b : int_le (n -ℤ pos 1) (pos (2 ^ 64 - 1)) ≡ true = grind (arith, high) in
     and_from (int_le (negsuc (2 ^ 63)) (n -ℤ pos 1)) (int_le (n -ℤ pos 1) (pos (2 ^ 64 - 1))) a b
+
+multiple_in_range : (m : ℕ) → is_multiple m ≡ true → Q.in_range (Multiple m) ≡ true
+multiple_in_range m h = (and_parts (nat_lt 0 m) (nat_lt m (2 ^ 64)) h).0
 
 module _ (In : ℕ → Type 0) (first : ℕ) (some_entry : 0 < first) (below_first : (q : ℕ) → In q → q < first) where
   abbrev Below : ℕ → Type 0
@@ -204,3 +206,104 @@ module _ (In : ℕ → Type 0) (first : ℕ) (some_entry : 0 < first) (below_fir
       (grows-above In first some_entry below_first depends_of (both (node (Has d.0)) (need_node d.1)) is_depends
       (two (node (Has d.0)) (need_node d.1) (simple (Has d.0) refl refl refl) (need_grows d.1 parts.0)))
       (dependencies_grow ds parts.1)
+
+  module _ (tree_of : List ℕ → Tree) (k : Keywords) (range : is_in_range k ≡ true)
+      (named : AllByRecursion In (in_place (Asks k))) (parts : AllByRecursion Below (of_parts (Asks k))) where
+    abbrev r : NodeRanges k
+    r = node_ranges k range
+
+    abbrev here : InPlace In k
+    here = in_place_of In k named
+
+    abbrev inside : OfParts Below k
+    inside = of_parts_of Below k parts
+
+    anys_grow : IsGrown (any_nodes tree_of k)
+    anys_grow =
+        two (if_some (λ ts. node (Types (kinds_of ts))) k.types) _
+        (grows-if (λ ts. node (Types (kinds_of ts))) k.types (λ ts. simple (Types (kinds_of ts)) refl refl refl))
+        (two (if_some (λ ds. above Any (groups ds)) k.enumeration) (if_some value_node k.constant)
+        (grows-if (λ ds. above Any (groups ds)) k.enumeration
+        (λ ds. grows-above In first some_entry below_first Any (groups ds) (is_any In first some_entry below_first)
+        (groups_grow ds)))
+        (grows-if value_node k.constant (grows-value In first some_entry below_first)))
+
+    numbers_grow : IsGrown (number_nodes tree_of k)
+    numbers_grow =
+        two (if_some (λ m. node (Multiple m)) k.multiple_of) _
+        (grows-tested (λ m. node (Multiple m)) is_multiple k.multiple_of r.multiple_of (λ m h. simple (Multiple m) refl refl
+        (multiple_in_range m h)))
+        (two (if_some (λ n. node (NumMin n)) k.minimum) _
+        (grows-tested (λ n. node (NumMin n)) is_held k.minimum r.minimum
+        (λ n h. simple (NumMin n) refl refl (least_in_range n h)))
+        (two (if_some (λ n. node (NumMin (n +ℤ pos 1))) k.exclusive_minimum) _
+        (grows-tested (λ n. node (NumMin (n +ℤ pos 1))) is_held k.exclusive_minimum r.exclusive_minimum
+        (λ n h. simple (NumMin (n +ℤ pos 1)) refl refl (after_in_range n h)))
+        (two (if_some (λ n. node (NumMax n)) k.maximum) (if_some (λ n. node (NumMax (n -ℤ pos 1))) k.exclusive_maximum)
+        (grows-tested (λ n. node (NumMax n)) is_held k.maximum r.maximum
+        (λ n h. simple (NumMax n) refl refl (most_in_range n h)))
+        (grows-tested (λ n. node (NumMax (n -ℤ pos 1))) is_held k.exclusive_maximum r.exclusive_maximum
+        (λ n h. simple (NumMax (n -ℤ pos 1)) refl refl (before_in_range n h))))))
+
+    strings_grow : IsGrown (string_nodes tree_of k)
+    strings_grow =
+        two (if_some (λ n. node (LengthMin n)) k.min_length) _
+        (grows-if (λ n. node (LengthMin n)) k.min_length (λ n. simple (LengthMin n) refl refl refl))
+        (two (if_some (λ n. node (LengthMax n)) k.max_length) (if_some (λ t. node (Match (pattern_of tree_of t))) k.pattern)
+        (grows-if (λ n. node (LengthMax n)) k.max_length (λ n. simple (LengthMax n) refl refl refl))
+        (grows-if (λ t. node (Match (pattern_of tree_of t))) k.pattern
+        (λ t. simple (Match (pattern_of tree_of t)) refl refl refl)))
+
+    arrays_grow : IsGrown (array_nodes tree_of k)
+    arrays_grow =
+        two (if_some (items_node k.additional_items) k.items) _
+        (grows-known (items_node k.additional_items) of_items Below k.items inside.items
+        (λ s h. items_grow k.additional_items s h inside.additional_items))
+        (two (if_some (λ e. node (Contains e)) k.contains) _
+        (grows-known (λ e. node (Contains e)) one Below k.contains inside.contains
+        (λ e h. naming (Contains e) tt (h.0, tt) refl))
+        (two (if_some (λ n. node (CountMin n)) k.min_items) (if_some (λ n. node (CountMax n)) k.max_items)
+        (grows-if (λ n. node (CountMin n)) k.min_items (λ n. simple (CountMin n) refl refl refl))
+        (grows-if (λ n. node (CountMax n)) k.max_items (λ n. simple (CountMax n) refl refl refl))))
+
+    objects_grow : IsGrown (member_nodes tree_of k)
+    objects_grow =
+        two (if_some (λ ws. each (λ w. node (Has w)) (once same_word ws)) k.required) _
+        (grows-if (λ ws. each (λ w. node (Has w)) (once same_word ws)) k.required (λ ws. has_grow (once same_word ws)))
+        (two (if_some (each (λ p. node (MembersOf (Named p.0) p.1))) k.properties) _
+        (grows-known (each (λ p. node (MembersOf (Named p.0) p.1))) of_names Below k.properties inside.properties
+        (λ ns h. members_grow (λ p. Named p.0) (λ p. p.1) ns (names_of_members ns h)))
+        (two (if_some (each (λ p. node (MembersOf (Matching (pattern_of tree_of p.0)) p.1))) k.pattern_properties) _
+        (grows-known (each (λ p. node (MembersOf (Matching (pattern_of tree_of p.0)) p.1))) of_names Below
+        k.pattern_properties inside.pattern_properties
+        (λ ns h. members_grow (λ p. Matching (pattern_of tree_of p.0)) (λ p. p.1) ns (names_of_members ns h)))
+        (two (if_some (λ e. node (MembersOf (others_of tree_of k) e)) k.additional_properties) _
+        (grows-known (λ e. node (MembersOf (others_of tree_of k) e)) one Below k.additional_properties
+        inside.additional_properties (λ e h. naming (MembersOf (others_of tree_of k) e) tt (h.0, tt) refl))
+        (two (if_some (λ e. node (NamesIn e)) k.property_names) (if_some (each dependency_node) k.dependencies)
+        (grows-known (λ e. node (NamesIn e)) one Below k.property_names inside.property_names
+        (λ e h. naming (NamesIn e) tt (h.0, tt) refl))
+        (grows-known (each dependency_node) of_needs In k.dependencies here.dependencies dependencies_grow)))))
+
+    counts_grow : IsGrown (count_nodes tree_of k)
+    counts_grow =
+        two (if_some (λ n. node (PropsMin n)) k.min_properties) (if_some (λ n. node (PropsMax n)) k.max_properties)
+        (grows-if (λ n. node (PropsMin n)) k.min_properties (λ n. simple (PropsMin n) refl refl refl))
+        (grows-if (λ n. node (PropsMax n)) k.max_properties (λ n. simple (PropsMax n) refl refl refl))
+
+    in_places_grow : IsGrown (in_place_nodes tree_of k)
+    in_places_grow =
+        two (if_some (λ es. node (All es)) k.all_of) _
+        (grows-known (λ es. node (All es)) all In k.all_of here.all_of (λ es h. naming (All es) h tt refl))
+        (two (if_some (λ es. node (Any es)) k.any_of) _
+        (grows-known (λ es. node (Any es)) all In k.any_of here.any_of (λ es h. naming (Any es) h tt refl))
+        (two (if_some (λ es. node (One es)) k.one_of) (if_some (λ e. node (Not e)) k.not)
+        (grows-known (λ es. node (One es)) all In k.one_of here.one_of (λ es h. naming (One es) h tt refl))
+        (grows-known (λ e. node (Not e)) one In k.not here.negated (λ e h. naming (Not e) h tt refl))))
+
+    pub keywords_grow : IsGrown (keyword_nodes tree_of k)
+    keywords_grow =
+        two (any_nodes tree_of k) _ anys_grow (two (number_nodes tree_of k) _ numbers_grow
+        (two (string_nodes tree_of k) _ strings_grow (two (array_nodes tree_of k) _ arrays_grow
+        (two (member_nodes tree_of k) _ objects_grow
+        (two (count_nodes tree_of k) (in_place_nodes tree_of k) counts_grow in_places_grow)))))

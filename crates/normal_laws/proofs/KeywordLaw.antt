@@ -105,37 +105,38 @@ module _ (k : Keywords) where
       ∙ ap₂ ◌&&◌ (pass-one (λ n. at_number (λ x. int_le x n)) k.maximum J)
       (pass-one (λ n. at_number (λ x. int_lt x n)) k.exclusive_maximum J))))
       ∙ by_kind J where
-    ordered : (m mi emi ma ema : Bool) → (m && (mi && (emi && (ma && ema)))) ≡ ((((m && ma) && ema) && mi) && emi)
-    ordered false mi emi ma ema = refl
-    ordered true mi emi ma ema =
-        sym (and-group mi emi (ma && ema)) ∙ and-swap (mi && emi) (ma && ema)
-        ∙ sym (and-group (ma && ema) mi emi)
-    by_kind : (J : Document)
-        → (meets (λ m. at_number (is_multiple m) J) k.multiple_of
-        && (meets (λ n. at_number (int_le n) J) k.minimum
-        && (meets (λ n. at_number (int_lt n) J) k.exclusive_minimum
-        && (meets (λ n. at_number (λ x. int_le x n) J) k.maximum
-        && meets (λ n. at_number (λ x. int_lt x n) J) k.exclusive_maximum))))
-        ≡ at_number (asks_number matches here below k) J
-    by_kind (number x) =
-        ordered (meets (λ m. is_multiple m x) k.multiple_of) (meets (λ n. int_le n x) k.minimum)
-        (meets (λ n. int_lt n x) k.exclusive_minimum) (meets (λ n. int_le x n) k.maximum)
-        (meets (λ n. int_lt x n) k.exclusive_maximum)
-    by_kind null =
-        rw (always k.multiple_of) (rw (always k.minimum) (rw (always k.exclusive_minimum) (rw (always k.maximum)
-        (always k.exclusive_maximum))))
-    by_kind (boolean b) =
-        rw (always k.multiple_of) (rw (always k.minimum) (rw (always k.exclusive_minimum) (rw (always k.maximum)
-        (always k.exclusive_maximum))))
-    by_kind (string w) =
-        rw (always k.multiple_of) (rw (always k.minimum) (rw (always k.exclusive_minimum) (rw (always k.maximum)
-        (always k.exclusive_maximum))))
-    by_kind (array ds) =
-        rw (always k.multiple_of) (rw (always k.minimum) (rw (always k.exclusive_minimum) (rw (always k.maximum)
-        (always k.exclusive_maximum))))
-    by_kind (object ms) =
-        rw (always k.multiple_of) (rw (always k.minimum) (rw (always k.exclusive_minimum) (rw (always k.maximum)
-        (always k.exclusive_maximum))))
+        ordered : (m mi emi ma ema : Bool) → (m && (mi && (emi && (ma && ema)))) ≡ ((((m && ma) && ema) && mi) && emi)
+        ordered false mi emi ma ema = refl
+        ordered true mi emi ma ema =
+            sym (and-group mi emi (ma && ema)) ∙ and-swap (mi && emi) (ma && ema)
+            ∙ sym (and-group (ma && ema) mi emi)
+
+        by_kind : (J : Document)
+            → (meets (λ m. at_number (is_multiple m) J) k.multiple_of
+            && (meets (λ n. at_number (int_le n) J) k.minimum
+            && (meets (λ n. at_number (int_lt n) J) k.exclusive_minimum
+            && (meets (λ n. at_number (λ x. int_le x n) J) k.maximum
+            && meets (λ n. at_number (λ x. int_lt x n) J) k.exclusive_maximum))))
+            ≡ at_number (asks_number matches here below k) J
+        by_kind (number x) =
+            ordered (meets (λ m. is_multiple m x) k.multiple_of) (meets (λ n. int_le n x) k.minimum)
+            (meets (λ n. int_lt n x) k.exclusive_minimum) (meets (λ n. int_le x n) k.maximum)
+            (meets (λ n. int_lt x n) k.exclusive_maximum)
+        by_kind null =
+            rw (always k.multiple_of) (rw (always k.minimum) (rw (always k.exclusive_minimum) (rw (always k.maximum)
+            (always k.exclusive_maximum))))
+        by_kind (boolean b) =
+            rw (always k.multiple_of) (rw (always k.minimum) (rw (always k.exclusive_minimum) (rw (always k.maximum)
+            (always k.exclusive_maximum))))
+        by_kind (string w) =
+            rw (always k.multiple_of) (rw (always k.minimum) (rw (always k.exclusive_minimum) (rw (always k.maximum)
+            (always k.exclusive_maximum))))
+        by_kind (array ds) =
+            rw (always k.multiple_of) (rw (always k.minimum) (rw (always k.exclusive_minimum) (rw (always k.maximum)
+            (always k.exclusive_maximum))))
+        by_kind (object ms) =
+            rw (always k.multiple_of) (rw (always k.minimum) (rw (always k.exclusive_minimum) (rw (always k.maximum)
+            (always k.exclusive_maximum))))
 
   abbrev pub string_tests : (List ℕ → Tree) → List (Document → Bool)
   string_tests tree_of =
@@ -152,21 +153,22 @@ module _ (k : Keywords) where
       ∙ ap₂ ◌&&◌ (pass-one (λ n. at_string (λ w. nat_le (length w) n)) k.max_length J)
       (pass-one (λ t. at_string (finds (tree_of t))) k.pattern J))
       ∙ by_kind J where
-    ordered : (mi ma p : Bool) → (mi && (ma && p)) ≡ ((ma && mi) && p)
-    ordered mi ma p = sym (and-group mi ma p) ∙ ap (λ b. b && p) (and-swap mi ma)
-    by_kind : (J : Document)
-        → (meets (λ n. at_string (λ w. nat_le n (length w)) J) k.min_length
-        && (meets (λ n. at_string (λ w. nat_le (length w) n) J) k.max_length
-        && meets (λ t. at_string (finds (tree_of t)) J) k.pattern))
-        ≡ at_string (asks_string (λ t. finds (tree_of t)) here below k) J
-    by_kind (string w) =
-        ordered (meets (λ n. nat_le n (length w)) k.min_length) (meets (λ n. nat_le (length w) n) k.max_length)
-        (meets (λ t. finds (tree_of t) w) k.pattern)
-    by_kind null = rw (always k.min_length) (rw (always k.max_length) (always k.pattern))
-    by_kind (boolean b) = rw (always k.min_length) (rw (always k.max_length) (always k.pattern))
-    by_kind (number n) = rw (always k.min_length) (rw (always k.max_length) (always k.pattern))
-    by_kind (array ds) = rw (always k.min_length) (rw (always k.max_length) (always k.pattern))
-    by_kind (object ms) = rw (always k.min_length) (rw (always k.max_length) (always k.pattern))
+        ordered : (mi ma p : Bool) → (mi && (ma && p)) ≡ ((ma && mi) && p)
+        ordered mi ma p = sym (and-group mi ma p) ∙ ap (λ b. b && p) (and-swap mi ma)
+
+        by_kind : (J : Document)
+            → (meets (λ n. at_string (λ w. nat_le n (length w)) J) k.min_length
+            && (meets (λ n. at_string (λ w. nat_le (length w) n) J) k.max_length
+            && meets (λ t. at_string (finds (tree_of t)) J) k.pattern))
+            ≡ at_string (asks_string (λ t. finds (tree_of t)) here below k) J
+        by_kind (string w) =
+            ordered (meets (λ n. nat_le n (length w)) k.min_length) (meets (λ n. nat_le (length w) n) k.max_length)
+            (meets (λ t. finds (tree_of t) w) k.pattern)
+        by_kind null = rw (always k.min_length) (rw (always k.max_length) (always k.pattern))
+        by_kind (boolean b) = rw (always k.min_length) (rw (always k.max_length) (always k.pattern))
+        by_kind (number n) = rw (always k.min_length) (rw (always k.max_length) (always k.pattern))
+        by_kind (array ds) = rw (always k.min_length) (rw (always k.max_length) (always k.pattern))
+        by_kind (object ms) = rw (always k.min_length) (rw (always k.max_length) (always k.pattern))
 
   module _ (below : ℕ → Document → Bool) where
     abbrev pub items_test : E.ItemsPart → Document → Bool
@@ -198,27 +200,28 @@ module _ (k : Keywords) where
         ∙ ap₂ ◌&&◌ (pass-one (λ n. at_array (λ ds. nat_le n (length ds))) k.min_items J)
         (pass-one (λ n. at_array (λ ds. nat_le (length ds) n)) k.max_items J)))
         ∙ by_kind J where
-      ordered : (i c mi ma : Bool) → (i && (c && (mi && ma))) ≡ (((i && ma) && mi) && c)
-      ordered false c mi ma = refl
-      ordered true c mi ma = backwards c mi ma ∙ sym (and-group ma mi c)
-      by_kind : (J : Document)
-          → (meets (λ s. items_test s J) k.items
-          && (meets (λ e. at_array (some (below e)) J) k.contains
-          && (meets (λ n. at_array (λ ds. nat_le n (length ds)) J) k.min_items
-          && meets (λ n. at_array (λ ds. nat_le (length ds) n) J) k.max_items)))
-          ≡ at_array (asks_array matches here below k) J
-      by_kind (array ds) =
-          ap (λ b. b && (meets (λ e. some (below e) (D.elements ds)) k.contains
-          && (meets (λ n. nat_le n (length (D.elements ds))) k.min_items
-          && meets (λ n. nat_le (length (D.elements ds)) n) k.max_items))) (both_items (D.elements ds) k.items)
-          ∙ ordered _ (meets (λ e. some (below e) (D.elements ds)) k.contains)
-          (meets (λ n. nat_le n (length (D.elements ds))) k.min_items)
-          (meets (λ n. nat_le (length (D.elements ds)) n) k.max_items)
-      by_kind null = rw (always k.items) (rw (always k.contains) (rw (always k.min_items) (always k.max_items)))
-      by_kind (boolean b) = rw (always k.items) (rw (always k.contains) (rw (always k.min_items) (always k.max_items)))
-      by_kind (number n) = rw (always k.items) (rw (always k.contains) (rw (always k.min_items) (always k.max_items)))
-      by_kind (string w) = rw (always k.items) (rw (always k.contains) (rw (always k.min_items) (always k.max_items)))
-      by_kind (object ms) = rw (always k.items) (rw (always k.contains) (rw (always k.min_items) (always k.max_items)))
+          ordered : (i c mi ma : Bool) → (i && (c && (mi && ma))) ≡ (((i && ma) && mi) && c)
+          ordered false c mi ma = refl
+          ordered true c mi ma = backwards c mi ma ∙ sym (and-group ma mi c)
+
+          by_kind : (J : Document)
+              → (meets (λ s. items_test s J) k.items
+              && (meets (λ e. at_array (some (below e)) J) k.contains
+              && (meets (λ n. at_array (λ ds. nat_le n (length ds)) J) k.min_items
+              && meets (λ n. at_array (λ ds. nat_le (length ds) n) J) k.max_items)))
+              ≡ at_array (asks_array matches here below k) J
+          by_kind (array ds) =
+              ap (λ b. b && (meets (λ e. some (below e) (D.elements ds)) k.contains
+              && (meets (λ n. nat_le n (length (D.elements ds))) k.min_items
+              && meets (λ n. nat_le (length (D.elements ds)) n) k.max_items))) (both_items (D.elements ds) k.items)
+              ∙ ordered _ (meets (λ e. some (below e) (D.elements ds)) k.contains)
+              (meets (λ n. nat_le n (length (D.elements ds))) k.min_items)
+              (meets (λ n. nat_le (length (D.elements ds)) n) k.max_items)
+          by_kind null = rw (always k.items) (rw (always k.contains) (rw (always k.min_items) (always k.max_items)))
+          by_kind (boolean b) = rw (always k.items) (rw (always k.contains) (rw (always k.min_items) (always k.max_items)))
+          by_kind (number n) = rw (always k.items) (rw (always k.contains) (rw (always k.min_items) (always k.max_items)))
+          by_kind (string w) = rw (always k.items) (rw (always k.contains) (rw (always k.min_items) (always k.max_items)))
+          by_kind (object ms) = rw (always k.items) (rw (always k.contains) (rw (always k.min_items) (always k.max_items)))
 
 module _ (T : List Position) (holds : ℕ → Document → Bool) (meaning : IsMeaning T holds) (tree_of : List ℕ → Tree)
     (below : ℕ → Document → Bool)
@@ -315,14 +318,17 @@ module _ (T : List Position) (holds : ℕ → Document → Bool) (meaning : IsMe
         ∙ sym (and-group (((ma && mi) && r) && p) q (a && (d && n)))
         ∙ sym (and-group ((((ma && mi) && r) && p) && q) a (d && n))
         ∙ sym (and-group (((((ma && mi) && r) && p) && q) && a) d n)
+
     none : (meets (λ ws. true) k.required && (meets (λ ns. true) k.properties
         && (meets (λ ns. true) k.pattern_properties && (meets (λ e. true) k.additional_properties
         && (meets (λ e. true) k.property_names && meets (λ ds. true) k.dependencies))))) ≡ true
     none =
         rw (always k.required) (rw (always k.properties) (rw (always k.pattern_properties)
         (rw (always k.additional_properties) (rw (always k.property_names) (always k.dependencies)))))
+
     no_count : (meets (λ n. true) k.min_properties && meets (λ n. true) k.max_properties) ≡ true
     no_count = rw (always k.min_properties) (always k.max_properties)
+
     by_kind : (J : Document)
         → ((meets (λ ws. at_object (λ ms. every (λ w. has_name w ms) ws) J) k.required
         && (meets (λ ns. at_object (each_asks same_word below ns) J) k.properties
@@ -398,10 +404,10 @@ module _ (T : List Position) (holds : ℕ → Document → Bool) (meaning : IsMe
       ∙ grouped ((meets (some (λ d. same_document d J)) k.enumeration && meets (λ d. same_document d J) k.constant)
       && meets (some (has_type J)) k.types) (meets (every (here J)) k.all_of) (meets (some (here J)) k.any_of)
       (meets (exactly_one (here J)) k.one_of) (meets (λ e. not (here J e)) k.not) where
-    grouped : (x a b c d : Bool) → (x && (a && (b && (c && d)))) ≡ ((((x && a) && b) && c) && d)
-    grouped x a b c d =
-        sym (and-group x a (b && (c && d))) ∙ sym (and-group (x && a) b (c && d))
-        ∙ sym (and-group ((x && a) && b) c d)
+        grouped : (x a b c d : Bool) → (x && (a && (b && (c && d)))) ≡ ((((x && a) && b) && c) && d)
+        grouped x a b c d =
+            sym (and-group x a (b && (c && d))) ∙ sym (and-group (x && a) b (c && d))
+            ∙ sym (and-group ((x && a) && b) c d)
 
   -- ---- all tests
   abbrev pub keyword_tests : List (Document → Bool)
@@ -425,14 +431,14 @@ module _ (T : List Position) (holds : ℕ → Document → Bool) (meaning : IsMe
       ∙ ap (λ b. (((b && at_number (asks_number matches (here J) below k) J)
       && at_string (asks_string matches (here J) below k) J) && at_array (asks_array matches (here J) below k) J)
       && at_object (asks_object matches (here J) below k) J) (everywhere_pass J) where
-    ordered : (x n s a o i : Bool) → (x && (n && (s && (a && (o && i))))) ≡ (((((x && i) && n) && s) && a) && o)
-    ordered x n s a o i =
-        ap (λ b. x && (n && (s && b))) (sym (and-group a o i))
-        ∙ ap (λ b. x && (n && b)) (sym (and-group s (a && o) i))
-        ∙ ap (λ b. x && b) (sym (and-group n (s && (a && o)) i))
-        ∙ between x (n && (s && (a && o))) i
-        ∙ sym (and-group (x && i) n (s && (a && o))) ∙ sym (and-group ((x && i) && n) s (a && o))
-        ∙ sym (and-group (((x && i) && n) && s) a o)
+        ordered : (x n s a o i : Bool) → (x && (n && (s && (a && (o && i))))) ≡ (((((x && i) && n) && s) && a) && o)
+        ordered x n s a o i =
+            ap (λ b. x && (n && (s && b))) (sym (and-group a o i))
+            ∙ ap (λ b. x && (n && b)) (sym (and-group s (a && o) i))
+            ∙ ap (λ b. x && b) (sym (and-group n (s && (a && o)) i))
+            ∙ between x (n && (s && (a && o))) i
+            ∙ sym (and-group (x && i) n (s && (a && o))) ∙ sym (and-group ((x && i) && n) s (a && o))
+            ∙ sym (and-group (((x && i) && n) && s) a o)
 
   -- ---- the nodes stand for the tests
   makes-there : {A : Type 0} (f : A → Maker) (ps : A → List (Document → Bool)) (ok : A → Bool) (o : Option A)

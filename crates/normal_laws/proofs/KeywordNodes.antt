@@ -1,16 +1,16 @@
 -- What the nodes of each keyword ask: what the keyword asks.
-use Rattle.std.proofs.Common.{◌≡◌, ℕ, ℤ, pos, ◌+ℤ◌, ◌-ℤ◌, int_le, int_lt, nat_le, List, [], ◌∷◌, ◌++◌, map, length, drop, Bool, true, false, ◌&&◌, ◌||◌, not, cond, Option, Some, None, refl, ap, sym, ◌∙◌, arith, filter}
-use Rattle.std.proofs.lemmas.Bool.{and_parts, and_from}
+use Rattle.std.proofs.Common.{◌≡◌, ℕ, List, [], ◌∷◌, length, drop, Bool, true, false, ◌&&◌, ◌||◌, not, Option, Some, None, refl, ap, sym, ◌∙◌}
+use Rattle.std.proofs.lemmas.Bool.{and_parts}
 use Rattle.std.specs.List.{AllByRecursion}
 use Rattle.documents.specs.Tests.{every, some, same_word, is_scalar}
 use Rattle.documents.specs.Kind as K
-use Rattle.documents.specs.Document.{Document, null, boolean, number, string, array, object, Members, no_members, member, elements, entries, is_document, are_documents, are_members, is_before, kind_of}
-use Rattle.documents.specs.Measures.{exactly_one, is_multiple, at_number, at_string, at_array, at_object, meets_in_order, has_name, every_in, same_document}
+use Rattle.documents.specs.Document.{Document, null, boolean, number, string, array, object, Members, no_members, member, elements, entries, is_document, are_members, is_before, kind_of}
+use Rattle.documents.specs.Measures.{at_array, at_object, meets_in_order, has_name, every_in}
 use Rattle.patterns.specs.Tree.{Tree}
 use Rattle.patterns.specs.Decision.{finds}
 use Rattle.schema_laws.proofs.Pointers.{same_word-eq}
 use Rattle.schemas.specs.Entry.{TypeName, ItemsPart, Each, Listed, Needs, Names, Whole, Keywords}
-use Rattle.schemas.specs.Schema.{if_there, meets}
+use Rattle.schemas.specs.Schema.{if_there}
 use Rattle.draft06.specs.Names.{keys, is_additional, each_asks, where_present}
 use Rattle.draft06.specs.EntryValidity.{kind_named, has_type, items_ask, rest_asks, need_asks}
 use Rattle.draft06_laws.proofs.Lists.{all_drop}
@@ -18,10 +18,10 @@ use Rattle.position_laws.proofs.Lists.{some-map}
 use Rattle.positions.specs.Position as Q
 use Rattle.positions.specs.Position.{Position, Pattern, True, All, Any, One, Not, Depends, Types, Contains, MembersOf, Named, Matching, Others, Has, NamesIn}
 use Rattle.positions.specs.Holds.{asks, in_set}
-use Rattle.normal_forms.specs.Nodes.{Maker, nothing, node, entry, both, above, each, if_some, the_one}
+use Rattle.normal_forms.specs.Nodes.{node, both, each, the_one}
 use Rattle.normal_forms.specs.KeywordNodes.{kinds_of, once, pattern_of, others_of, items_node, depends_of, need_node, dependency_node}
 use Rattle.normal_laws.specs.Making.{all_pass, IsMeaning, AreMet, Makes}
-use Rattle.normal_laws.proofs.MakingLemmas.{makes-nothing, makes-node, makes-entry, makes-both, makes-above, makes-all, makes-each, makes-if, tests_of}
+use Rattle.normal_laws.proofs.MakingLemmas.{makes-node, makes-entry, makes-both, makes-above, makes-all, makes-each, tests_of}
 use Rattle.normal_laws.proofs.ValueNodes.{documents_in, values_in, makes-same}
 use Rattle.normal_laws.proofs.EnumNodes.{some-filter, some-alike}
 use Rattle.normal_laws.proofs.Repeats.{or-false, every-once}
@@ -46,7 +46,7 @@ pub types_same : (ts : List TypeName) (J : Document) → some (K.same_kind (kind
 types_same ts J =
     sym (some-filter (λ t. some (λ n. K.same_kind t (kind_named n)) ts) (K.same_kind (kind_of J)) K.all_kinds)
     ∙ some-alike _ (λ x. K.same_kind (kind_of J) x && some (λ n. K.same_kind x (kind_named n)) ts) K.all_kinds
-      (λ x. and-swap (some (λ n. K.same_kind x (kind_named n)) ts) (K.same_kind (kind_of J) x))
+    (λ x. and-swap (some (λ n. K.same_kind x (kind_named n)) ts) (K.same_kind (kind_of J) x))
     ∙ kind_among (λ x. some (λ n. K.same_kind x (kind_named n)) ts) (kind_of J)
 
 module _ (T : List Position) (holds : ℕ → Document → Bool) (meaning : IsMeaning T holds) (tree_of : List ℕ → Tree)
@@ -285,13 +285,13 @@ module _ (T : List Position) (holds : ℕ → Document → Bool) (meaning : IsMe
   others_make k e =
       makes-same T holds meaning (node (MembersOf (others_of tree_of k) e)) (members_test (in_set (others_of tree_of k)) e)
       (other_test k e) (members_make (others_of tree_of k) e) (λ J d. same J) where
-    same : (J : Document) → members_test (in_set (others_of tree_of k)) e J ≡ other_test k e J
-    same (object ms) = every_in-alike (in_set (others_of tree_of k)) _ (below e) (entries ms) (other_same k)
-    same null = refl
-    same (boolean b) = refl
-    same (number n) = refl
-    same (string w) = refl
-    same (array ds) = refl
+        same : (J : Document) → members_test (in_set (others_of tree_of k)) e J ≡ other_test k e J
+        same (object ms) = every_in-alike (in_set (others_of tree_of k)) _ (below e) (entries ms) (other_same k)
+        same null = refl
+        same (boolean b) = refl
+        same (number n) = refl
+        same (string w) = refl
+        same (array ds) = refl
 
   -- ---- dependencies
   abbrev pub need_test : Needs → Document → Bool

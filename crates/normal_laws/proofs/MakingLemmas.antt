@@ -1,11 +1,11 @@
 -- How makers are put together.
-use Rattle.std.proofs.Common.{◌≡◌, ℕ, zero, suc, ◌+◌, List, [], ◌∷◌, ◌++◌, length, Bool, true, false, ◌&&◌, Option, Some, None, refl, ap, sym, ◌∙◌, subst, arith, add-zero, add-suc}
+use Rattle.std.proofs.Common.{◌≡◌, ℕ, suc, ◌+◌, List, [], ◌∷◌, ◌++◌, length, Bool, true, Option, Some, None, refl, ap, sym, ◌∙◌, subst, arith, add-zero}
 use Rattle.documents.specs.Tests.{every, some}
 use Rattle.documents.specs.Document.{Document, is_document}
-use Rattle.positions.specs.Position.{Position, All, Any, position_at}
+use Rattle.positions.specs.Position.{Position, All, Any}
 use Rattle.positions.specs.Holds.{asks}
 use Rattle.schemas.specs.Schema.{if_there}
-use Rattle.normal_forms.specs.Nodes.{Nodes, Maker, nothing, node, entry, both, above, each, if_some, after}
+use Rattle.normal_forms.specs.Nodes.{Maker, nothing, node, entry, both, above, each, if_some, after}
 use Rattle.normal_laws.specs.Making.{Stands, all_pass, IsMeaning, AreMet, Makes}
 
 pub stands-append : (T : List Position) (n : ℕ) (xs ys : List Position) → Stands T n (xs ++ ys)
@@ -53,9 +53,11 @@ module _ (T : List Position) (holds : ℕ → Document → Bool) (meaning : IsMe
       → asks (λ q. holds q J) holds (P qs) J ≡ p J)
       → Makes T holds (above P f) (p ∷ [])
   makes-above P p f ps a h n s =
-      let parts = stands-append T n (f n).added (P (f n).named ∷ []) s in
-      (λ J d. meaning (after n (f n)) J ∙ ap (λ Q. asks (λ q. holds q J) holds Q J) parts.1.0
-      ∙ h (f n).named (a n parts.0) J d, tt)
+      let parts = stands-append T n (f n).added (P (f n).named ∷ []) s in (
+        λ J d. meaning (after n (f n)) J ∙ ap (λ Q. asks (λ q. holds q J) holds Q J) parts.1.0
+            ∙ h (f n).named (a n parts.0) J d,
+        tt,
+      )
 
   pub every-met : (qs : List ℕ) (ps : List (Document → Bool)) → AreMet T holds qs ps → (J : Document)
       → is_document J ≡ true → every (λ q. holds q J) qs ≡ every (λ p. p J) ps

@@ -1,8 +1,8 @@
 -- What the nodes of an object's value ask of an object: that it has the same members.
-use Rattle.std.proofs.Common.{◌≡◌, ℕ, subst, List, [], ◌∷◌, ◌++◌, Bool, true, false, ◌&&◌, ◌||◌, not, map, refl, ap, sym, ◌∙◌, cond, true≢false, ◌⊎◌, inl, inr, arith, nat_eq, nat_lt}
+use Rattle.std.proofs.Common.{◌≡◌, ℕ, subst, List, [], ◌∷◌, Bool, true, false, ◌&&◌, ◌||◌, not, map, refl, ap, sym, ◌∙◌, true≢false, arith, nat_eq, nat_lt}
 use Rattle.std.proofs.lemmas.Bool.{and_parts, and_from}
 use Rattle.documents.specs.Tests.{every, some, same_word, comes_before, is_scalar}
-use Rattle.documents.specs.Document.{Document, Members, no_members, member, entries, is_document, are_members, is_before}
+use Rattle.documents.specs.Document.{Document, Members, no_members, member, entries, is_document, are_members}
 use Rattle.documents.specs.Measures.{has_name, every_in, same_document, same_members}
 use Rattle.documents.proofs.NameOrder.{comes_before-same, comes_before-trans}
 use Rattle.schema_laws.proofs.Pointers.{same_word-eq, same_word-refl}
@@ -42,9 +42,11 @@ members_after k d no_members h = (refl, refl)
 members_after k d (member l e ms) h =
     let last = and_parts (every is_scalar k && is_document d && comes_before k l) (are_members (member l e ms)) h in
     let order = and_parts (every is_scalar k && is_document d) (comes_before k l) last.0 in
-    let rest = members_after l e ms last.1 in
-    (and_from (comes_before k l) (all_after k (entries ms)) order.1
-    (after_first k l (entries ms) order.1 rest.0), last.1)
+    let rest = members_after l e ms last.1 in (
+      and_from (comes_before k l) (all_after k (entries ms)) order.1
+          (after_first k l (entries ms) order.1 rest.0),
+      last.1,
+    )
 
 -- a name that all come after is none of theirs
 pub has_name-after : (k : List ℕ) (ms : Named) → all_after k ms ≡ true → has_name k ms ≡ false
@@ -153,20 +155,20 @@ members_same (member k d ms) no_members a b = refl
 members_same (member k d ms) (member l e ns) a b =
     by_order (order k l) (members_after k d ms a) (members_after l e ns b)
     (members_same ms ns (members_after k d ms a).1 (members_after l e ns b).1) where
-  by_order : Order k l → (all_after k (entries ms) ≡ true) × (are_members ms ≡ true)
-      → (all_after l (entries ns) ≡ true) × (are_members ns ≡ true)
-      → (have_all ms (entries ns) && none_other (names_of ms) (entries ns)) ≡ same_members ms ns
-      → (have_all (member k d ms) ((l, e) ∷ entries ns) && none_other (k ∷ names_of ms) ((l, e) ∷ entries ns))
-      ≡ (same_word k l && same_document d e && same_members ms ns)
-  by_order (before h) x y rest =
-      let there = has_name-after k (entries ns) (after_first k l (entries ns) h y.0) in
-      rw (same_word-before k l h) (rw there refl)
-  by_order (after h) x y rest =
-      let none = some-after l (entries ms) (after_first l k (entries ms) h x.0) in
-      rw (same_word-after k l h) (rw (same_word-before l k h) (rw none (and-false _)))
-  by_order (same h) x y rest =
-      let P : List ℕ → Type 0 = λ w. all_after w (entries ns) ≡ true in
-      let Q : List ℕ → Type 0 = λ w.
+      by_order : Order k l → (all_after k (entries ms) ≡ true) × (are_members ms ≡ true)
+          → (all_after l (entries ns) ≡ true) × (are_members ns ≡ true)
+          → (have_all ms (entries ns) && none_other (names_of ms) (entries ns)) ≡ same_members ms ns
+          → (have_all (member k d ms) ((l, e) ∷ entries ns) && none_other (k ∷ names_of ms) ((l, e) ∷ entries ns))
+          ≡ (same_word k l && same_document d e && same_members ms ns)
+      by_order (before h) x y rest =
+          let there = has_name-after k (entries ns) (after_first k l (entries ns) h y.0) in
+          rw (same_word-before k l h) (rw there refl)
+      by_order (after h) x y rest =
+          let none = some-after l (entries ms) (after_first l k (entries ms) h x.0) in
+          rw (same_word-after k l h) (rw (same_word-before l k h) (rw none (and-false _)))
+      by_order (same h) x y rest =
+          let P : List ℕ → Type 0 = λ w. all_after w (entries ns) ≡ true in
+          let Q : List ℕ → Type 0 = λ w.
           (have_all (member k d ms) ((w, e) ∷ entries ns) && none_other (k ∷ names_of ms) ((w, e) ∷ entries ns))
           ≡ (same_word k w && same_document d e && same_members ms ns) in
-      subst Q h (one_name k d e ms ns x.0 (subst P (sym h) y.0) rest)
+          subst Q h (one_name k d e ms ns x.0 (subst P (sym h) y.0) rest)

@@ -1,10 +1,8 @@
 -- The law of the normal form: the position of an entry holds of the documents that are valid for the entry.
-use Rattle.std.proofs.Common.{◌≡◌, ℕ, zero, suc, ◌+◌, ◌<◌, List, [], ◌∷◌, ◌++◌, length, Bool, true, false, ◌&&◌, cond, nat_lt, nat_le, refl, ap, sym, ◌∙◌, subst, arith, append_assoc}
+use Rattle.std.proofs.Common.{◌≡◌, ℕ, zero, suc, ◌<◌, List, [], ◌∷◌, ◌++◌, length, Bool, true, false, cond, nat_le, refl, ap, sym, ◌∙◌, subst, arith, append_assoc}
 use Rattle.std.proofs.lemmas.Bool.{and_parts}
-use Rattle.std.specs.List.{AllByRecursion}
 use Rattle.documents.specs.Tests.{every}
 use Rattle.documents.specs.Document.{Document, depth, is_document}
-use Rattle.levels.specs.Levels.{is_met}
 use Rattle.levels.specs.Within.{RankedWithin}
 use Rattle.patterns.specs.Tree.{Tree}
 use Rattle.patterns.specs.Decision.{finds}
@@ -19,12 +17,11 @@ use Rattle.draft06_laws.proofs.EntryLocal.{asks_same}
 use Rattle.draft06_laws.proofs.EntryLaws.{entry_valid-asks, ranked, parts_below, IsEntry, named_in_place}
 use Rattle.levels.proofs.LevelsLaws.{weaker}
 use Rattle.position_laws.proofs.Lists.{all-both}
-use Rattle.position_laws.proofs.Joined.{position_at-append_left, position_at-append_right}
-use Rattle.positions.specs.Position.{Position, True, False, Same, All, position_at}
+use Rattle.positions.specs.Position.{Position, position_at}
 use Rattle.positions.specs.Holds.{asks}
 use Rattle.normal_forms.specs.Nodes.{after}
 use Rattle.normal_forms.specs.NormalForm.{form_nodes, entry_position, entry_positions, all_nodes, table_of}
-use Rattle.normal_laws.specs.Making.{Stands, all_pass, IsMeaning, AreMet}
+use Rattle.normal_laws.specs.Making.{Stands, IsMeaning}
 use Rattle.normal_laws.proofs.MakingLemmas.{stands-append, every-met}
 use Rattle.normal_laws.proofs.KeywordLaw.{keyword_tests, keywords_pass, keywords_make}
 
@@ -36,12 +33,13 @@ stands_after A (x ∷ B) =
     let P : List Position → Type 0 = λ xs. Stands xs (length (A ++ x ∷ [])) B in
     let Q : ℕ → Type 0 = λ n. Stands (A ++ x ∷ B) n B in
     (here, subst Q (one_more A) (subst P (append_assoc A (x ∷ []) B) (stands_after (A ++ x ∷ []) B))) where
-  at_end : (A : List Position) → position_at (A ++ x ∷ B) (length A) ≡ x
-  at_end [] = refl
-  at_end (y ∷ A) = at_end A
-  one_more : (A : List Position) → length (A ++ x ∷ []) ≡ suc (length A)
-  one_more [] = refl
-  one_more (y ∷ A) = ap suc (one_more A)
+      at_end : (A : List Position) → position_at (A ++ x ∷ B) (length A) ≡ x
+      at_end [] = refl
+      at_end (y ∷ A) = at_end A
+
+      one_more : (A : List Position) → length (A ++ x ∷ []) ≡ suc (length A)
+      one_more [] = refl
+      one_more (y ∷ A) = ap suc (one_more A)
 
 module _ (tree_of : List ℕ → Tree) where
   length-entry_positions : (n : ℕ) (es : List Entry) → length (entry_positions tree_of n es) ≡ length es
@@ -67,10 +65,10 @@ module _ (tree_of : List ℕ → Tree) where
   nodes_at T n [] e s h = absurd (omega arith)
   nodes_at T n (f ∷ fs) zero s h =
       let parts = stands-append T n (form_nodes tree_of f.form n).added
-          (all_nodes tree_of (after n (form_nodes tree_of f.form n)) fs) s in parts.0
+      (all_nodes tree_of (after n (form_nodes tree_of f.form n)) fs) s in parts.0
   nodes_at T n (f ∷ fs) (suc e) s h =
       let parts = stands-append T n (form_nodes tree_of f.form n).added
-          (all_nodes tree_of (after n (form_nodes tree_of f.form n)) fs) s in
+      (all_nodes tree_of (after n (form_nodes tree_of f.form n)) fs) s in
       nodes_at T (after n (form_nodes tree_of f.form n)) fs e parts.1 (omega arith)
 
 values_there : (k : Keywords) → is_in_range k ≡ true
@@ -135,19 +133,19 @@ module _ (tree_of : List ℕ → Tree) (es : List Entry)
   entry_asks below agree e J l d =
       meaning e J ∙ ap (λ P. asks (λ q. holds q J) holds P J) (position_is e l)
       ∙ by_form (form_at es e) (number e) (nodes_stand e l) (in_range-at es e in_range) where
-    by_form : (f : Form) (n : ℕ) → Stands (table_of tree_of es) n (form_nodes tree_of f n).added
-        → form_in_range f ≡ true
-        → asks (λ q. holds q J) holds (entry_position tree_of f (form_nodes tree_of f n)) J
-        ≡ V.asks matches (λ q. holds q J) below f J
-    by_form Always n s r = refl
-    by_form Never n s r = refl
-    by_form (Ref q) n s r = refl
-    by_form (Asks k) n s r =
-        let there = values_there k r in
-        every-met (table_of tree_of es) holds meaning (form_nodes tree_of (Asks k) n).named
-        (keyword_tests (table_of tree_of es) holds meaning tree_of below agree k)
-        (keywords_make (table_of tree_of es) holds meaning tree_of below agree k there.0 there.1 n s) J d
-        ∙ keywords_pass (table_of tree_of es) holds meaning tree_of below agree k J
+        by_form : (f : Form) (n : ℕ) → Stands (table_of tree_of es) n (form_nodes tree_of f n).added
+            → form_in_range f ≡ true
+            → asks (λ q. holds q J) holds (entry_position tree_of f (form_nodes tree_of f n)) J
+            ≡ V.asks matches (λ q. holds q J) below f J
+        by_form Always n s r = refl
+        by_form Never n s r = refl
+        by_form (Ref q) n s r = refl
+        by_form (Asks k) n s r =
+            let there = values_there k r in
+            every-met (table_of tree_of es) holds meaning (form_nodes tree_of (Asks k) n).named
+            (keyword_tests (table_of tree_of es) holds meaning tree_of below agree k)
+            (keywords_make (table_of tree_of es) holds meaning tree_of below agree k there.0 there.1 n s) J d
+            ∙ keywords_pass (table_of tree_of es) holds meaning tree_of below agree k J
 
 module _ (tree_of : List ℕ → Tree) (es : List Entry) (table : is_table es ≡ true) (rank : ℕ → ℕ)
     (falls : FallInPlace es rank) (holds : ℕ → Document → Bool) (meaning : IsMeaning (table_of tree_of es) holds) where

@@ -62,34 +62,34 @@ module _ {A : Type 0} (same : A → A → Bool) (same-eq : (x y : A) → same x 
   passed x (y ∷ done) h e =
       let parts = and_parts (p y) (every p done) e in
       either (or-either (same x y) (some (same x) done) h) parts.0 (λ r. passed x done r parts.1) where
-    either : (same x y ≡ true) ⊎ (some (same x) done ≡ true) → p y ≡ true → (some (same x) done ≡ true → p x ≡ true)
-        → p x ≡ true
-    either (inl s) e rest = ap p (same-eq x y s) ∙ e
-    either (inr r) e rest = rest r
+        either : (same x y ≡ true) ⊎ (some (same x) done ≡ true) → p y ≡ true → (some (same x) done ≡ true → p x ≡ true)
+            → p x ≡ true
+        either (inl s) e rest = ap p (same-eq x y s) ∙ e
+        either (inr r) e rest = rest r
 
   some-among : (done xs : List A) → (some p (once_among same done xs) || some p done) ≡ (some p xs || some p done)
   some-among done [] = refl
   some-among done (x ∷ xs) =
       by_test (some (same x) done) refl (some-among done xs) (some-among (x ∷ done) xs) where
-    by_test : (b : Bool) → some (same x) done ≡ b
-        → (some p (once_among same done xs) || some p done) ≡ (some p xs || some p done)
-        → (some p (once_among same (x ∷ done) xs) || (p x || some p done)) ≡ (some p xs || (p x || some p done))
-        → (some p (once_among same done (x ∷ xs)) || some p done) ≡ ((p x || some p xs) || some p done)
-    by_test true e skipped kept = rw e (skipped ∙ or-absorbs (p x) (some p xs) (some p done) (found x done e))
-    by_test false e skipped kept =
-        rw e (or-moves (p x) (some p (once_among same (x ∷ done) xs)) (some p xs) (some p done) kept)
+        by_test : (b : Bool) → some (same x) done ≡ b
+            → (some p (once_among same done xs) || some p done) ≡ (some p xs || some p done)
+            → (some p (once_among same (x ∷ done) xs) || (p x || some p done)) ≡ (some p xs || (p x || some p done))
+            → (some p (once_among same done (x ∷ xs)) || some p done) ≡ ((p x || some p xs) || some p done)
+        by_test true e skipped kept = rw e (skipped ∙ or-absorbs (p x) (some p xs) (some p done) (found x done e))
+        by_test false e skipped kept =
+            rw e (or-moves (p x) (some p (once_among same (x ∷ done) xs)) (some p xs) (some p done) kept)
 
   every-among : (done xs : List A) → (every p (once_among same done xs) && every p done) ≡ (every p xs && every p done)
   every-among done [] = refl
   every-among done (x ∷ xs) =
       by_test (some (same x) done) refl (every-among done xs) (every-among (x ∷ done) xs) where
-    by_test : (b : Bool) → some (same x) done ≡ b
-        → (every p (once_among same done xs) && every p done) ≡ (every p xs && every p done)
-        → (every p (once_among same (x ∷ done) xs) && (p x && every p done)) ≡ (every p xs && (p x && every p done))
-        → (every p (once_among same done (x ∷ xs)) && every p done) ≡ ((p x && every p xs) && every p done)
-    by_test true e skipped kept = rw e (skipped ∙ and-absorbs (p x) (every p xs) (every p done) (passed x done e))
-    by_test false e skipped kept =
-        rw e (and-moves (p x) (every p (once_among same (x ∷ done) xs)) (every p xs) (every p done) kept)
+        by_test : (b : Bool) → some (same x) done ≡ b
+            → (every p (once_among same done xs) && every p done) ≡ (every p xs && every p done)
+            → (every p (once_among same (x ∷ done) xs) && (p x && every p done)) ≡ (every p xs && (p x && every p done))
+            → (every p (once_among same done (x ∷ xs)) && every p done) ≡ ((p x && every p xs) && every p done)
+        by_test true e skipped kept = rw e (skipped ∙ and-absorbs (p x) (every p xs) (every p done) (passed x done e))
+        by_test false e skipped kept =
+            rw e (and-moves (p x) (every p (once_among same (x ∷ done) xs)) (every p xs) (every p done) kept)
 
   pub some-once : (xs : List A) → some p (once same xs) ≡ some p xs
   some-once xs = sym (or-false (some p (once same xs))) ∙ some-among [] xs ∙ or-false (some p xs)

@@ -1,24 +1,23 @@
 -- A document meets the node of a value exactly where it is the value.
-use Rattle.std.proofs.Common.{◌≡◌, ℕ, ℤ, List, [], ◌∷◌, ◌++◌, length, drop, map, Bool, true, false, ◌&&◌, ◌||◌, not, cond, nat_le, nat_eq, refl, ap, sym, ◌∙◌, arith}
-use Rattle.std.proofs.lemmas.Bool.{and_parts, and_from}
+use Rattle.std.proofs.Common.{◌≡◌, ℕ, ℤ, List, [], ◌∷◌, ◌++◌, length, drop, Bool, true, false, ◌&&◌, ◌||◌, not, cond, nat_le, nat_eq, refl, ap, sym, ◌∙◌, arith}
+use Rattle.std.proofs.lemmas.Bool.{and_parts}
 use Rattle.std.specs.Bool.{beq}
 use Rattle.std.specs.List.{AllByRecursion, list_any}
 use Rattle.std.specs.Ordering.{int_eq}
 use Rattle.documents.specs.Tests.{every, some, same_word, is_scalar}
 use Rattle.documents.specs.Kind.{Kind, Null, Boolean, Number, Text, Array, Object, same_kind}
 use Rattle.documents.specs.Document.{Document, null, boolean, number, string, array, object, Items, no_items, item, Members, no_members, member, elements, entries, is_document, are_documents, are_members, is_before, kind_of}
-use Rattle.documents.specs.Measures.{at_number, at_string, at_array, at_object, meets_in_order, has_name, every_in, same_document, same_items, same_members}
-use Rattle.positions.specs.Position.{Position, True, False, All, Types, BoolIs, NumIn, Words, CountMin, CountMax, MembersOf, Named, Others, Has}
-use Rattle.positions.specs.Position as Q
+use Rattle.documents.specs.Measures.{at_number, at_string, at_array, at_object, meets_in_order, has_name, every_in, same_document}
+use Rattle.positions.specs.Position.{Position, True, False, Types, BoolIs, NumIn, Words, CountMin, CountMax, MembersOf, Others, Has}
 use Rattle.positions.specs.Holds.{asks, at_boolean}
-use Rattle.normal_forms.specs.Nodes.{Maker, nothing, node, both, above, the_one}
+use Rattle.normal_forms.specs.Nodes.{Maker, node, both, above, the_one}
 use Rattle.normal_forms.specs.Values.{of_kind, but_last, last_of, items_of, value_node, item_nodes, member_nodes, member_of, no_others}
 use Rattle.draft06_laws.proofs.Lists.{all_drop}
 use Rattle.position_laws.proofs.Lists.{every-append}
 use Rattle.normal_laws.specs.Making.{all_pass, IsMeaning, AreMet, Makes}
 use Rattle.normal_laws.proofs.MakingLemmas.{makes-nothing, makes-node, makes-both, makes-above, makes-all}
-use Rattle.normal_laws.proofs.ItemTests.{item_tests, same_count, items_same}
-use Rattle.normal_laws.proofs.MemberTests.{have_all, none_other, names_of, members_same, members_after}
+use Rattle.normal_laws.proofs.ItemTests.{item_tests, items_same}
+use Rattle.normal_laws.proofs.MemberTests.{have_all, none_other, names_of, members_same}
 
 and-true : (a : Bool) → (a && true) ≡ a
 and-true true = refl
@@ -163,8 +162,8 @@ module _ (T : List Position) (holds : ℕ → Document → Bool) (meaning : IsMe
       (makes-both T holds meaning (node (Types (t ∷ []))) (node P) (kinds ∷ []) (p ∷ [])
       (makes-node T holds meaning (Types (t ∷ [])) kinds (λ J d. refl)) (makes-node T holds meaning P p h)))
       (λ J d. rw (or-false (same_kind (kind_of J) t)) (rw (and-true (p J)) refl)) where
-    kinds : Document → Bool
-    kinds = kind_test t
+        kinds : Document → Bool
+        kinds = kind_test t
 
   -- the last of the named positions, and those before it
   met-last : (qs : List ℕ) (ps : List (Document → Bool)) (t : Document → Bool) → AreMet T holds qs (ps ++ t ∷ [])

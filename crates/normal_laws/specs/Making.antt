@@ -4,7 +4,7 @@ use Rattle.documents.specs.Tests.{every}
 use Rattle.documents.specs.Document.{Document, is_document}
 use Rattle.positions.specs.Position.{Position, position_at}
 use Rattle.positions.specs.Holds.{asks}
-use Rattle.normal_forms.specs.Nodes.{Nodes, Maker}
+use Rattle.normal_forms.specs.Nodes.{Maker}
 
 -- the positions stand in the table from n on
 abbrev pub Stands : List Position → ℕ → List Position → Type 0
