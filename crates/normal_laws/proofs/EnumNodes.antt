@@ -110,7 +110,8 @@ nulls : (b : Bool) (J : Document) → one_passes (null_tests b) J ≡ (b && kind
 nulls true J = or-false (kind_test Null J)
 nulls false J = refl
 
-either_truth : (J : Document) → kind_test Boolean J ≡ (same_document (boolean false) J || same_document (boolean true) J)
+either_truth : (J : Document) → kind_test Boolean J ≡ (same_document (boolean false) J || same_document
+    (boolean true) J)
 either_truth (boolean true) = refl
 either_truth (boolean false) = refl
 either_truth null = refl
@@ -158,7 +159,8 @@ never : {A : Type 0} (xs : List A) → some (λ x. false) xs ≡ false
 never [] = refl
 never (x ∷ xs) = never xs
 
-number_values : (ns : List ℤ) (J : Document) → one_passes (number_tests ns) J ≡ some (λ n. same_document (number n) J) ns
+number_values : (ns : List ℤ) (J : Document) → one_passes (number_tests ns) J ≡ some (λ n. same_document
+    (number n) J) ns
 number_values [] J = refl
 number_values (n ∷ ns) (number x) =
     or-false _ ∙ sym (some-list_any (λ n. int_eq n x) (n ∷ ns))
@@ -168,7 +170,8 @@ number_values (n ∷ ns) (string w) = sym (never ns)
 number_values (n ∷ ns) (array ds) = sym (never ns)
 number_values (n ∷ ns) (object ms) = sym (never ns)
 
-word_values : (ws : List (List ℕ)) (J : Document) → one_passes (word_tests ws) J ≡ some (λ w. same_document (string w) J) ws
+word_values : (ws : List (List ℕ)) (J : Document) → one_passes (word_tests ws) J ≡ some (λ w. same_document
+    (string w) J) ws
 word_values [] J = refl
 word_values (w ∷ ws) (string v) =
     or-false _ ∙ some-alike (same_word v) (λ w. same_word w v) (w ∷ ws) (λ u. same_word-swap v u)

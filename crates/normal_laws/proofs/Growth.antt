@@ -89,9 +89,11 @@ module _ (In : ℕ → Type 0) (first : ℕ) (some_entry : 0 < first) (below_fir
         grown_append n n (f n).added (g (after n (f n))).added one.0
             (grown_earlier n (after n (f n)) (after n (f n)) (g (after n (f n))).added (omega arith) two.0),
         all_append _ (f n).named (g (after n (f n))).named
-            (all_weaker _ _ (f n).named (λ q h. may_earlier n n (after n (f n)) (n + length ((f n).added ++ (g (after n (f n))).added)) q (omega arith)
+            (all_weaker _ _ (f n).named (λ q h. may_earlier n n (after n (f n)) (n + length ((f n).added ++ (g
+            (after n (f n))).added)) q (omega arith)
             (omega (arith, more)) h) one.1)
-            (all_weaker _ _ (g (after n (f n))).named (λ q h. may_earlier n (after n (f n)) (after (after n (f n)) (g (after n (f n))))
+            (all_weaker _ _ (g (after n (f n))).named (λ q h. may_earlier n (after n (f n)) (after (after n (f n))
+            (g (after n (f n))))
             (n + length ((f n).added ++ (g (after n (f n))).added)) q (omega arith) (omega (arith, more)) h) two.1),
       )
 
@@ -150,8 +152,15 @@ module _ (In : ℕ → Type 0) (first : ℕ) (some_entry : 0 < first) (below_fir
   is_items n p qs l h = (tt, (last_below n p qs l h, but_last_below n p qs l h), refl)
 
   pub is_listed : (es : List ℕ) → AllByRecursion (λ q. q < first) es → IsNode (λ qs. Q.Items es (the_one qs))
-  is_listed es below n p qs l h =
-      (tt, (the_one_below n p qs l h, all_weaker (λ q. q < first) (λ q. q < p) es (λ q b. omega (arith, b, l)) below), refl)
+  is_listed es below n p qs l h = (
+    tt,
+    (
+      the_one_below n p qs l h,
+      all_weaker (λ q. q < first) (λ q. q < p) es (λ q b. omega
+          (arith, b, l)) below,
+    ),
+    refl,
+  )
 
   pub plain : (P : Position) → in_place P ≡ [] → of_parts P ≡ [] → in_range P ≡ true → Grows (node P)
   plain P a b c =

@@ -123,7 +123,8 @@ module _ (In : ℕ → Type 0) (first : ℕ) (some_entry : 0 < first) (below_fir
 
   -- where it is there, the entries that it names are known
   grows-known : {A : Type 0} (f : A → Maker) (names : A → List ℕ) (P : ℕ → Type 0) (o : Option A)
-      → AllByRecursion P (lists names o) → ((x : A) → AllByRecursion P (names x) → IsGrown (f x)) → IsGrown (if_some f o)
+      → AllByRecursion P (lists names o) → ((x : A) → AllByRecursion P (names x) → IsGrown (f x)) → IsGrown
+      (if_some f o)
   grows-known f names P None t h = none
   grows-known f names P (Some x) t h = h x t
 
@@ -154,11 +155,13 @@ module _ (In : ℕ → Type 0) (first : ℕ) (some_entry : 0 < first) (below_fir
       (two (truths (some not (filter_map truth_in ds)) (some (λ b. b) (filter_map truth_in ds))) _ (truths_grow _ _)
       (two (one_of_kind K.Number NumIn (once int_eq (filter_map number_in ds))) _
       (kind_grows K.Number NumIn (once int_eq (filter_map number_in ds)) (λ ys. simple (NumIn ys) refl refl refl))
-      (two (one_of_kind K.Text Words (once same_word (filter_map word_in ds))) (each value_node (filter is_container ds))
+      (two (one_of_kind K.Text Words (once same_word (filter_map word_in ds))) (each value_node
+      (filter is_container ds))
       (kind_grows K.Text Words (once same_word (filter_map word_in ds)) (λ ys. simple (Words ys) refl refl refl))
       (values_grow (filter is_container ds)))))
 
-  items_grow : (rest : Option ℕ) (s : ItemsPart) → AllByRecursion Below (of_items s) → AllByRecursion Below (lists one rest)
+  items_grow : (rest : Option ℕ) (s : ItemsPart) → AllByRecursion Below (of_items s) → AllByRecursion Below
+      (lists one rest)
       → IsGrown (items_node rest s)
   items_grow rest (Each e) h r = naming (Q.Items [] e) tt (h.0, tt) refl
   items_grow (Some e) (Listed es) h r = naming (Q.Items es e) tt (r.0, h) refl
@@ -231,7 +234,8 @@ module _ (In : ℕ → Type 0) (first : ℕ) (some_entry : 0 < first) (below_fir
     numbers_grow : IsGrown (number_nodes tree_of k)
     numbers_grow =
         two (if_some (λ m. node (Multiple m)) k.multiple_of) _
-        (grows-tested (λ m. node (Multiple m)) is_multiple k.multiple_of r.multiple_of (λ m h. simple (Multiple m) refl refl
+        (grows-tested (λ m. node (Multiple m)) is_multiple k.multiple_of r.multiple_of (λ m h. simple
+        (Multiple m) refl refl
         (multiple_in_range m h)))
         (two (if_some (λ n. node (NumMin n)) k.minimum) _
         (grows-tested (λ n. node (NumMin n)) is_held k.minimum r.minimum
@@ -249,7 +253,8 @@ module _ (In : ℕ → Type 0) (first : ℕ) (some_entry : 0 < first) (below_fir
     strings_grow =
         two (if_some (λ n. node (LengthMin n)) k.min_length) _
         (grows-if (λ n. node (LengthMin n)) k.min_length (λ n. simple (LengthMin n) refl refl refl))
-        (two (if_some (λ n. node (LengthMax n)) k.max_length) (if_some (λ t. node (Match (pattern_of tree_of t))) k.pattern)
+        (two (if_some (λ n. node (LengthMax n)) k.max_length) (if_some (λ t. node (Match
+        (pattern_of tree_of t))) k.pattern)
         (grows-if (λ n. node (LengthMax n)) k.max_length (λ n. simple (LengthMax n) refl refl refl))
         (grows-if (λ t. node (Match (pattern_of tree_of t))) k.pattern
         (λ t. simple (Match (pattern_of tree_of t)) refl refl refl)))

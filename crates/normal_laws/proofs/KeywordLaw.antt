@@ -218,10 +218,14 @@ module _ (k : Keywords) where
               (meets (λ n. nat_le n (length (D.elements ds))) k.min_items)
               (meets (λ n. nat_le (length (D.elements ds)) n) k.max_items)
           by_kind null = rw (always k.items) (rw (always k.contains) (rw (always k.min_items) (always k.max_items)))
-          by_kind (boolean b) = rw (always k.items) (rw (always k.contains) (rw (always k.min_items) (always k.max_items)))
-          by_kind (number n) = rw (always k.items) (rw (always k.contains) (rw (always k.min_items) (always k.max_items)))
-          by_kind (string w) = rw (always k.items) (rw (always k.contains) (rw (always k.min_items) (always k.max_items)))
-          by_kind (object ms) = rw (always k.items) (rw (always k.contains) (rw (always k.min_items) (always k.max_items)))
+          by_kind (boolean b) =
+              rw (always k.items) (rw (always k.contains) (rw (always k.min_items) (always k.max_items)))
+          by_kind (number n) =
+              rw (always k.items) (rw (always k.contains) (rw (always k.min_items) (always k.max_items)))
+          by_kind (string w) =
+              rw (always k.items) (rw (always k.contains) (rw (always k.min_items) (always k.max_items)))
+          by_kind (object ms) =
+              rw (always k.items) (rw (always k.contains) (rw (always k.min_items) (always k.max_items)))
 
 module _ (T : List Position) (holds : ℕ → Document → Bool) (meaning : IsMeaning T holds) (tree_of : List ℕ → Tree)
     (below : ℕ → Document → Bool)
@@ -498,15 +502,21 @@ module _ (T : List Position) (holds : ℕ → Document → Bool) (meaning : IsMe
 
   numbers_make : Makes T holds (number_nodes tree_of k) (number_tests k)
   numbers_make =
-      makes-both T holds meaning (if_some (λ x. node (Multiple x)) k.multiple_of) number_1 (one_test (λ m. at_number (is_multiple m)) k.multiple_of) number_tests_1
+      makes-both T holds meaning (if_some (λ x. node (Multiple x)) k.multiple_of) number_1 (one_test
+      (λ m. at_number (is_multiple m)) k.multiple_of) number_tests_1
       (makes-plain Multiple (λ m. at_number (is_multiple m)) k.multiple_of (λ x J d. refl))
-      (makes-both T holds meaning (if_some (λ x. node (NumMin x)) k.minimum) number_2 (one_test (λ n. at_number (int_le n)) k.minimum) number_tests_2
+      (makes-both T holds meaning (if_some (λ x. node (NumMin x)) k.minimum) number_2 (one_test (λ n. at_number
+      (int_le n)) k.minimum) number_tests_2
       (makes-plain NumMin (λ n. at_number (int_le n)) k.minimum (λ x J d. refl))
-      (makes-both T holds meaning (if_some (λ x. node (NumMin (x +ℤ pos 1))) k.exclusive_minimum) number_3 (one_test (λ n. at_number (int_lt n)) k.exclusive_minimum) number_tests_3
-      (makes-plain (λ x. NumMin (x +ℤ pos 1)) (λ n. at_number (int_lt n)) k.exclusive_minimum (λ x J d. after_least x J))
-      (makes-both T holds meaning (if_some (λ x. node (NumMax x)) k.maximum) number_4 (one_test (λ n. at_number (λ x. int_le x n)) k.maximum) number_tests_4
+      (makes-both T holds meaning (if_some (λ x. node (NumMin (x +ℤ pos 1))) k.exclusive_minimum) number_3
+      (one_test (λ n. at_number (int_lt n)) k.exclusive_minimum) number_tests_3
+      (makes-plain (λ x. NumMin (x +ℤ pos 1)) (λ n. at_number (int_lt n)) k.exclusive_minimum
+      (λ x J d. after_least x J))
+      (makes-both T holds meaning (if_some (λ x. node (NumMax x)) k.maximum) number_4 (one_test (λ n. at_number
+      (λ x. int_le x n)) k.maximum) number_tests_4
       (makes-plain NumMax (λ n. at_number (λ x. int_le x n)) k.maximum (λ x J d. refl))
-      ((makes-plain (λ x. NumMax (x -ℤ pos 1)) (λ n. at_number (λ x. int_lt x n)) k.exclusive_maximum (λ x J d. before_most x J))))))
+      ((makes-plain (λ x. NumMax (x -ℤ pos 1)) (λ n. at_number (λ x. int_lt x n)) k.exclusive_maximum
+      (λ x J d. before_most x J))))))
 
   abbrev string_2 : Maker
   string_2 = (if_some (λ x. node (Match (pattern_of tree_of x))) k.pattern)
@@ -522,11 +532,14 @@ module _ (T : List Position) (holds : ℕ → Document → Bool) (meaning : IsMe
 
   strings_make : Makes T holds (string_nodes tree_of k) (string_tests k tree_of)
   strings_make =
-      makes-both T holds meaning (if_some (λ x. node (LengthMin x)) k.min_length) string_1 (one_test (λ n. at_string (λ w. nat_le n (length w))) k.min_length) string_tests_1
+      makes-both T holds meaning (if_some (λ x. node (LengthMin x)) k.min_length) string_1 (one_test
+      (λ n. at_string (λ w. nat_le n (length w))) k.min_length) string_tests_1
       (makes-plain LengthMin (λ n. at_string (λ w. nat_le n (length w))) k.min_length (λ x J d. refl))
-      (makes-both T holds meaning (if_some (λ x. node (LengthMax x)) k.max_length) string_2 (one_test (λ n. at_string (λ w. nat_le (length w) n)) k.max_length) string_tests_2
+      (makes-both T holds meaning (if_some (λ x. node (LengthMax x)) k.max_length) string_2 (one_test
+      (λ n. at_string (λ w. nat_le (length w) n)) k.max_length) string_tests_2
       (makes-plain LengthMax (λ n. at_string (λ w. nat_le (length w) n)) k.max_length (λ x J d. refl))
-      ((makes-plain (λ x. Match (pattern_of tree_of x)) (λ t. at_string (finds (tree_of t))) k.pattern (λ x J d. refl))))
+      ((makes-plain (λ x. Match (pattern_of tree_of x)) (λ t. at_string (finds (tree_of t))) k.pattern
+      (λ x J d. refl))))
 
   abbrev array_3 : Maker
   array_3 = (if_some (λ x. node (CountMax x)) k.max_items)
@@ -548,11 +561,16 @@ module _ (T : List Position) (holds : ℕ → Document → Bool) (meaning : IsMe
 
   arrays_make : Makes T holds (array_nodes tree_of k) (array_tests k below)
   arrays_make =
-      makes-both T holds meaning (if_some (items_node k.additional_items) k.items) array_1 (one_test (items_test k below) k.items) array_tests_1
-      (makes-if T holds meaning (items_node k.additional_items) (λ s. items_test k below s ∷ []) k.items (N.items_makes T holds meaning tree_of below agree k.additional_items))
-      (makes-both T holds meaning (if_some (λ e. node (Contains e)) k.contains) array_2 (one_test (λ e. at_array (some (below e))) k.contains) array_tests_2
-      (makes-if T holds meaning (λ e. node (Contains e)) (λ e. at_array (some (below e)) ∷ []) k.contains (N.contains_makes T holds meaning tree_of below agree))
-      (makes-both T holds meaning (if_some (λ x. node (CountMin x)) k.min_items) array_3 (one_test (λ n. at_array (λ ds. nat_le n (length ds))) k.min_items) array_tests_3
+      makes-both T holds meaning (if_some (items_node k.additional_items) k.items) array_1 (one_test
+      (items_test k below) k.items) array_tests_1
+      (makes-if T holds meaning (items_node k.additional_items) (λ s. items_test k below s ∷ []) k.items
+      (N.items_makes T holds meaning tree_of below agree k.additional_items))
+      (makes-both T holds meaning (if_some (λ e. node (Contains e)) k.contains) array_2 (one_test (λ e. at_array
+      (some (below e))) k.contains) array_tests_2
+      (makes-if T holds meaning (λ e. node (Contains e)) (λ e. at_array (some (below e)) ∷ []) k.contains
+      (N.contains_makes T holds meaning tree_of below agree))
+      (makes-both T holds meaning (if_some (λ x. node (CountMin x)) k.min_items) array_3 (one_test (λ n. at_array
+      (λ ds. nat_le n (length ds))) k.min_items) array_tests_3
       (makes-plain CountMin (λ n. at_array (λ ds. nat_le n (length ds))) k.min_items (λ x J d. refl))
       ((makes-plain CountMax (λ n. at_array (λ ds. nat_le (length ds) n)) k.max_items (λ x J d. refl)))))
 
@@ -575,7 +593,8 @@ module _ (T : List Position) (holds : ℕ → Document → Bool) (meaning : IsMe
   member_tests_3 = (one_test other_test k.additional_properties) ++ member_tests_4
 
   abbrev member_2 : Maker
-  member_2 = both (if_some (each (λ p. node (MembersOf (Matching (pattern_of tree_of p.0)) p.1))) k.pattern_properties) member_3
+  member_2 = both (if_some (each (λ p. node (MembersOf (Matching
+      (pattern_of tree_of p.0)) p.1))) k.pattern_properties) member_3
 
   abbrev member_tests_2 : List (Document → Bool)
   member_tests_2 = pattern_tests ++ member_tests_3
@@ -588,17 +607,29 @@ module _ (T : List Position) (holds : ℕ → Document → Bool) (meaning : IsMe
 
   members_make : Makes T holds (member_nodes tree_of k) (member_tests)
   members_make =
-      makes-both T holds meaning (if_some (λ ws. each (λ w. node (Has w)) (once same_word ws)) k.required) member_1 required_tests member_tests_1
-      (makes-if T holds meaning (λ ws. each (λ w. node (Has w)) (once same_word ws)) (λ ws. tests_of has_test (once same_word ws)) k.required (λ ws. N.required_make T holds meaning tree_of below agree (once same_word ws)))
-      (makes-both T holds meaning (if_some (each (λ p. node (MembersOf (Named p.0) p.1))) k.properties) member_2 property_tests member_tests_2
-      (makes-if T holds meaning (each (λ p. node (MembersOf (Named p.0) p.1))) (tests_of (named_test same_word)) k.properties (N.properties_make T holds meaning tree_of below agree))
-      (makes-both T holds meaning (if_some (each (λ p. node (MembersOf (Matching (pattern_of tree_of p.0)) p.1))) k.pattern_properties) member_3 pattern_tests member_tests_3
-      (makes-if T holds meaning (each (λ p. node (MembersOf (Matching (pattern_of tree_of p.0)) p.1))) (tests_of (named_test matches)) k.pattern_properties (N.patterns_make T holds meaning tree_of below agree))
-      (makes-both T holds meaning (if_some (λ e. node (MembersOf (others_of tree_of k) e)) k.additional_properties) member_4 (one_test other_test k.additional_properties) member_tests_4
-      (makes-if T holds meaning (λ e. node (MembersOf (others_of tree_of k) e)) (λ e. other_test e ∷ []) k.additional_properties (N.others_make T holds meaning tree_of below agree k))
-      (makes-both T holds meaning (if_some (λ e. node (NamesIn e)) k.property_names) member_5 (one_test names_test k.property_names) member_tests_5
-      (makes-if T holds meaning (λ e. node (NamesIn e)) (λ e. names_test e ∷ []) k.property_names (N.names_make T holds meaning tree_of below agree))
-      ((makes-if T holds meaning (each dependency_node) (tests_of dependency_test) k.dependencies (N.dependencies_make T holds meaning tree_of below agree)))))))
+      makes-both T holds meaning (if_some (λ ws. each (λ w. node (Has w))
+      (once same_word ws)) k.required) member_1 required_tests member_tests_1
+      (makes-if T holds meaning (λ ws. each (λ w. node (Has w)) (once same_word ws)) (λ ws. tests_of has_test
+      (once same_word ws)) k.required (λ ws. N.required_make T holds meaning tree_of below agree (once same_word ws)))
+      (makes-both T holds meaning (if_some (each (λ p. node (MembersOf
+      (Named p.0) p.1))) k.properties) member_2 property_tests member_tests_2
+      (makes-if T holds meaning (each (λ p. node (MembersOf (Named p.0) p.1))) (tests_of
+      (named_test same_word)) k.properties (N.properties_make T holds meaning tree_of below agree))
+      (makes-both T holds meaning (if_some (each (λ p. node (MembersOf (Matching
+      (pattern_of tree_of p.0)) p.1))) k.pattern_properties) member_3 pattern_tests member_tests_3
+      (makes-if T holds meaning (each (λ p. node (MembersOf (Matching (pattern_of tree_of p.0)) p.1))) (tests_of
+      (named_test matches)) k.pattern_properties (N.patterns_make T holds meaning tree_of below agree))
+      (makes-both T holds meaning (if_some (λ e. node (MembersOf
+      (others_of tree_of k) e)) k.additional_properties) member_4
+      (one_test other_test k.additional_properties) member_tests_4
+      (makes-if T holds meaning (λ e. node (MembersOf (others_of tree_of k) e))
+      (λ e. other_test e ∷ []) k.additional_properties (N.others_make T holds meaning tree_of below agree k))
+      (makes-both T holds meaning (if_some (λ e. node (NamesIn e)) k.property_names) member_5
+      (one_test names_test k.property_names) member_tests_5
+      (makes-if T holds meaning (λ e. node (NamesIn e)) (λ e. names_test e ∷ []) k.property_names
+      (N.names_make T holds meaning tree_of below agree))
+      ((makes-if T holds meaning (each dependency_node) (tests_of dependency_test) k.dependencies
+      (N.dependencies_make T holds meaning tree_of below agree)))))))
 
   abbrev count_1 : Maker
   count_1 = (if_some (λ x. node (PropsMax x)) k.max_properties)
@@ -608,7 +639,8 @@ module _ (T : List Position) (holds : ℕ → Document → Bool) (meaning : IsMe
 
   counts_make : Makes T holds (count_nodes tree_of k) (count_tests)
   counts_make =
-      makes-both T holds meaning (if_some (λ x. node (PropsMin x)) k.min_properties) count_1 (one_test (λ n. at_object (λ ms. nat_le n (length ms))) k.min_properties) count_tests_1
+      makes-both T holds meaning (if_some (λ x. node (PropsMin x)) k.min_properties) count_1 (one_test
+      (λ n. at_object (λ ms. nat_le n (length ms))) k.min_properties) count_tests_1
       (makes-plain PropsMin (λ n. at_object (λ ms. nat_le n (length ms))) k.min_properties (λ x J d. refl))
       ((makes-plain PropsMax (λ n. at_object (λ ms. nat_le (length ms) n)) k.max_properties (λ x J d. refl)))
 
@@ -632,11 +664,14 @@ module _ (T : List Position) (holds : ℕ → Document → Bool) (meaning : IsMe
 
   in_places_make : Makes T holds (in_place_nodes tree_of k) (in_place_tests)
   in_places_make =
-      makes-both T holds meaning (if_some (λ x. node (All x)) k.all_of) in_place_1 (one_test (λ es J. every (here J) es) k.all_of) in_place_tests_1
+      makes-both T holds meaning (if_some (λ x. node (All x)) k.all_of) in_place_1 (one_test (λ es J. every
+      (here J) es) k.all_of) in_place_tests_1
       (makes-plain All (λ es J. every (here J) es) k.all_of (λ x J d. refl))
-      (makes-both T holds meaning (if_some (λ x. node (Any x)) k.any_of) in_place_2 (one_test (λ es J. some (here J) es) k.any_of) in_place_tests_2
+      (makes-both T holds meaning (if_some (λ x. node (Any x)) k.any_of) in_place_2 (one_test (λ es J. some
+      (here J) es) k.any_of) in_place_tests_2
       (makes-plain Any (λ es J. some (here J) es) k.any_of (λ x J d. refl))
-      (makes-both T holds meaning (if_some (λ x. node (One x)) k.one_of) in_place_3 (one_test (λ es J. exactly_one (here J) es) k.one_of) in_place_tests_3
+      (makes-both T holds meaning (if_some (λ x. node (One x)) k.one_of) in_place_3 (one_test (λ es J. exactly_one
+      (here J) es) k.one_of) in_place_tests_3
       (makes-plain One (λ es J. exactly_one (here J) es) k.one_of (λ x J d. refl))
       ((makes-plain Not (λ e J. not (here J e)) k.not (λ x J d. refl)))))
 

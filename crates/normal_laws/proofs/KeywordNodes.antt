@@ -42,7 +42,8 @@ kind_among p K.Text = or-false (p K.Text)
 kind_among p K.Array = or-false (p K.Array)
 kind_among p K.Object = or-false (p K.Object)
 
-pub types_same : (ts : List TypeName) (J : Document) → some (K.same_kind (kind_of J)) (kinds_of ts) ≡ some (has_type J) ts
+pub types_same : (ts : List TypeName) (J : Document) → some (K.same_kind (kind_of J)) (kinds_of ts) ≡ some
+    (has_type J) ts
 types_same ts J =
     sym (some-filter (λ t. some (λ n. K.same_kind t (kind_named n)) ts) (K.same_kind (kind_of J)) K.all_kinds)
     ∙ some-alike _ (λ x. K.same_kind (kind_of J) x && some (λ n. K.same_kind x (kind_named n)) ts) K.all_kinds
@@ -177,7 +178,8 @@ module _ (T : List Position) (holds : ℕ → Document → Bool) (meaning : IsMe
   members_make s e = makes-node T holds meaning (MembersOf s e) (members_test (in_set s) e) (members_asked s e)
 
   -- ---- names
-  scalar_names : (ms : Members) → are_members ms ≡ true → AllByRecursion (λ m. is_document (string m.0) ≡ true) (entries ms)
+  scalar_names : (ms : Members) → are_members ms ≡ true → AllByRecursion (λ m. is_document (string m.0) ≡ true)
+      (entries ms)
   scalar_names no_members h = tt
   scalar_names (member k d ms) h =
       let last = and_parts (every is_scalar k && is_document d && is_before k ms) (are_members ms) h in
@@ -281,9 +283,11 @@ module _ (T : List Position) (holds : ℕ → Document → Bool) (meaning : IsMe
   other_test k e =
       at_object (every_in (is_additional matches (keys k.properties) (keys k.pattern_properties)) (below e))
 
-  pub others_make : (k : Keywords) (e : ℕ) → Makes T holds (node (MembersOf (others_of tree_of k) e)) (other_test k e ∷ [])
+  pub others_make : (k : Keywords) (e : ℕ) → Makes T holds (node (MembersOf (others_of tree_of k) e))
+      (other_test k e ∷ [])
   others_make k e =
-      makes-same T holds meaning (node (MembersOf (others_of tree_of k) e)) (members_test (in_set (others_of tree_of k)) e)
+      makes-same T holds meaning (node (MembersOf (others_of tree_of k) e)) (members_test (in_set
+      (others_of tree_of k)) e)
       (other_test k e) (members_make (others_of tree_of k) e) (λ J d. same J) where
         same : (J : Document) → members_test (in_set (others_of tree_of k)) e J ≡ other_test k e J
         same (object ms) = every_in-alike (in_set (others_of tree_of k)) _ (below e) (entries ms) (other_same k)

@@ -305,7 +305,8 @@ module _ (T : List Position) (holds : ℕ → Document → Bool) (meaning : IsMe
         (λ J d. string_passes w J)
     value_makes (array ds) a =
         makes-same (value_node (array ds)) _ (same_document (array ds))
-        (makes-all T holds meaning (both (node (Types (Array ∷ []))) (array_rest ds)) (kind_test Array ∷ elements_test ds ∷ count_tests (length (elements ds)))
+        (makes-all T holds meaning (both (node (Types (Array ∷ []))) (array_rest ds))
+        (kind_test Array ∷ elements_test ds ∷ count_tests (length (elements ds)))
         (makes-both T holds meaning (node (Types (Array ∷ []))) (array_rest ds) (kind_test Array ∷ [])
         (elements_test ds ∷ count_tests (length (elements ds))) (makes-kinds Array)
         (makes-both T holds meaning (elements_made ds) (counts (length (elements ds)))
@@ -319,7 +320,8 @@ module _ (T : List Position) (holds : ℕ → Document → Bool) (meaning : IsMe
         (λ J d. array_passes ds J)
     value_makes (object ms) a =
         makes-same (value_node (object ms)) _ (same_document (object ms))
-        (makes-all T holds meaning (both (node (Types (Object ∷ []))) (object_rest ms)) (kind_test Object ∷ member_tests ms ++ others_test (names_of ms) ∷ [])
+        (makes-all T holds meaning (both (node (Types (Object ∷ []))) (object_rest ms))
+        (kind_test Object ∷ member_tests ms ++ others_test (names_of ms) ∷ [])
         (makes-both T holds meaning (node (Types (Object ∷ []))) (object_rest ms) (kind_test Object ∷ [])
         (member_tests ms ++ others_test (names_of ms) ∷ []) (makes-kinds Object)
         (makes-both T holds meaning (member_nodes ms) (no_others (names_of ms)) (member_tests ms)
@@ -339,7 +341,8 @@ module _ (T : List Position) (holds : ℕ → Document → Bool) (meaning : IsMe
         let last = and_parts (every is_scalar k && is_document d && is_before k ms) (are_members ms) a in
         let three = and_parts (every is_scalar k && is_document d) (is_before k ms) last.0 in
         let two = and_parts (every is_scalar k) (is_document d) three.0 in
-        makes-both T holds meaning (node (Has k)) (member_rest k d ms) (has_test k ∷ []) (value_test k d ∷ member_tests ms)
+        makes-both T holds meaning (node (Has k)) (member_rest k d ms) (has_test k ∷ [])
+        (value_test k d ∷ member_tests ms)
         (makes-node T holds meaning (Has k) (has_test k) (λ J h. refl))
         (makes-both T holds meaning (above (member_of k) (value_node d)) (member_nodes ms) (value_test k d ∷ [])
         (member_tests ms)
