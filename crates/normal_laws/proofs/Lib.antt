@@ -9,3 +9,4 @@ pub mod KeywordLaw
 pub mod NormalLaw
 pub mod Growth
 pub mod KeywordGrowth
+pub mod TableLaw

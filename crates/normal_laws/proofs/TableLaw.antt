@@ -1,0 +1,207 @@
+-- The core table of a schema is a table: what positions name is there, numbers have their ranges, and ranks fall.
+use Rattle.std.proofs.Common.{◌≡◌, ℕ, zero, suc, ◌+◌, ◌-◌, ◌*◌, ◌^◌, ◌<◌, ◌≤◌, ◌⊎◌, inl, inr, List, [], ◌∷◌, ◌++◌, length, map, get_or, Bool, true, false, ◌&&◌, nat_lt, nat_eq, refl, ap, sym, ◌∙◌, subst, arith, add-zero}
+use Rattle.std.proofs.Math.Seq.{get_or-append_seam}
+use Rattle.std.proofs.lemmas.Bool.{and_parts, and_from}
+use Rattle.std.proofs.lemmas.List.{get_or-map, get_or_append_left}
+use Rattle.std.specs.List.{AllByRecursion}
+use Rattle.documents.specs.Tests.{every}
+use Rattle.patterns.specs.Tree.{Tree}
+use Rattle.schemas.specs.Entry.{Form, Always, Never, Ref, Asks, Entry}
+use Rattle.schemas.specs.Schema as S
+use Rattle.schemas.specs.Schema.{form_in_range}
+use Rattle.draft06.specs.EntryValidity.{form_at}
+use Rattle.draft06_laws.specs.Ranks.{FallInPlace}
+use Rattle.positions.specs.Position.{Position, True, False, Same, All, in_place, of_parts, names_below, in_range, ranks_fall, is_table}
+use Rattle.normal_forms.specs.Nodes.{Nodes, nothing, after}
+use Rattle.normal_forms.specs.NormalForm.{form_nodes, entry_position, entry_positions, all_nodes, node_rank, entry_rank, numbered, node_ranks, table_of, ranks_of}
+use Rattle.normal_laws.proofs.Growth.{Grows, Grown, MayName, grows-nothing}
+use Rattle.normal_laws.proofs.KeywordGrowth.{keywords_grow}
+
+-- the ranks stand in the list from n on
+abbrev RanksAt : List ℕ → ℕ → List ℕ → Type 0
+RanksAt RS n [] = Unit {0}
+RanksAt RS n (y ∷ ys) = (get_or RS n 0 ≡ y) × RanksAt RS (suc n) ys
+
+one_more : (A : List ℕ) (x : ℕ) → length (A ++ x ∷ []) ≡ suc (length A)
+one_more [] x = refl
+one_more (y ∷ A) x = ap suc (one_more A x)
+
+joined_once : (A : List ℕ) (x : ℕ) (B : List ℕ) → (A ++ x ∷ []) ++ B ≡ A ++ x ∷ B
+joined_once [] x B = refl
+joined_once (y ∷ A) x B = ap (λ xs. y ∷ xs) (joined_once A x B)
+
+ranks_after : (A B : List ℕ) → RanksAt (A ++ B) (length A) B
+ranks_after A [] = tt
+ranks_after A (x ∷ B) =
+    let P : List ℕ → Type 0 = λ xs. RanksAt xs (length (A ++ x ∷ [])) B in
+    let Q : ℕ → Type 0 = λ n. RanksAt (A ++ x ∷ B) n B in
+    (get_or-append_seam A x B 0, subst Q (one_more A x) (subst P (joined_once A x B) (ranks_after (A ++ x ∷ []) B)))
+
+ranks-append : (RS : List ℕ) (n : ℕ) (xs ys : List ℕ) → RanksAt RS n (xs ++ ys)
+    → RanksAt RS n xs × RanksAt RS (n + length xs) ys
+ranks-append RS n [] ys h = (tt, subst (λ k. RanksAt RS k ys) (sym (add-zero n)) h)
+ranks-append RS n (x ∷ xs) ys h =
+    let rest = ranks-append RS (suc n) xs ys h.1 in
+    let place : suc n + length xs ≡ n + length (x ∷ xs) = omega arith in
+    ((h.0, rest.0), subst (λ k. RanksAt RS k ys) place rest.1)
+
+length-numbered : (r p : ℕ) (Ps : List Position) → length (numbered r p Ps) ≡ length Ps
+length-numbered r p [] = refl
+length-numbered r p (P ∷ Ps) = ap suc (length-numbered r (suc p) Ps)
+
+-- the rank of each node of a block
+rank_in : (RS : List ℕ) (r n : ℕ) (Ps : List Position) → RanksAt RS n (numbered r n Ps) → (q : ℕ) → n ≤ q
+    → q < n + length Ps → get_or RS q 0 ≡ node_rank r q
+rank_in RS r n [] h q a b = absurd (omega (arith, a, b))
+rank_in RS r n (P ∷ Ps) h q a b = first_or (nat_eq n q) refl (λ c. rank_in RS r (suc n) Ps h.1 q c (omega (arith, b))) where
+  first_or : (t : Bool) → nat_eq n q ≡ t → (suc n ≤ q → get_or RS q 0 ≡ node_rank r q) → get_or RS q 0 ≡ node_rank r q
+  first_or true e more =
+      let same : n ≡ q = grind (arith, e) in
+      let F : ℕ → Type 0 = λ k. get_or RS k 0 ≡ node_rank r k in subst F same h.0
+  first_or false e more = let later : suc n ≤ q = grind (arith, e, a) in more later
+
+all_tested : {A : Type 0} (P : A → Type 0) (test : A → Bool) (xs : List A) → ((x : A) → P x → test x ≡ true)
+    → AllByRecursion P xs → every test xs ≡ true
+all_tested P test [] f h = refl
+all_tested P test (x ∷ xs) f h = and_from (test x) (every test xs) (f x h.0) (all_tested P test xs f h.1)
+
+every-append : {A : Type 0} (p : A → Bool) (xs ys : List A) → every p xs ≡ true → every p ys ≡ true
+    → every p (xs ++ ys) ≡ true
+every-append p [] ys a b = b
+every-append p (x ∷ xs) ys a b =
+    let parts = and_parts (p x) (every p xs) a in
+    and_from (p x) (every p (xs ++ ys)) parts.0 (every-append p xs ys parts.1 b)
+
+fall-append : (ranks : List ℕ) (k : ℕ) (xs ys : List Position) → ranks_fall ranks k xs ≡ true
+    → ranks_fall ranks (k + length xs) ys ≡ true → ranks_fall ranks k (xs ++ ys) ≡ true
+fall-append ranks k [] ys a b =
+    let P : ℕ → Type 0 = λ i. ranks_fall ranks i ys ≡ true in subst P (add-zero k) b
+fall-append ranks k (x ∷ xs) ys a b =
+    let P : ℕ → Type 0 = λ i. ranks_fall ranks i ys ≡ true in
+    let place : k + length (x ∷ xs) ≡ suc k + length xs = omega arith in
+    let parts = and_parts (every (λ q. nat_lt (get_or ranks q 0) (get_or ranks k 0)) (in_place x))
+        (ranks_fall ranks (suc k) xs) a in
+    and_from (every (λ q. nat_lt (get_or ranks q 0) (get_or ranks k 0)) (in_place x))
+    (ranks_fall ranks (suc k) (xs ++ ys)) parts.0 (fall-append ranks (suc k) xs ys parts.1 (subst P place b))
+
+module _ (tree_of : List ℕ → Tree) (RS : List ℕ) (L first : ℕ) (some_entry : 0 < first) where
+  -- an entry whose rank lies below the nodes of an entry with the rank r
+  abbrev IsLower : ℕ → ℕ → Type 0
+  IsLower r q = (q < first) × (get_or RS q 0 < r * 2 ^ 32)
+
+  lower_first : (r q : ℕ) → IsLower r q → q < first
+  lower_first r q h = h.0
+
+  -- an entry with its nodes, which begin at n
+  record IsBlock (r n e : ℕ) (f : Form) : Type 0 where
+    own : get_or RS e 0 ≡ entry_rank r
+    nodes : RanksAt RS n (numbered r n (form_nodes tree_of f n).added)
+    later : first ≤ n
+    room : after n (form_nodes tree_of f n) ≤ L
+    few : after n (form_nodes tree_of f n) < 2 ^ 32
+    named : AllByRecursion (IsLower r) (S.in_place f)
+    parts : AllByRecursion (λ q. q < first) (S.of_parts f)
+    range : form_in_range f ≡ true
+
+  grown : (r n e : ℕ) (f : Form) → IsBlock r n e f
+      → Grown (IsLower r) first some_entry (lower_first r) n n (form_nodes tree_of f n).added
+      × AllByRecursion (MayName (IsLower r) first some_entry (lower_first r) n (after n (form_nodes tree_of f n)))
+      (form_nodes tree_of f n).named
+  grown r n e Always b = (tt, tt)
+  grown r n e Never b = (tt, tt)
+  grown r n e (Ref q) b = (tt, tt)
+  grown r n e (Asks k) b =
+      keywords_grow (IsLower r) first some_entry (lower_first r) tree_of k b.range b.named b.parts n b.later
+
+  abbrev May : ℕ → ℕ → ℕ → ℕ → Type 0
+  May r = MayName (IsLower r) first some_entry (lower_first r)
+
+  may_below : (r n p q : ℕ) → first ≤ n → n ≤ p → p < L → May r n p q → nat_lt q L ≡ true
+  may_below r n p q f l k (inl h) = let a = h.1 in grind (arith, a, k)
+  may_below r n p q f l k (inr h) = let a = h.0 in grind (arith, a, f, l, k)
+
+  part_below : (p q : ℕ) → p < L → q < p → nat_lt q L ≡ true
+  part_below p q k h = grind (arith, k, h)
+
+  nodes_named : (r n p : ℕ) (Ps : List Position) → first ≤ n → n ≤ p → p + length Ps ≤ L
+      → Grown (IsLower r) first some_entry (lower_first r) n p Ps → every (names_below L) Ps ≡ true
+  nodes_named r n p [] f l m h = refl
+  nodes_named r n p (P ∷ Ps) f l m h =
+      let k : p < L = omega (arith, m) in
+      and_from (names_below L P) (every (names_below L) Ps)
+      (and_from (every (λ q. nat_lt q L) (in_place P)) (every (λ q. nat_lt q L) (of_parts P))
+      (all_tested (May r n p) (λ q. nat_lt q L) (in_place P) (λ q a. may_below r n p q f l k a) h.0.0)
+      (all_tested (λ q. q < p) (λ q. nat_lt q L) (of_parts P) (λ q a. part_below p q k a) h.0.1))
+      (nodes_named r n (suc p) Ps f (omega (arith, l)) (omega (arith, m)) h.1)
+
+  nodes_ranged : (r n p : ℕ) (Ps : List Position) → Grown (IsLower r) first some_entry (lower_first r) n p Ps
+      → every in_range Ps ≡ true
+  nodes_ranged r n p [] h = refl
+  nodes_ranged r n p (P ∷ Ps) h = and_from (in_range P) (every in_range Ps) h.0.2 (nodes_ranged r n (suc p) Ps h.1)
+
+  -- a node lies above what it names in place
+  node_above : (r n m p q : ℕ) → ((i : ℕ) → n ≤ i → i < m → get_or RS i 0 ≡ node_rank r i) → n ≤ p → p < m
+      → May r n p q → nat_lt (get_or RS q 0) (get_or RS p 0) ≡ true
+  node_above r n m p q known l k (inl h) =
+      let a = known q h.0 (omega (arith, h.1, k)) in let b = known p l k in let c = h.1 in
+      rw (a, b) (grind (arith, c))
+  node_above r n m p q known l k (inr h) =
+      let b = known p l k in let c = h.1 in rw b (grind (arith, c))
+
+  nodes_fall : (r n m p : ℕ) (Ps : List Position) → ((i : ℕ) → n ≤ i → i < m → get_or RS i 0 ≡ node_rank r i)
+      → n ≤ p → p + length Ps ≤ m → Grown (IsLower r) first some_entry (lower_first r) n p Ps
+      → ranks_fall RS p Ps ≡ true
+  nodes_fall r n m p [] known l k h = refl
+  nodes_fall r n m p (P ∷ Ps) known l k h =
+      let inside : p < m = omega (arith, k) in
+      and_from (every (λ q. nat_lt (get_or RS q 0) (get_or RS p 0)) (in_place P)) (ranks_fall RS (suc p) Ps)
+      (all_tested (May r n p) (λ q. nat_lt (get_or RS q 0) (get_or RS p 0)) (in_place P)
+      (λ q a. node_above r n m p q known l inside a) h.0.0)
+      (nodes_fall r n m (suc p) Ps known (omega (arith, l)) (omega (arith, k)) h.1)
+
+  -- an entry lies above its nodes, and above the entries that it names in place
+  entry_above : (r n m e q : ℕ) → get_or RS e 0 ≡ entry_rank r
+      → ((i : ℕ) → n ≤ i → i < m → get_or RS i 0 ≡ node_rank r i) → m < 2 ^ 32 → May r n m q
+      → nat_lt (get_or RS q 0) (get_or RS e 0) ≡ true
+  entry_above r n m e q own known few (inl h) =
+      let a = known q h.0 h.1 in let c = h.1 in rw (a, own) (grind (arith, c, few))
+  entry_above r n m e q own known few (inr h) = let c = h.1 in rw own (grind (arith, c))
+
+  known_ranks : (r n e : ℕ) (f : Form) → IsBlock r n e f → (i : ℕ) → n ≤ i → i < after n (form_nodes tree_of f n)
+      → get_or RS i 0 ≡ node_rank r i
+  known_ranks r n e f b i l k = rank_in RS r n (form_nodes tree_of f n).added b.nodes i l k
+
+  may_in : (r n m q : ℕ) → IsLower r q → May r n m q
+  may_in r n m q h = inr h
+
+  entry_falls : (r n e : ℕ) (f : Form) → IsBlock r n e f
+      → every (λ q. nat_lt (get_or RS q 0) (get_or RS e 0)) (in_place (entry_position tree_of f (form_nodes tree_of f n)))
+      ≡ true
+  entry_falls r n e Always b = refl
+  entry_falls r n e Never b = refl
+  entry_falls r n e (Ref q) b =
+      and_from (nat_lt (get_or RS q 0) (get_or RS e 0)) true
+      (entry_above r n n e q b.own (λ i l k. absurd (omega (arith, l, k))) (let a = b.few in omega (arith, a))
+      (inr b.named.0)) refl
+  entry_falls r n e (Asks k) b =
+      all_tested (May r n (after n (form_nodes tree_of (Asks k) n)))
+      (λ q. nat_lt (get_or RS q 0) (get_or RS e 0)) (form_nodes tree_of (Asks k) n).named
+      (λ q a. entry_above r n (after n (form_nodes tree_of (Asks k) n)) e q b.own (known_ranks r n e (Asks k) b) b.few a)
+      (grown r n e (Asks k) b).1
+
+  entry_named : (r n e : ℕ) (f : Form) → IsBlock r n e f
+      → names_below L (entry_position tree_of f (form_nodes tree_of f n)) ≡ true
+  entry_named r n e Always b = refl
+  entry_named r n e Never b = refl
+  entry_named r n e (Ref q) b =
+      let a = b.named.0.0 in let c = b.later in let d = b.room in
+      let low : nat_lt q L ≡ true = grind (arith, a, c, d) in rw low refl
+  entry_named r n e (Asks k) b =
+      let named = all_tested (May r n (after n (form_nodes tree_of (Asks k) n))) (λ q. nat_lt q L)
+          (form_nodes tree_of (Asks k) n).named
+          (λ q a. name_below r n (after n (form_nodes tree_of (Asks k) n)) q b.later b.room a)
+          (grown r n e (Asks k) b).1 in
+      and_from (every (λ q. nat_lt q L) (form_nodes tree_of (Asks k) n).named) true named refl where
+    name_below : (r n m q : ℕ) → first ≤ n → m ≤ L → May r n m q → nat_lt q L ≡ true
+    name_below r n m q f l (inl h) = let a = h.1 in grind (arith, a, l)
+    name_below r n m q f l (inr h) = let a = h.0 in let c = b.room in grind (arith, a, f, c)
