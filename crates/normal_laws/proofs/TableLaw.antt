@@ -205,3 +205,125 @@ module _ (tree_of : List ℕ → Tree) (RS : List ℕ) (L first : ℕ) (some_ent
     name_below : (r n m q : ℕ) → first ≤ n → m ≤ L → May r n m q → nat_lt q L ≡ true
     name_below r n m q f l (inl h) = let a = h.1 in grind (arith, a, l)
     name_below r n m q f l (inr h) = let a = h.0 in let c = b.room in grind (arith, a, f, c)
+
+  -- the blocks of some entries, one after another
+  IsBlocks : (ℕ → ℕ) → ℕ → ℕ → List Entry → Type 0
+  IsBlocks rk n e [] = Unit {0}
+  IsBlocks rk n e (f ∷ fs) = IsBlock (rk e) n e f.form × IsBlocks rk (after n (form_nodes tree_of f.form n)) (suc e) fs
+
+  heads_named : (rk : ℕ → ℕ) (n e : ℕ) (fs : List Entry) → IsBlocks rk n e fs
+      → every (names_below L) (entry_positions tree_of n fs) ≡ true
+  unfolding IsBlocks
+  heads_named rk n e [] b = refl
+  heads_named rk n e (f ∷ fs) b =
+      and_from (names_below L (entry_position tree_of f.form (form_nodes tree_of f.form n)))
+      (every (names_below L) (entry_positions tree_of (after n (form_nodes tree_of f.form n)) fs))
+      (entry_named (rk e) n e f.form b.0) (heads_named rk (after n (form_nodes tree_of f.form n)) (suc e) fs b.1)
+
+  entry_ranged : (f : Form) (a : Nodes) → in_range (entry_position tree_of f a) ≡ true
+  entry_ranged Always a = refl
+  entry_ranged Never a = refl
+  entry_ranged (Ref q) a = refl
+  entry_ranged (Asks k) a = refl
+
+  heads_ranged : (n : ℕ) (fs : List Entry) → every in_range (entry_positions tree_of n fs) ≡ true
+  heads_ranged n [] = refl
+  heads_ranged n (f ∷ fs) =
+      and_from (in_range (entry_position tree_of f.form (form_nodes tree_of f.form n)))
+      (every in_range (entry_positions tree_of (after n (form_nodes tree_of f.form n)) fs))
+      (entry_ranged f.form (form_nodes tree_of f.form n)) (heads_ranged (after n (form_nodes tree_of f.form n)) fs)
+
+  heads_fall : (rk : ℕ → ℕ) (n e : ℕ) (fs : List Entry) → IsBlocks rk n e fs
+      → ranks_fall RS e (entry_positions tree_of n fs) ≡ true
+  unfolding IsBlocks
+  heads_fall rk n e [] b = refl
+  heads_fall rk n e (f ∷ fs) b =
+      and_from (every (λ q. nat_lt (get_or RS q 0) (get_or RS e 0))
+      (in_place (entry_position tree_of f.form (form_nodes tree_of f.form n))))
+      (ranks_fall RS (suc e) (entry_positions tree_of (after n (form_nodes tree_of f.form n)) fs))
+      (entry_falls (rk e) n e f.form b.0) (heads_fall rk (after n (form_nodes tree_of f.form n)) (suc e) fs b.1)
+
+  blocks_named : (rk : ℕ → ℕ) (n e : ℕ) (fs : List Entry) → IsBlocks rk n e fs
+      → every (names_below L) (all_nodes tree_of n fs) ≡ true
+  unfolding IsBlocks
+  blocks_named rk n e [] b = refl
+  blocks_named rk n e (f ∷ fs) b =
+      every-append (names_below L) (form_nodes tree_of f.form n).added
+      (all_nodes tree_of (after n (form_nodes tree_of f.form n)) fs)
+      (nodes_named (rk e) n n (form_nodes tree_of f.form n).added b.0.later (omega arith) b.0.room
+      (grown (rk e) n e f.form b.0).0)
+      (blocks_named rk (after n (form_nodes tree_of f.form n)) (suc e) fs b.1)
+
+  blocks_ranged : (rk : ℕ → ℕ) (n e : ℕ) (fs : List Entry) → IsBlocks rk n e fs
+      → every in_range (all_nodes tree_of n fs) ≡ true
+  unfolding IsBlocks
+  blocks_ranged rk n e [] b = refl
+  blocks_ranged rk n e (f ∷ fs) b =
+      every-append in_range (form_nodes tree_of f.form n).added
+      (all_nodes tree_of (after n (form_nodes tree_of f.form n)) fs)
+      (nodes_ranged (rk e) n n (form_nodes tree_of f.form n).added (grown (rk e) n e f.form b.0).0)
+      (blocks_ranged rk (after n (form_nodes tree_of f.form n)) (suc e) fs b.1)
+
+  blocks_fall : (rk : ℕ → ℕ) (n e : ℕ) (fs : List Entry) → IsBlocks rk n e fs
+      → ranks_fall RS n (all_nodes tree_of n fs) ≡ true
+  unfolding IsBlocks
+  blocks_fall rk n e [] b = refl
+  blocks_fall rk n e (f ∷ fs) b =
+      fall-append RS n (form_nodes tree_of f.form n).added (all_nodes tree_of (after n (form_nodes tree_of f.form n)) fs)
+      (nodes_fall (rk e) n (after n (form_nodes tree_of f.form n)) n (form_nodes tree_of f.form n).added
+      (known_ranks (rk e) n e f.form b.0) (omega arith) (omega arith) (grown (rk e) n e f.form b.0).0)
+      (blocks_fall rk (after n (form_nodes tree_of f.form n)) (suc e) fs b.1)
+
+  -- what is known of each entry of the schema
+  record IsKnown (rk : ℕ → ℕ) (es : List Entry) (e : ℕ) : Type 0 where
+    own : get_or RS e 0 ≡ entry_rank (rk e)
+    named : AllByRecursion (IsLower (rk e)) (S.in_place (form_at es e))
+    parts : AllByRecursion (λ q. q < first) (S.of_parts (form_at es e))
+    range : form_in_range (form_at es e) ≡ true
+
+  block_of : (rk : ℕ → ℕ) (es : List Entry) (n e r : ℕ) (f : Form) → IsKnown rk es e → f ≡ form_at es e → r ≡ rk e
+      → RanksAt RS n (numbered r n (form_nodes tree_of f n).added) → first ≤ n → after n (form_nodes tree_of f n) ≤ L
+      → L < 2 ^ 32 → IsBlock (rk e) n e f
+  block_of rk es n e r f known same rank at later room few =
+      let N : Form → Type 0 = λ g. AllByRecursion (IsLower (rk e)) (S.in_place g) in
+      let P : Form → Type 0 = λ g. AllByRecursion (λ q. q < first) (S.of_parts g) in
+      let R : Form → Type 0 = λ g. form_in_range g ≡ true in
+      let K : ℕ → Type 0 = λ k. RanksAt RS n (numbered k n (form_nodes tree_of f n).added) in
+      record {
+        own = known.own;
+        nodes = subst K rank at;
+        later = later;
+        room = room;
+        few = omega (arith, room, few);
+        named = subst N (sym same) known.named;
+        parts = subst P (sym same) known.parts;
+        range = subst R (sym same) known.range;
+      }
+
+  length-joined : (xs ys : List Position) → length (xs ++ ys) ≡ length xs + length ys
+  length-joined [] ys = omega arith
+  length-joined (x ∷ xs) ys = let rest = length-joined xs ys in omega (arith, rest)
+
+  blocks_of : (rk : ℕ → ℕ) (es : List Entry) (n e : ℕ) (fs : List Entry) (rs : List ℕ)
+      → ((i : ℕ) → i < length fs → IsKnown rk es (e + i))
+      → ((i : ℕ) → form_at fs i ≡ form_at es (e + i)) → ((i : ℕ) → i < length fs → get_or rs i 0 ≡ rk (e + i))
+      → length rs ≡ length fs → RanksAt RS n (node_ranks tree_of n fs rs) → first ≤ n
+      → n + length (all_nodes tree_of n fs) ≤ L → L < 2 ^ 32 → IsBlocks rk n e fs
+  unfolding IsBlocks
+  blocks_of rk es n e [] rs known forms ranks same at later room few = tt
+  blocks_of rk es n e (f ∷ fs) [] known forms ranks same at later room few = absurd (omega (arith, same))
+  blocks_of rk es n e (f ∷ fs) (r ∷ rs) known forms ranks same at later room few =
+      let a = form_nodes tree_of f.form n in
+      let here : e + 0 ≡ e = omega arith in
+      let more = length-joined a.added (all_nodes tree_of (after n a) fs) in
+      let split = ranks-append RS n (numbered r n a.added) (node_ranks tree_of (after n a) fs rs) at in
+      let place : n + length (numbered r n a.added) ≡ after n a = ap (λ k. n + k) (length-numbered r n a.added) in
+      let N : ℕ → Type 0 = λ k. RanksAt RS k (node_ranks tree_of (after n a) fs rs) in
+      let K : ℕ → Type 0 = IsKnown rk es in
+      (block_of rk es n e r f.form (subst K here (known 0 (omega arith))) (forms 0 ∙ ap (form_at es) here)
+      (ranks 0 (omega arith) ∙ ap rk here) split.0 later (omega (arith, room, more)) few,
+      blocks_of rk es (after n a) (suc e) fs rs
+      (λ i l. let next : e + suc i ≡ suc e + i = omega arith in subst K next (known (suc i) (omega arith)))
+      (λ i. let next : e + suc i ≡ suc e + i = omega arith in forms (suc i) ∙ ap (form_at es) next)
+      (λ i l. let next : e + suc i ≡ suc e + i = omega arith in ranks (suc i) (omega arith) ∙ ap rk next)
+      (omega (arith, same)) (subst N place split.1) (omega (arith, later)) (omega (arith, room, more)) few)
