@@ -96,7 +96,7 @@ values_there k h =
     let h20 = (and_parts _ (meets is_multiple k.multiple_of) h19).0 in
     and_parts (meets (every is_document) k.enumeration) (meets is_document k.constant) h20
 
-in_range-at : (es : List Entry) (e : ℕ) → every (λ f. form_in_range f.form) es ≡ true → form_in_range
+pub in_range-at : (es : List Entry) (e : ℕ) → every (λ f. form_in_range f.form) es ≡ true → form_in_range
     (form_at es e) ≡ true
 in_range-at [] e h = refl
 in_range-at (f ∷ fs) zero h = (and_parts (form_in_range f.form) (every (λ f. form_in_range f.form) fs) h).0

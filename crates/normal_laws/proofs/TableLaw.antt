@@ -1,5 +1,5 @@
 -- The core table of a schema is a table: what positions name is there, numbers have their ranges, and ranks fall.
-use Rattle.std.proofs.Common.{◌≡◌, ℕ, zero, suc, ◌+◌, ◌-◌, ◌*◌, ◌^◌, ◌<◌, ◌≤◌, ◌⊎◌, inl, inr, List, [], ◌∷◌, ◌++◌, length, map, get_or, Bool, true, false, ◌&&◌, nat_lt, nat_eq, refl, ap, sym, ◌∙◌, subst, arith, add-zero}
+use Rattle.std.proofs.Common.{◌≡◌, ℕ, zero, suc, ◌+◌, ◌-◌, ◌*◌, ◌^◌, ◌<◌, ◌≤◌, ◌⊎◌, inl, inr, List, [], ◌∷◌, ◌++◌, length, map, get_or, Bool, true, false, ◌&&◌, nat_lt, nat_le, nat_eq, refl, ap, sym, ◌∙◌, subst, arith, add-zero}
 use Rattle.std.proofs.Math.Seq.{get_or-append_seam}
 use Rattle.std.proofs.lemmas.Bool.{and_parts, and_from}
 use Rattle.std.proofs.lemmas.List.{get_or-map, get_or_append_left}
@@ -11,6 +11,14 @@ use Rattle.schemas.specs.Schema as S
 use Rattle.schemas.specs.Schema.{form_in_range}
 use Rattle.draft06.specs.EntryValidity.{form_at}
 use Rattle.draft06_laws.specs.Ranks.{FallInPlace}
+use Rattle.draft06_laws.proofs.RankLaws.{fall_in_place}
+use Rattle.draft06_laws.proofs.EntryLaws.{ranked, parts_below, IsEntry, named_in_place}
+use Rattle.levels.specs.Within.{RankedWithin}
+use Rattle.schemas.specs.Guarded.{edges, are_ranks}
+use Rattle.schemas.specs.Weight.{most_weight}
+use Rattle.schema_laws.proofs.Ranks.{are_ranks-length}
+use Rattle.position_laws.proofs.Lists.{all-both}
+use Rattle.normal_laws.proofs.NormalLaw.{in_range-at}
 use Rattle.positions.specs.Position.{Position, True, False, Same, All, in_place, of_parts, names_below, in_range, ranks_fall, is_table}
 use Rattle.normal_forms.specs.Nodes.{Nodes, nothing, after}
 use Rattle.normal_forms.specs.NormalForm.{form_nodes, entry_position, entry_positions, all_nodes, node_rank, entry_rank, numbered, node_ranks, table_of, ranks_of}
@@ -327,3 +335,159 @@ module _ (tree_of : List ℕ → Tree) (RS : List ℕ) (L first : ℕ) (some_ent
       (λ i. let next : e + suc i ≡ suc e + i = omega arith in forms (suc i) ∙ ap (form_at es) next)
       (λ i l. let next : e + suc i ≡ suc e + i = omega arith in ranks (suc i) (omega arith) ∙ ap rk next)
       (omega (arith, same)) (subst N place split.1) (omega (arith, later)) (omega (arith, room, more)) few)
+
+length-all : {A B : Type 0} (f : A → B) (xs : List A) → length (map f xs) ≡ length xs
+length-all f [] = refl
+length-all f (x ∷ xs) = ap suc (length-all f xs)
+
+length-both : (xs ys : List ℕ) → length (xs ++ ys) ≡ length xs + length ys
+length-both [] ys = omega arith
+length-both (x ∷ xs) ys = let rest = length-both xs ys in omega (arith, rest)
+
+module _ (tree_of : List ℕ → Tree) where
+  length-node_ranks : (n : ℕ) (fs : List Entry) (rs : List ℕ) → length rs ≡ length fs
+      → length (node_ranks tree_of n fs rs) ≡ length (all_nodes tree_of n fs)
+  length-node_ranks n [] rs h = refl
+  length-node_ranks n (f ∷ fs) [] h = absurd (omega (arith, h))
+  length-node_ranks n (f ∷ fs) (r ∷ rs) h =
+      let a = form_nodes tree_of f.form n in
+      let one = length-both (numbered r n a.added) (node_ranks tree_of (after n a) fs rs) in
+      let two = length-joined tree_of [] 0 1 (omega arith) a.added (all_nodes tree_of (after n a) fs) in
+      let three = length-numbered r n a.added in
+      let rest = length-node_ranks (after n a) fs rs (omega (arith, h)) in omega (arith, one, two, three, rest)
+
+  length-heads : (n : ℕ) (fs : List Entry) → length (entry_positions tree_of n fs) ≡ length fs
+  length-heads n [] = refl
+  length-heads n (f ∷ fs) = ap suc (length-heads (after n (form_nodes tree_of f.form n)) fs)
+
+  module _ (es : List Entry) (table : S.is_table es ≡ true) (ranks : List ℕ) (are : are_ranks (edges es) ranks ≡ true)
+      (few : length (table_of tree_of es) < 2 ^ 32) where
+    abbrev rk : ℕ → ℕ
+    rk e = get_or ranks e 0
+
+    abbrev L : ℕ
+    L = length (table_of tree_of es)
+
+    as_many : length ranks ≡ length es
+    as_many = are_ranks-length (edges es) ranks are ∙ length-all (λ f. S.in_place f.form) es
+
+    falls : FallInPlace es rk
+    falls = fall_in_place es ranks are
+
+    sized : (nat_lt 0 (length es) && every (λ e. S.names_below (length es) e.form) es
+        && every (λ e. form_in_range e.form) es) ≡ true
+    sized = (and_parts _ (nat_le (S.total_size es) most_weight) table).0
+
+    ranged : every (λ e. form_in_range e.form) es ≡ true
+    ranged =
+        (and_parts (nat_lt 0 (length es) && every (λ e. S.names_below (length es) e.form) es)
+        (every (λ e. form_in_range e.form) es) sized).1
+
+    some_entry : 0 < length es
+    some_entry =
+        let two = (and_parts (nat_lt 0 (length es) && every (λ e. S.names_below (length es) e.form) es)
+            (every (λ e. form_in_range e.form) es) sized).0 in
+        let one = (and_parts (nat_lt 0 (length es)) (every (λ e. S.names_below (length es) e.form) es) two).0 in
+        grind (arith, one)
+
+    within : RankedWithin (IsEntry es) (named_in_place es) (length es) rk
+    within = ranked (λ t w. true) es table rk falls
+
+    own_rank : (e : ℕ) → e < length es → get_or (ranks_of tree_of es ranks) e 0 ≡ entry_rank (rk e)
+    unfolding ranks_of
+    own_rank e l =
+        let as_ranks = length-all entry_rank ranks in
+        let inside : e < length (map entry_rank ranks) = omega (arith, l, as_many, as_ranks) in
+        get_or_append_left (map entry_rank ranks) (node_ranks tree_of (length es) es ranks) 0 e inside
+        ∙ get_or-map entry_rank ranks e 0 0 (omega (arith, l, as_many))
+
+    lower : (e q : ℕ) → e < length es → q < length es → rk q < rk e
+        → (q < length es) × (get_or (ranks_of tree_of es ranks) q 0 < rk e * 2 ^ 32)
+    lower e q l m h =
+        let P : ℕ → Type 0 = λ x. x < rk e * 2 ^ 32 in
+        let less : entry_rank (rk q) < rk e * 2 ^ 32 = grind (arith, h) in
+        (m, subst P (sym (own_rank q m)) less)
+
+    known : (e : ℕ) → e < length es
+        → IsKnown tree_of (ranks_of tree_of es ranks) L (length es) some_entry rk es e
+    known e l = record {
+      own = own_rank e l;
+      named = all-both _ _ _ (S.in_place (form_at es e)) (λ q r m. lower e q l m r) (falls.falls e l)
+          (within.closed e l);
+      parts = parts_below (λ t w. true) es table e;
+      range = in_range-at es e ranged;
+    }
+
+    nodes_ranked : RanksAt (ranks_of tree_of es ranks) (length es) (node_ranks tree_of (length es) es ranks)
+    unfolding ranks_of
+    nodes_ranked =
+        let P : ℕ → Type 0 =
+            λ n. RanksAt (map entry_rank ranks ++ node_ranks tree_of (length es) es ranks) n
+                (node_ranks tree_of (length es) es ranks) in
+        subst P (length-all entry_rank ranks ∙ as_many)
+        (ranks_after (map entry_rank ranks) (node_ranks tree_of (length es) es ranks))
+
+    length_split : L ≡ length es + length (all_nodes tree_of (length es) es)
+    unfolding table_of
+    length_split =
+        length-joined tree_of [] 0 1 (omega arith) (entry_positions tree_of (length es) es)
+        (all_nodes tree_of (length es) es)
+        ∙ ap (λ n. n + length (all_nodes tree_of (length es) es)) (length-heads (length es) es)
+
+    blocks : IsBlocks tree_of (ranks_of tree_of es ranks) L (length es) some_entry rk (length es) 0 es
+    blocks =
+        blocks_of tree_of (ranks_of tree_of es ranks) L (length es) some_entry rk es (length es) 0 es ranks
+        (λ i l. let same : 0 + i ≡ i = omega arith in
+            let K : ℕ → Type 0 = IsKnown tree_of (ranks_of tree_of es ranks) L (length es) some_entry rk es in
+            subst K (sym same) (known i l))
+        (λ i. let same : 0 + i ≡ i = omega arith in ap (form_at es) (sym same))
+        (λ i l. let same : 0 + i ≡ i = omega arith in ap rk (sym same))
+        as_many nodes_ranked (omega arith) (let a = length_split in omega (arith, a)) few
+
+    length_same : nat_eq L (length (ranks_of tree_of es ranks)) ≡ true
+    unfolding ranks_of
+    length_same =
+        let a = length_split in
+        let b = length-both (map entry_rank ranks) (node_ranks tree_of (length es) es ranks) in
+        let c = length-all entry_rank ranks in
+        let d = length-node_ranks (length es) es ranks as_many in
+        let e = as_many in grind (arith, a, b, c, d, e)
+
+    abbrev heads : List Position
+    heads = entry_positions tree_of (length es) es
+
+    abbrev rest : List Position
+    rest = all_nodes tree_of (length es) es
+
+    abbrev RS : List ℕ
+    RS = ranks_of tree_of es ranks
+
+    all_named : every (names_below L) (table_of tree_of es) ≡ true
+    unfolding table_of
+    all_named =
+        every-append (names_below L) heads rest
+        (heads_named tree_of RS L (length es) some_entry rk (length es) 0 es blocks)
+        (blocks_named tree_of RS L (length es) some_entry rk (length es) 0 es blocks)
+
+    all_ranged : every in_range (table_of tree_of es) ≡ true
+    unfolding table_of
+    all_ranged =
+        every-append in_range heads rest
+        (heads_ranged tree_of RS L (length es) some_entry (length es) es)
+        (blocks_ranged tree_of RS L (length es) some_entry rk (length es) 0 es blocks)
+
+    all_fall : ranks_fall RS 0 (table_of tree_of es) ≡ true
+    unfolding table_of
+    all_fall =
+        let P : ℕ → Type 0 = λ k. ranks_fall RS k rest ≡ true in
+        let place : length es ≡ 0 + length heads = let a = length-heads (length es) es in omega (arith, a) in
+        fall-append RS 0 heads rest (heads_fall tree_of RS L (length es) some_entry rk (length es) 0 es blocks)
+        (subst P place (blocks_fall tree_of RS L (length es) some_entry rk (length es) 0 es blocks))
+
+    -- the core table of a schema is a table with these ranks
+    pub is_table-normal : is_table (table_of tree_of es) (ranks_of tree_of es ranks) ≡ true
+    is_table-normal =
+        and_from _ (ranks_fall RS 0 (table_of tree_of es))
+        (and_from _ (every in_range (table_of tree_of es))
+        (and_from (nat_eq L (length RS)) (every (names_below L) (table_of tree_of es)) length_same all_named) all_ranged)
+        all_fall
