@@ -10,3 +10,4 @@ pub mod NormalLaw
 pub mod Growth
 pub mod KeywordGrowth
 pub mod TableLaw
+pub mod Meaning

@@ -1,5 +1,5 @@
 -- The core table of a schema is a table: what positions name is there, numbers have their ranges, and ranks fall.
-use Rattle.std.proofs.Common.{◌≡◌, ℕ, zero, suc, ◌+◌, ◌-◌, ◌*◌, ◌^◌, ◌<◌, ◌≤◌, ◌⊎◌, inl, inr, List, [], ◌∷◌, ◌++◌, length, map, get_or, Bool, true, false, ◌&&◌, nat_lt, nat_le, nat_eq, refl, ap, sym, ◌∙◌, subst, arith, add-zero}
+use Rattle.std.proofs.Common.{◌≡◌, ℕ, suc, ◌+◌, ◌*◌, ◌^◌, ◌<◌, ◌≤◌, inl, inr, List, [], ◌∷◌, ◌++◌, length, map, get_or, Bool, true, false, ◌&&◌, nat_lt, nat_le, nat_eq, refl, ap, sym, ◌∙◌, subst, arith, add-zero}
 use Rattle.std.proofs.Math.Seq.{get_or-append_seam}
 use Rattle.std.proofs.lemmas.Bool.{and_parts, and_from}
 use Rattle.std.proofs.lemmas.List.{get_or-map, get_or_append_left}
@@ -19,10 +19,10 @@ use Rattle.schemas.specs.Weight.{most_weight}
 use Rattle.schema_laws.proofs.Ranks.{are_ranks-length}
 use Rattle.position_laws.proofs.Lists.{all-both}
 use Rattle.normal_laws.proofs.NormalLaw.{in_range-at}
-use Rattle.positions.specs.Position.{Position, True, False, Same, All, in_place, of_parts, names_below, in_range, ranks_fall, is_table}
-use Rattle.normal_forms.specs.Nodes.{Nodes, nothing, after}
+use Rattle.positions.specs.Position.{Position, in_place, of_parts, names_below, in_range, ranks_fall, is_table}
+use Rattle.normal_forms.specs.Nodes.{Nodes, after}
 use Rattle.normal_forms.specs.NormalForm.{form_nodes, entry_position, entry_positions, all_nodes, node_rank, entry_rank, numbered, node_ranks, table_of, ranks_of}
-use Rattle.normal_laws.proofs.Growth.{Grows, Grown, MayName, grows-nothing}
+use Rattle.normal_laws.proofs.Growth.{Grown, MayName}
 use Rattle.normal_laws.proofs.KeywordGrowth.{keywords_grow}
 
 -- the ranks stand in the list from n on
@@ -88,7 +88,7 @@ fall-append ranks k (x ∷ xs) ys a b =
     let P : ℕ → Type 0 = λ i. ranks_fall ranks i ys ≡ true in
     let place : k + length (x ∷ xs) ≡ suc k + length xs = omega arith in
     let parts = and_parts (every (λ q. nat_lt (get_or ranks q 0) (get_or ranks k 0)) (in_place x))
-        (ranks_fall ranks (suc k) xs) a in
+    (ranks_fall ranks (suc k) xs) a in
     and_from (every (λ q. nat_lt (get_or ranks q 0) (get_or ranks k 0)) (in_place x))
     (ranks_fall ranks (suc k) (xs ++ ys)) parts.0 (fall-append ranks (suc k) xs ys parts.1 (subst P place b))
 
@@ -206,13 +206,13 @@ module _ (tree_of : List ℕ → Tree) (RS : List ℕ) (L first : ℕ) (some_ent
       let low : nat_lt q L ≡ true = grind (arith, a, c, d) in rw low refl
   entry_named r n e (Asks k) b =
       let named = all_tested (May r n (after n (form_nodes tree_of (Asks k) n))) (λ q. nat_lt q L)
-          (form_nodes tree_of (Asks k) n).named
-          (λ q a. name_below r n (after n (form_nodes tree_of (Asks k) n)) q b.later b.room a)
-          (grown r n e (Asks k) b).1 in
+      (form_nodes tree_of (Asks k) n).named
+      (λ q a. name_below r n (after n (form_nodes tree_of (Asks k) n)) q b.later b.room a)
+      (grown r n e (Asks k) b).1 in
       and_from (every (λ q. nat_lt q L) (form_nodes tree_of (Asks k) n).named) true named refl where
-    name_below : (r n m q : ℕ) → first ≤ n → m ≤ L → May r n m q → nat_lt q L ≡ true
-    name_below r n m q f l (inl h) = let a = h.1 in grind (arith, a, l)
-    name_below r n m q f l (inr h) = let a = h.0 in let c = b.room in grind (arith, a, f, c)
+        name_below : (r n m q : ℕ) → first ≤ n → m ≤ L → May r n m q → nat_lt q L ≡ true
+        name_below r n m q f l (inl h) = let a = h.1 in grind (arith, a, l)
+        name_below r n m q f l (inr h) = let a = h.0 in let c = b.room in grind (arith, a, f, c)
 
   -- the blocks of some entries, one after another
   IsBlocks : (ℕ → ℕ) → ℕ → ℕ → List Entry → Type 0
@@ -327,14 +327,15 @@ module _ (tree_of : List ℕ → Tree) (RS : List ℕ) (L first : ℕ) (some_ent
       let split = ranks-append RS n (numbered r n a.added) (node_ranks tree_of (after n a) fs rs) at in
       let place : n + length (numbered r n a.added) ≡ after n a = ap (λ k. n + k) (length-numbered r n a.added) in
       let N : ℕ → Type 0 = λ k. RanksAt RS k (node_ranks tree_of (after n a) fs rs) in
-      let K : ℕ → Type 0 = IsKnown rk es in
-      (block_of rk es n e r f.form (subst K here (known 0 (omega arith))) (forms 0 ∙ ap (form_at es) here)
-      (ranks 0 (omega arith) ∙ ap rk here) split.0 later (omega (arith, room, more)) few,
-      blocks_of rk es (after n a) (suc e) fs rs
-      (λ i l. let next : e + suc i ≡ suc e + i = omega arith in subst K next (known (suc i) (omega arith)))
-      (λ i. let next : e + suc i ≡ suc e + i = omega arith in forms (suc i) ∙ ap (form_at es) next)
-      (λ i l. let next : e + suc i ≡ suc e + i = omega arith in ranks (suc i) (omega arith) ∙ ap rk next)
-      (omega (arith, same)) (subst N place split.1) (omega (arith, later)) (omega (arith, room, more)) few)
+      let K : ℕ → Type 0 = IsKnown rk es in (
+        block_of rk es n e r f.form (subst K here (known 0 (omega arith))) (forms 0 ∙ ap (form_at es) here)
+            (ranks 0 (omega arith) ∙ ap rk here) split.0 later (omega (arith, room, more)) few,
+        blocks_of rk es (after n a) (suc e) fs rs
+            (λ i l. let next : e + suc i ≡ suc e + i = omega arith in subst K next (known (suc i) (omega arith)))
+            (λ i. let next : e + suc i ≡ suc e + i = omega arith in forms (suc i) ∙ ap (form_at es) next)
+            (λ i l. let next : e + suc i ≡ suc e + i = omega arith in ranks (suc i) (omega arith) ∙ ap rk next)
+            (omega (arith, same)) (subst N place split.1) (omega (arith, later)) (omega (arith, room, more)) few,
+      )
 
 length-all : {A B : Type 0} (f : A → B) (xs : List A) → length (map f xs) ≡ length xs
 length-all f [] = refl
@@ -386,7 +387,7 @@ module _ (tree_of : List ℕ → Tree) where
     some_entry : 0 < length es
     some_entry =
         let two = (and_parts (nat_lt 0 (length es) && every (λ e. S.names_below (length es) e.form) es)
-            (every (λ e. form_in_range e.form) es) sized).0 in
+        (every (λ e. form_in_range e.form) es) sized).0 in
         let one = (and_parts (nat_lt 0 (length es)) (every (λ e. S.names_below (length es) e.form) es) two).0 in
         grind (arith, one)
 
@@ -422,8 +423,8 @@ module _ (tree_of : List ℕ → Tree) where
     unfolding ranks_of
     nodes_ranked =
         let P : ℕ → Type 0 =
-            λ n. RanksAt (map entry_rank ranks ++ node_ranks tree_of (length es) es ranks) n
-                (node_ranks tree_of (length es) es ranks) in
+        λ n. RanksAt (map entry_rank ranks ++ node_ranks tree_of (length es) es ranks) n
+        (node_ranks tree_of (length es) es ranks) in
         subst P (length-all entry_rank ranks ∙ as_many)
         (ranks_after (map entry_rank ranks) (node_ranks tree_of (length es) es ranks))
 
@@ -438,8 +439,8 @@ module _ (tree_of : List ℕ → Tree) where
     blocks =
         blocks_of tree_of (ranks_of tree_of es ranks) L (length es) some_entry rk es (length es) 0 es ranks
         (λ i l. let same : 0 + i ≡ i = omega arith in
-            let K : ℕ → Type 0 = IsKnown tree_of (ranks_of tree_of es ranks) L (length es) some_entry rk es in
-            subst K (sym same) (known i l))
+        let K : ℕ → Type 0 = IsKnown tree_of (ranks_of tree_of es ranks) L (length es) some_entry rk es in
+        subst K (sym same) (known i l))
         (λ i. let same : 0 + i ≡ i = omega arith in ap (form_at es) (sym same))
         (λ i l. let same : 0 + i ≡ i = omega arith in ap rk (sym same))
         as_many nodes_ranked (omega arith) (let a = length_split in omega (arith, a)) few
@@ -491,3 +492,7 @@ module _ (tree_of : List ℕ → Tree) where
         (and_from _ (every in_range (table_of tree_of es))
         (and_from (nat_eq L (length RS)) (every (names_below L) (table_of tree_of es)) length_same all_named) all_ranged)
         all_fall
+
+    -- at least as many positions as entries
+    pub more_positions : length es ≤ L
+    more_positions = let a = length_split in omega (arith, a)
