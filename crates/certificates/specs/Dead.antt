@@ -1,5 +1,5 @@
 -- That no document of a kind meets a set, as a relation with a case for each way to show it.
-use Rattle.std.specs.Prelude.{◌≡◌, ℕ, List, [], ◌∷◌, true, Option, Some, Contains}
+use Rattle.std.specs.Prelude.{◌≡◌, ℕ, List, true, Some, Contains}
 use Rattle.documents.specs.Kind.{Kind}
 use Rattle.positions.specs.Position.{Position}
 use Rattle.goals.specs.Signed.{Signed, Plus, Minus, has, add_all}

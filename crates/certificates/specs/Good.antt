@@ -1,7 +1,7 @@
 -- Which lists of lines are good certificates that every document of which position a holds has position b holding.
 --
 -- Lines are judged one after another against a list of duties: what is still to be shown, the next duty first.
-use Rattle.std.specs.Prelude.{◌≡◌, ℕ, zero, suc, List, [], ◌∷◌, ◌++◌, map, flat_map, length, Bool, true, false, ◌&&◌, ◌||◌, not, cond, nat_eq, nat_lt, Option, Some, None}
+use Rattle.std.specs.Prelude.{ℕ, zero, suc, List, [], ◌∷◌, ◌++◌, map, length, Bool, true, false, ◌&&◌, nat_eq, nat_lt, Option, Some, None}
 use Rattle.documents.specs.Tests.{every, some}
 use Rattle.documents.specs.Kind.{Kind, all_kinds, same_kind}
 use Rattle.positions.specs.Position.{Position}

@@ -1,5 +1,5 @@
 -- The lines of a certificate, and the text that each is written as.
-use Rattle.std.specs.Prelude.{◌≡◌, ℕ, ◌<◌, ◌^◌, List, [], ◌∷◌, ◌++◌, flat_map, Bool, true, ◌&&◌, nat_lt, nat_le, length, codes}
+use Rattle.std.specs.Prelude.{◌≡◌, ℕ, List, [], ◌∷◌, ◌++◌, flat_map, Bool, true, nat_lt, nat_le, length, codes}
 use Rattle.std.specs.Fmt.{decimal}
 use Rattle.documents.specs.Tests.{every}
 use Rattle.documents.specs.Kind.{Kind, Null, Boolean, Number, Text, Array, Object}

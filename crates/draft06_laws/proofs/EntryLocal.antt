@@ -13,14 +13,14 @@ use Rattle.draft06.specs.EntryValidity.{items_ask, rest_asks, need_asks, asks_an
 use Rattle.draft06_laws.proofs.Lists.{both, every_same, some_same, exactly_one_same, all_drop, all_halves, there_same, elements_below, entries_below}
 
 -- what holds of all entries that are named in place, keyword by keyword
-record InPlace (P : ℕ → Type 0) (k : Keywords) : Type 0 where
-  all_of : AllByRecursion P (lists all k.all_of)
-  any_of : AllByRecursion P (lists all k.any_of)
-  one_of : AllByRecursion P (lists all k.one_of)
-  negated : AllByRecursion P (lists one k.not)
-  dependencies : AllByRecursion P (lists of_needs k.dependencies)
+pub record InPlace (P : ℕ → Type 0) (k : Keywords) : Type 0 where
+  pub all_of : AllByRecursion P (lists all k.all_of)
+  pub any_of : AllByRecursion P (lists all k.any_of)
+  pub one_of : AllByRecursion P (lists all k.one_of)
+  pub negated : AllByRecursion P (lists one k.not)
+  pub dependencies : AllByRecursion P (lists of_needs k.dependencies)
 
-in_place_of : (P : ℕ → Type 0) (k : Keywords) → AllByRecursion P (in_place (Asks k)) → InPlace P k
+pub in_place_of : (P : ℕ → Type 0) (k : Keywords) → AllByRecursion P (in_place (Asks k)) → InPlace P k
 in_place_of P k h =
     let four = lists all k.all_of ++ lists all k.any_of ++ lists all k.one_of ++ lists one k.not in
     let last = all_halves P four (lists of_needs k.dependencies) h in
@@ -37,16 +37,16 @@ in_place_of P k h =
     }
 
 -- and of all that are named for parts
-record OfParts (P : ℕ → Type 0) (k : Keywords) : Type 0 where
-  items : AllByRecursion P (lists of_items k.items)
-  additional_items : AllByRecursion P (lists one k.additional_items)
-  contains : AllByRecursion P (lists one k.contains)
-  properties : AllByRecursion P (lists of_names k.properties)
-  pattern_properties : AllByRecursion P (lists of_names k.pattern_properties)
-  additional_properties : AllByRecursion P (lists one k.additional_properties)
-  property_names : AllByRecursion P (lists one k.property_names)
+pub record OfParts (P : ℕ → Type 0) (k : Keywords) : Type 0 where
+  pub items : AllByRecursion P (lists of_items k.items)
+  pub additional_items : AllByRecursion P (lists one k.additional_items)
+  pub contains : AllByRecursion P (lists one k.contains)
+  pub properties : AllByRecursion P (lists of_names k.properties)
+  pub pattern_properties : AllByRecursion P (lists of_names k.pattern_properties)
+  pub additional_properties : AllByRecursion P (lists one k.additional_properties)
+  pub property_names : AllByRecursion P (lists one k.property_names)
 
-of_parts_of : (P : ℕ → Type 0) (k : Keywords) → AllByRecursion P (of_parts (Asks k)) → OfParts P k
+pub of_parts_of : (P : ℕ → Type 0) (k : Keywords) → AllByRecursion P (of_parts (Asks k)) → OfParts P k
 of_parts_of P k h =
     let two = lists of_items k.items ++ lists one k.additional_items in
     let three = two ++ lists one k.contains in

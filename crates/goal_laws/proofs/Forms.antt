@@ -5,7 +5,7 @@ use Rattle.std.proofs.lemmas.Bool.{and_from, or_parts, or_cases, not-true, ltb-t
 use Rattle.std.specs.List.{AllByRecursion}
 use Rattle.documents.specs.Tests.{every}
 use Rattle.documents.specs.Document.{Document}
-use Rattle.positions.specs.Position.{Position, True, False, Not, All, Any, Types, position_at, in_place}
+use Rattle.positions.specs.Position.{Position, True, False, Same, Not, position_at, in_place}
 use Rattle.positions.specs.Holds.{asks, holds, IsTable}
 use Rattle.position_laws.proofs.Asks.{holds-asks}
 use Rattle.goals.specs.Signed.{Signed, Plus, Minus, position_of, opposite, has, add_all, is_rising, met, meets}
@@ -32,21 +32,15 @@ follow-itself T x e = follow_within-itself T (length T) x e
 -- a reference goes to an in-place name, and turns the sign round
 plus_reference-names : (Q : ℕ → Type 0) (P : Position) (y : Signed) → AllByRecursion Q (in_place P)
     → plus_reference P ≡ Some y → Q (position_of y)
+plus_reference-names Q (Same q) y h e = let same : Plus q ≡ y = cc in subst (λ z. Q (position_of z)) same h.0
 plus_reference-names Q (Not q) y h e = let same : Minus q ≡ y = cc in subst (λ z. Q (position_of z)) same h.0
-plus_reference-names Q True y h e = cc
-plus_reference-names Q False y h e = cc
-plus_reference-names Q (All qs) y h e = cc
-plus_reference-names Q (Any qs) y h e = cc
-plus_reference-names Q (Types ts) y h e = cc
+plus_reference-names Q _ y h e = cc
 
 minus_reference-names : (Q : ℕ → Type 0) (P : Position) (y : Signed) → AllByRecursion Q (in_place P)
     → minus_reference P ≡ Some y → Q (position_of y)
+minus_reference-names Q (Same q) y h e = let same : Minus q ≡ y = cc in subst (λ z. Q (position_of z)) same h.0
 minus_reference-names Q (Not q) y h e = let same : Plus q ≡ y = cc in subst (λ z. Q (position_of z)) same h.0
-minus_reference-names Q True y h e = cc
-minus_reference-names Q False y h e = cc
-minus_reference-names Q (All qs) y h e = cc
-minus_reference-names Q (Any qs) y h e = cc
-minus_reference-names Q (Types ts) y h e = cc
+minus_reference-names Q _ y h e = cc
 
 reference-names : (Q : ℕ → Type 0) (T : List Position) (x y : Signed)
     → AllByRecursion Q (in_place (position_at T (position_of x))) → reference T x ≡ Some y → Q (position_of y)
@@ -99,22 +93,16 @@ module _ (T : List Position) (ok : IsTable T) (J : Document) where
 
   plus_reference-asks : (P : Position) (y : Signed) → plus_reference P ≡ Some y
       → met here y ≡ asks here (holds T) P J
+  plus_reference-asks (Same q) y e = let same : Plus q ≡ y = cc in ap (met here) (sym same)
   plus_reference-asks (Not q) y e = let same : Minus q ≡ y = cc in ap (met here) (sym same)
-  plus_reference-asks True y e = cc
-  plus_reference-asks False y e = cc
-  plus_reference-asks (All qs) y e = cc
-  plus_reference-asks (Any qs) y e = cc
-  plus_reference-asks (Types ts) y e = cc
+  plus_reference-asks _ y e = cc
 
   minus_reference-asks : (P : Position) (y : Signed) → minus_reference P ≡ Some y
       → met here y ≡ not (asks here (holds T) P J)
+  minus_reference-asks (Same q) y e = let same : Minus q ≡ y = cc in ap (met here) (sym same)
   minus_reference-asks (Not q) y e =
       let same : Plus q ≡ y = cc in ap (met here) (sym same) ∙ met-opposite here (Minus q)
-  minus_reference-asks True y e = cc
-  minus_reference-asks False y e = cc
-  minus_reference-asks (All qs) y e = cc
-  minus_reference-asks (Any qs) y e = cc
-  minus_reference-asks (Types ts) y e = cc
+  minus_reference-asks _ y e = cc
 
   reference-met : (x y : Signed) → reference T x ≡ Some y → met here y ≡ met here x
   reference-met (Plus p) y e = plus_reference-asks (position_at T p) y e ∙ sym (holds-asks T ok p J)
@@ -138,19 +126,11 @@ module _ (T : List Position) (ok : IsTable T) (J : Document) where
   is_always-met (Plus p) e = holds-asks T ok p J ∙ go (position_at T p) e where
     go : (P : Position) → is_always (P ∷ []) (Plus 0) ≡ true → asks here (holds T) P J ≡ true
     go True e = refl
-    go False e = cc
-    go (Not q) e = cc
-    go (All qs) e = cc
-    go (Any qs) e = cc
-    go (Types ts) e = cc
+    go _ e = cc
   is_always-met (Minus p) e = ap not (holds-asks T ok p J) ∙ go (position_at T p) e where
     go : (P : Position) → is_always (P ∷ []) (Minus 0) ≡ true → not (asks here (holds T) P J) ≡ true
     go False e = refl
-    go True e = cc
-    go (Not q) e = cc
-    go (All qs) e = cc
-    go (Any qs) e = cc
-    go (Types ts) e = cc
+    go _ e = cc
 
   pub is_never-met : (x : Signed) → is_never T x ≡ true → met here x ≡ false
   is_never-met x e = go (met here x) (sym (met-opposite here x) ∙ is_always-met (opposite x) e) where

@@ -1,13 +1,15 @@
--- In a saturated set all is met where its literals are. Where these name kinds alone, a set with a branch is
--- met by each document of the kind.
+-- In a saturated set all is met where its literals are. In a table without typed positions these name kinds alone, so
+-- there a set with a branch is met by each document of the kind.
 use Rattle.std.proofs.Common.{◌≡◌, ℕ, zero, suc, ◌<◌, Bool, true, false, List, [], ◌∷◌, Option, Some, None, IfSome, refl, ap, sym, ◌∙◌, subst, arith}
 use Rattle.std.specs.List.{AllByRecursion}
 use Rattle.std.proofs.lemmas.Bool.{not-false, not_from_false, or_left}
 use Rattle.documents.specs.Tests.{every, some}
 use Rattle.documents.specs.Kind.{Kind, same_kind}
 use Rattle.documents.specs.Document.{Document, kind_of}
-use Rattle.positions.specs.Position.{Position, True, False, Not, All, Any, Types, position_at}
+use Rattle.positions.specs.Position.{Position, Types, position_at}
 use Rattle.positions.specs.Holds.{asks, holds, IsTable}
+use Rattle.position_laws.specs.Plain.{is_untyped, is_plain}
+use Rattle.position_laws.proofs.Plainness.{is_plain-untyped}
 use Rattle.position_laws.proofs.Lists.{all-at, some-find, some-contains}
 use Rattle.position_laws.proofs.Asks.{holds-asks}
 use Rattle.goals.specs.Signed.{Signed, Plus, Minus, position_of, has, met, meets}
@@ -51,36 +53,30 @@ module _ (T : List Position) (ok : IsTable T) (J : Document) (S : List Signed)
   meets-saturated =
       has-every (met (λ p. holds T p J)) S (λ x i. all_met (suc (ok.rank (position_of x))) x (omega arith) i)
 
--- a literal that isn't wrong at the document's kind is met: it asks for a kind alone
+-- an untyped literal that isn't wrong at the document's kind is met: it asks for a kind alone
 module _ (here : ℕ → Bool) (below : ℕ → Document → Bool) where
-  plus_literal : (P : Position) (J : Document) → plus_choices (kind_of J) P ≡ None
+  plus_literal : (P : Position) (J : Document) → is_untyped P ≡ true → plus_choices (kind_of J) P ≡ None
       → plus_wrong (kind_of J) P ≡ false
       → asks here below P J ≡ true
-  plus_literal (Types ts) J e w = not-false (some (same_kind (kind_of J)) ts) w
-  plus_literal True J e w = refl
-  plus_literal False J e w = cc
-  plus_literal (Not q) J e w = cc
-  plus_literal (All qs) J e w = cc
-  plus_literal (Any qs) J e w = cc
+  plus_literal (Types ts) J u e w = not-false (some (same_kind (kind_of J)) ts) w
+  plus_literal _ J u e w = cc
 
-  minus_literal : (P : Position) (J : Document) → minus_choices (kind_of J) P ≡ None
+  minus_literal : (P : Position) (J : Document) → is_untyped P ≡ true → minus_choices (kind_of J) P ≡ None
       → minus_wrong (kind_of J) P ≡ false
       → asks here below P J ≡ false
-  minus_literal (Types ts) J e w = w
-  minus_literal True J e w = cc
-  minus_literal False J e w = refl
-  minus_literal (Not q) J e w = cc
-  minus_literal (All qs) J e w = cc
-  minus_literal (Any qs) J e w = cc
+  minus_literal (Types ts) J u e w = w
+  minus_literal _ J u e w = cc
 
-module _ (T : List Position) (ok : IsTable T) (J : Document) where
+module _ (T : List Position) (ok : IsTable T) (plain : is_plain T ≡ true) (J : Document) where
   literal-met : (x : Signed) → choices T (kind_of J) x ≡ None → is_wrong T (kind_of J) x ≡ false
       → met (λ p. holds T p J) x ≡ true
   literal-met (Plus p) e w =
-      holds-asks T ok p J ∙ plus_literal (λ q. holds T q J) (holds T) (position_at T p) J e w
+      holds-asks T ok p J
+      ∙ plus_literal (λ q. holds T q J) (holds T) (position_at T p) J (is_plain-untyped T plain p) e w
   literal-met (Minus p) e w =
       not_from_false _
-      (holds-asks T ok p J ∙ minus_literal (λ q. holds T q J) (holds T) (position_at T p) J e w)
+      (holds-asks T ok p J
+      ∙ minus_literal (λ q. holds T q J) (holds T) (position_at T p) J (is_plain-untyped T plain p) e w)
 
   is_saturated-met : (S : List Signed) → IsSaturated T (kind_of J) S → meets T S J ≡ true
   is_saturated-met S full =
@@ -88,13 +84,16 @@ module _ (T : List Position) (ok : IsTable T) (J : Document) where
 
 -- what the branches of a tree tell of every document of its kind
 module _ (T : List Position) (ok : IsTable T) (J : Document) (t : Kind) (of_kind : kind_of J ≡ t) where
-  pub IsSaturated-met : (S : List Signed) → IsSaturated T t S → meets T S J ≡ true
-  IsSaturated-met S full = is_saturated-met T ok J S (subst (λ u. IsSaturated T u S) (sym of_kind) full)
-
   pub branches-none_met : (S : List Signed) → branches (steps T t S) ≡ [] → meets T S J ≡ false
   branches-none_met S e =
       meets-branches T ok J S
       ∙ ap (some (λ B. meets T B J)) (ap (λ u. branches (steps T u S)) of_kind ∙ e)
+
+-- in a plain table
+module _ (T : List Position) (ok : IsTable T) (plain : is_plain T ≡ true) (J : Document) (t : Kind)
+    (of_kind : kind_of J ≡ t) where
+  pub IsSaturated-met : (S : List Signed) → IsSaturated T t S → meets T S J ≡ true
+  IsSaturated-met S full = is_saturated-met T ok plain J S (subst (λ u. IsSaturated T u S) (sym of_kind) full)
 
   pub branches-some_met : (S B : List Signed) (Bs : List (List Signed)) → branches (steps T t S) ≡ B ∷ Bs
       → meets T S J ≡ true

@@ -4,6 +4,7 @@ use Rattle.std.proofs.Common.{◌≡◌, ℕ, Bool, true, false, ◌&&◌, not, 
 use Rattle.documents.specs.Document.{Document, kind_of}
 use Rattle.positions.specs.Position.{Position}
 use Rattle.positions.specs.Holds.{holds, IsTable}
+use Rattle.position_laws.specs.Plain.{is_plain}
 use Rattle.goals.specs.Signed.{Signed, Plus, Minus}
 use Rattle.goals.specs.Goal.{form}
 use Rattle.goals.specs.Tree.{steps, branches}
@@ -22,15 +23,16 @@ module _ (T : List Position) (ok : IsTable T) (J : Document) (a b : ℕ) where
   implied true false e h = cc
   implied false y e h = cc
 
-  -- each document of a kind with a branch has the first position and not the second
-  pub branches-separate : (g : List Signed) → form T (Plus a ∷ Minus b ∷ []) ≡ Some g
+  -- where the table has no typed positions, each document of a kind with a branch has the first position and not the
+  -- second
+  pub branches-separate : is_plain T ≡ true → (g : List Signed) → form T (Plus a ∷ Minus b ∷ []) ≡ Some g
       → (B : List Signed) (Bs : List (List Signed)) → branches (steps T (kind_of J) g) ≡ B ∷ Bs
       → (holds T a J ≡ true) × (holds T b J ≡ false)
-  branches-separate g e B Bs some =
+  branches-separate plain g e B Bs some =
       separated (holds T a J) (holds T b J)
       (sym (meets-root T ok J a b)
       ∙ ap (λ o. meets_goal T o J) e
-      ∙ branches-some_met T ok J (kind_of J) refl g B Bs some)
+      ∙ branches-some_met T ok plain J (kind_of J) refl g B Bs some)
 
   -- a document of a kind without a branch has the second position where it has the first
   pub branches-include : IfSome (form T (Plus a ∷ Minus b ∷ [])) (λ g. branches (steps T (kind_of J) g) ≡ [])

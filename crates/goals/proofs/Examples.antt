@@ -1,10 +1,11 @@
 -- Worked examples of goals, choices and trees, each computed from the definitions.
-use Rattle.std.specs.Prelude.{◌≡◌, List, [], ◌∷◌, true, false, refl, Some, None}
-use Rattle.documents.specs.Kind.{Null, Text}
-use Rattle.positions.specs.Position.{Position, True, False, Not, All, Any, Types}
+use Rattle.std.specs.Prelude.{◌≡◌, List, [], ◌∷◌, map, true, false, pos, refl, Some, None}
+use Rattle.documents.specs.Kind.{Null, Boolean, Number, Text, Array, Object}
+use Rattle.positions.specs.Position as P
+use Rattle.positions.specs.Position.{Position, True, False, Same, Not, All, Any, One, Depends, Types}
 use Rattle.goals.specs.Signed.{Plus, Minus}
 use Rattle.goals.specs.Goal.{form, follow, contains}
-use Rattle.goals.specs.Choices.{choices}
+use Rattle.goals.specs.Choices.{choices, is_wrong}
 use Rattle.goals.specs.Tree.{Clash, Wrong, Rule, Saturated, steps, ends, branches, next}
 
 -- a table with each kind of position; positions 11 to 13 are references, one to the next
@@ -150,3 +151,83 @@ twofold = All (1 ∷ 2 ∷ []) ∷ Any (3 ∷ 4 ∷ []) ∷ Any (5 ∷ 6 ∷ [])
 ends_multiply : ends (steps twofold Null (Plus 0 ∷ [])) ≡ 4
 unfolding steps
 ends_multiply = refl
+
+-- further kinds of position
+
+abbrev wide : List Position
+wide =
+    Same 2  -- 0
+    ∷ Not 0  -- 1
+    ∷ P.NumMin (pos 1)  -- 2
+    ∷ One (2 ∷ 4 ∷ 5 ∷ [])  -- 3
+    ∷ P.Has []  -- 4
+    ∷ P.CountMin 1  -- 5
+    ∷ Depends 4 5  -- 6
+    ∷ One []  -- 7
+    ∷ []
+
+-- a reference to the same position keeps the sign, and references of both kinds are followed to the end
+same_followed : form wide (Plus 0 ∷ Minus 4 ∷ []) ≡ Some (Plus 2 ∷ Minus 4 ∷ [])
+unfolding follow
+same_followed = refl
+
+opposite_of_same : form wide (Plus 1 ∷ []) ≡ Some (Minus 2 ∷ [])
+unfolding follow
+opposite_of_same = refl
+
+-- followed to one position with both signs
+same_clashes : form wide (Plus 0 ∷ Plus 1 ∷ []) ≡ None
+unfolding follow
+same_clashes = refl
+
+-- a set may hold a reference, which then has one choice
+choices_same : choices wide Null (Minus 0) ≡ Some ((Minus 2 ∷ []) ∷ [])
+choices_same = refl
+
+-- exactly one of three: which one it is
+choices_one : choices wide Null (Plus 3)
+    ≡ Some (
+    (Plus 2 ∷ Minus 4 ∷ Minus 5 ∷ []) ∷ (Minus 2 ∷ Plus 4 ∷ Minus 5 ∷ []) ∷ (Minus 2 ∷ Minus 4 ∷ Plus 5 ∷ []) ∷ []
+    )
+choices_one = refl
+
+-- and not exactly one: none of them, or two
+choices_not_one : choices wide Null (Minus 3)
+    ≡ Some (
+    (Minus 2 ∷ Minus 4 ∷ Minus 5 ∷ []) ∷ (Plus 2 ∷ Plus 4 ∷ []) ∷ (Plus 2 ∷ Plus 5 ∷ []) ∷ (Plus 4 ∷ Plus 5 ∷ []) ∷ []
+    )
+choices_not_one = refl
+
+-- none of nothing is what isn't exactly one of it
+choices_one_of_nothing : choices wide Null (Plus 7) ∷ choices wide Null (Minus 7) ∷ [] ≡ Some [] ∷ Some ([] ∷ []) ∷ []
+choices_one_of_nothing = refl
+
+-- a dependency has choices at objects
+choices_depends : choices wide Object (Plus 6) ∷ choices wide Object (Minus 6) ∷ []
+    ≡ Some ((Minus 4 ∷ []) ∷ (Plus 5 ∷ []) ∷ []) ∷ Some ((Plus 4 ∷ Minus 5 ∷ []) ∷ []) ∷ []
+choices_depends = refl
+
+-- other documents have nothing to choose, and can't fail it
+choices_depends_elsewhere : choices wide Array (Plus 6) ∷ choices wide Array (Minus 6) ∷ []
+    ≡ Some ([] ∷ []) ∷ Some [] ∷ []
+choices_depends_elsewhere = refl
+
+-- a typed position holds of other kinds: only its failing is wrong there
+typed_wrong : map (λ t. is_wrong wide t (Minus 2)) (Null ∷ Boolean ∷ Number ∷ Text ∷ Array ∷ Object ∷ [])
+    ≡ true ∷ true ∷ false ∷ true ∷ true ∷ true ∷ []
+typed_wrong = refl
+
+typed_not_wrong : map (λ t. is_wrong wide t (Plus 2)) (Null ∷ Boolean ∷ Number ∷ Text ∷ Array ∷ Object ∷ [])
+    ≡ false ∷ false ∷ false ∷ false ∷ false ∷ false ∷ []
+typed_not_wrong = refl
+
+-- of a number the positions that speak of arrays and objects hold, so never exactly one of the three
+one_at_number : branches (steps wide Number (Plus 3 ∷ [])) ≡ []
+unfolding steps
+one_at_number = refl
+
+-- of an array one of them may fail: any two of the three may be those that hold
+not_one_at_array : branches (steps wide Array (Minus 3 ∷ []))
+    ≡ (Plus 2 ∷ Minus 3 ∷ Plus 4 ∷ []) ∷ (Plus 2 ∷ Minus 3 ∷ Plus 5 ∷ []) ∷ (Minus 3 ∷ Plus 4 ∷ Plus 5 ∷ []) ∷ []
+unfolding steps
+not_one_at_array = refl

@@ -1,25 +1,20 @@
 -- The goal that a list of signed positions forms, and when one goal contains another.
 use Rattle.std.specs.Prelude.{ℕ, zero, suc, List, [], ◌∷◌, length, Bool, true, false, ◌||◌, cond, Option, Some, None}
 use Rattle.documents.specs.Tests.{every, some}
-use Rattle.positions.specs.Position.{Position, True, False, Not, All, Any, Types, position_at}
+use Rattle.positions.specs.Position.{Position, True, False, Same, Not, position_at}
 use Rattle.goals.specs.Signed.{Signed, Plus, Minus, opposite, has, add_all}
 
--- the signed position that one of a reference stands for: an opposite is the other position with the other sign
+-- the signed position that one of a reference stands for: of the same position it has the same sign, of an opposite the
+-- other one
 abbrev pub plus_reference : Position → Option Signed
-plus_reference True = None
-plus_reference False = None
+plus_reference (Same q) = Some (Plus q)
 plus_reference (Not q) = Some (Minus q)
-plus_reference (All qs) = None
-plus_reference (Any qs) = None
-plus_reference (Types ts) = None
+plus_reference _ = None
 
 abbrev pub minus_reference : Position → Option Signed
-minus_reference True = None
-minus_reference False = None
+minus_reference (Same q) = Some (Minus q)
 minus_reference (Not q) = Some (Plus q)
-minus_reference (All qs) = None
-minus_reference (Any qs) = None
-minus_reference (Types ts) = None
+minus_reference _ = None
 
 abbrev pub reference : List Position → Signed → Option Signed
 reference T (Plus p) = plus_reference (position_at T p)

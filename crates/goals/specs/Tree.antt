@@ -1,5 +1,5 @@
 -- The tree of a set of signed positions at a kind, as its steps in pre-order.
-use Rattle.std.specs.Prelude.{ℕ, zero, suc, ◌+◌, ◌*◌, List, [], ◌∷◌, map, flat_map, length, Bool, true, false, not, cond, Option, Some, None}
+use Rattle.std.specs.Prelude.{ℕ, zero, suc, ◌*◌, List, [], ◌∷◌, flat_map, length, Bool, true, false, not, cond, Option, Some, None}
 use Rattle.documents.specs.Tests.{every, some}
 use Rattle.documents.specs.Kind.{Kind}
 use Rattle.positions.specs.Position.{Position}

@@ -1,40 +1,44 @@
 -- Two tables joined are a table, and each position in it holds of what it held of in its own.
 use Rattle.std.proofs.Common.{◌≡◌, ℕ, zero, suc, ◌+◌, ◌<◌, ◌≤◌, Bool, true, ◌&&◌, nat_lt, List, [], ◌∷◌, ◌++◌, map, length, get_or, refl, ap, ap₂, sym, ◌∙◌, subst, arith, length-append}
+use Rattle.std.specs.List.{AllByRecursion}
 use Rattle.std.proofs.Math.Bool.{and_assoc}
 use Rattle.std.proofs.lemmas.Bool.{and_parts, and_from, lt-ltb, eqb-true, eq-eqb}
 use Rattle.std.proofs.lemmas.List.{length-map, get_or_append_left, get_or-append-add}
 use Rattle.documents.specs.Tests.{every}
 use Rattle.documents.specs.Document.{Document, depth}
-use Rattle.positions.specs.Position.{Position, True, False, Not, All, Any, Types, position_at, in_place, names_below, ranks_fall, is_table}
+use Rattle.positions.specs.Position.{Position, True, All, Any, One, Items}
+use Rattle.positions.specs.Position.{position_at, in_place, of_parts, names_below, in_range, ranks_fall, is_table}
 use Rattle.positions.specs.Holds.{asks, holds, IsTable}
 use Rattle.position_laws.specs.Join.{renamed, moved, joined}
 use Rattle.position_laws.proofs.Lists.{all-weaker, all-both, all-everywhere, every-all, all-every, every-same, every-map, every-append}
 use Rattle.position_laws.proofs.Asks.{asks-same, asks-renamed, holds-asks}
-use Rattle.position_laws.proofs.Tables.{is_table-length, is_table-below, is_table-fall, is_table-IsTable, names_below-all}
+use Rattle.position_laws.proofs.Tables.{is_table-length, is_table-below, is_table-range, is_table-fall, is_table-IsTable, names_below-all}
 
 -- positions with other names
 
+map-itself : (qs : List ℕ) → map (λ q. q) qs ≡ qs
+map-itself [] = refl
+map-itself (q ∷ qs) = ap (λ rs. q ∷ rs) (map-itself qs)
+
 pub renamed-itself : (P : Position) → renamed (λ q. q) P ≡ P
-renamed-itself True = refl
-renamed-itself False = refl
-renamed-itself (Not q) = refl
-renamed-itself (All qs) = ap All (map-itself qs) where
-  map-itself : (qs : List ℕ) → map (λ q. q) qs ≡ qs
-  map-itself [] = refl
-  map-itself (q ∷ qs) = ap (λ rs. q ∷ rs) (map-itself qs)
-renamed-itself (Any qs) = ap Any (map-itself qs) where
-  map-itself : (qs : List ℕ) → map (λ q. q) qs ≡ qs
-  map-itself [] = refl
-  map-itself (q ∷ qs) = ap (λ rs. q ∷ rs) (map-itself qs)
-renamed-itself (Types ts) = refl
+renamed-itself (All qs) = ap All (map-itself qs)
+renamed-itself (Any qs) = ap Any (map-itself qs)
+renamed-itself (One qs) = ap One (map-itself qs)
+renamed-itself (Items qs r) = ap (λ rs. Items rs r) (map-itself qs)
+renamed-itself _ = refl
 
 pub in_place-renamed : (f : ℕ → ℕ) (P : Position) → in_place (renamed f P) ≡ map f (in_place P)
 in_place-renamed f True = refl
-in_place-renamed f False = refl
-in_place-renamed f (Not q) = refl
-in_place-renamed f (All qs) = refl
-in_place-renamed f (Any qs) = refl
-in_place-renamed f (Types ts) = refl
+in_place-renamed f _ = refl
+
+pub of_parts-renamed : (f : ℕ → ℕ) (P : Position) → of_parts (renamed f P) ≡ map f (of_parts P)
+of_parts-renamed f True = refl
+of_parts-renamed f _ = refl
+
+-- other names change no number
+pub in_range-renamed : (f : ℕ → ℕ) (P : Position) → in_range (renamed f P) ≡ in_range P
+in_range-renamed f True = refl
+in_range-renamed f _ = refl
 
 -- positions of joined lists
 
@@ -65,17 +69,28 @@ length-joined A B =
 
 -- the joined list is a table
 
+-- what is below one bound is below another, where the names may be others
+below-every : (n m : ℕ) (f : ℕ → ℕ) → ((q : ℕ) → q < n → f q < m) → (qs : List ℕ)
+    → AllByRecursion (λ q. q < n) qs → every (λ q. nat_lt q m) (map f qs) ≡ true
+below-every n m f lower qs h =
+    every-map (λ q. nat_lt q m) f qs
+    ∙ all-every _ qs (all-weaker _ _ qs (λ q l. lt-ltb (f q) m (lower q l)) h)
+
+names_below-renamed : (n m : ℕ) (f : ℕ → ℕ) → ((q : ℕ) → q < n → f q < m) → (P : Position)
+    → names_below n P ≡ true → names_below m (renamed f P) ≡ true
+names_below-renamed n m f lower P e =
+    let (here, parts) = names_below-all n P e in
+    ap₂ (λ xs ys. every (λ q. nat_lt q m) xs && every (λ q. nat_lt q m) ys) (in_place-renamed f P)
+    (of_parts-renamed f P)
+    ∙ and_from _ _ (below-every n m f lower (in_place P) here) (below-every n m f lower (of_parts P) parts)
+
 names_below-more : (n m : ℕ) → n ≤ m → (P : Position) → names_below n P ≡ true → names_below m P ≡ true
 names_below-more n m l P e =
-    all-every _ (in_place P)
-    (all-weaker _ _ (in_place P) (λ q h. lt-ltb q m (omega (arith, h))) (names_below-all n P e))
+    subst (λ R. names_below m R ≡ true) (renamed-itself P)
+    (names_below-renamed n m (λ q. q) (λ q h. omega (arith, h)) P e)
 
 names_below-moved : (n m : ℕ) (P : Position) → names_below m P ≡ true → names_below (n + m) (moved n P) ≡ true
-names_below-moved n m P e =
-    ap (every (λ q. nat_lt q (n + m))) (in_place-renamed (λ q. n + q) P)
-    ∙ every-map (λ q. nat_lt q (n + m)) (λ q. n + q) (in_place P)
-    ∙ all-every _ (in_place P)
-    (all-weaker _ _ (in_place P) (λ q h. lt-ltb (n + q) (n + m) (omega (arith, h))) (names_below-all m P e))
+names_below-moved n m P e = names_below-renamed m (n + m) (λ q. n + q) (λ q h. omega (arith, h)) P e
 
 every-weaker : {A : Type 0} (p q : A → Bool) (xs : List A) → ((x : A) → p x ≡ true → q x ≡ true)
     → every p xs ≡ true → every q xs ≡ true
@@ -90,6 +105,14 @@ names_below-joined A B a b =
     ∙ and_from _ _
     (every-weaker _ _ A (names_below-more (length A) (length A + length B) (omega arith)) a)
     (every-map _ (moved (length A)) B ∙ every-weaker _ _ B (names_below-moved (length A) (length B)) b))
+
+in_range-joined : (A B : List Position) → every in_range A ≡ true → every in_range B ≡ true
+    → every in_range (joined A B) ≡ true
+in_range-joined A B a b =
+    every-append in_range A (map (moved (length A)) B)
+    ∙ and_from _ _ a
+    (every-map in_range (moved (length A)) B
+    ∙ every-same _ _ B (all-everywhere _ B (λ P. in_range-renamed (λ q. length A + q) P)) ∙ b)
 
 ranks_fall-append : (ranks : List ℕ) (k : ℕ) (xs ys : List Position)
     → ranks_fall ranks k (xs ++ ys) ≡ (ranks_fall ranks k xs && ranks_fall ranks (k + length xs) ys)
@@ -116,7 +139,7 @@ module _ (ra rb : List ℕ) where
       (every-same _ _ (in_place x)
       (all-weaker _ _ (in_place x)
       (λ q h. ap₂ nat_lt (get_or_append_left ra rb 0 q h) (get_or_append_left ra rb 0 k (omega arith)))
-      (names_below-all (length ra) x (and_parts _ (every (names_below (length ra)) xs) e).0)))
+      (names_below-all (length ra) x (and_parts _ (every (names_below (length ra)) xs) e).0).0))
       (ranks_fall-left (suc k) xs (and_parts (names_below (length ra) x) _ e).1 (omega arith))
 
   -- the second table's part looks at the ranks behind
@@ -140,8 +163,9 @@ is_table-joined A B ra rb a b =
     let lb : length B ≡ length rb = eqb-true _ _ (is_table-length B rb b) in
     and_from _ _
     (and_from _ _
-    (eq-eqb _ _ (length-joined A B ∙ ap₂ (λ m n. m + n) la lb ∙ sym (length-append ra rb)))
+    (and_from _ _ (eq-eqb _ _ (length-joined A B ∙ ap₂ (λ m n. m + n) la lb ∙ sym (length-append ra rb)))
     (names_below-joined A B (is_table-below A ra a) (is_table-below B rb b)))
+    (in_range-joined A B (is_table-range A ra a) (is_table-range B rb b)))
     (ranks_fall-append (ra ++ rb) 0 A (map (moved (length A)) B) ∙ and_from _ _ (left la) (right la)) where
       left : length A ≡ length ra → ranks_fall (ra ++ rb) 0 A ≡ true
       left la =
@@ -172,7 +196,7 @@ module _ (S T : List Position) (f : ℕ → ℕ) (inner : IsTable S) (outer : Is
       (position_at S p) J
       (all-both _ _ _ (in_place (position_at S p)) (λ q m r. embedded (suc d) n q J a (omega arith) m)
       (inner.named p) (inner.ranked.falls p))
-      (inner.named p)
+      (inner.parts_named p)
       (λ q K m r. embedded d (length S) q K (omega arith) (inner.ranked.bounded q) m)
       ∙ sym (holds-asks S inner p J)
 

@@ -1,9 +1,10 @@
 -- Tests of the elements of a list: what `every` and `some` give, and how they meet `map` and `++`.
-use Rattle.std.proofs.Common.{zero, suc, inl, inr, flat_map, Contains, subst, arith, ◌≡◌, Bool, true, false, ◌&&◌, ◌||◌, List, [], ◌∷◌, ◌++◌, map, refl, ap, ap₂, sym, ◌∙◌}
+use Rattle.std.proofs.Common.{zero, suc, inl, inr, flat_map, Contains, subst, arith, ◌≡◌, Bool, true, false, ◌&&◌, ◌||◌, not, cond, List, [], ◌∷◌, ◌++◌, map, refl, ap, ap₂, sym, ◌∙◌}
 use Rattle.std.specs.List.{AllByRecursion}
 use Rattle.std.proofs.Math.Bool.{and_assoc, or_assoc}
 use Rattle.std.proofs.lemmas.Bool.{and_parts, and_from, or_cases, or_parts, or_from, or_left, or_right}
 use Rattle.documents.specs.Tests.{every, some}
+use Rattle.documents.specs.Measures.{exactly_one}
 
 -- facts of each element
 
@@ -69,6 +70,13 @@ pub some-same : {A : Type 0} (f g : A → Bool) (xs : List A) → AllByRecursion
 some-same f g [] h = refl
 some-same f g (x ∷ xs) h = ap₂ (λ a b. a || b) h.0 (some-same f g xs h.1)
 
+pub exactly_one-same : {A : Type 0} (f g : A → Bool) (xs : List A) → AllByRecursion (λ x. f x ≡ g x) xs
+    → exactly_one f xs ≡ exactly_one g xs
+exactly_one-same f g [] h = refl
+exactly_one-same f g (x ∷ xs) h =
+    ap₂ (λ a b. cond a (not (some f xs)) b) h.0 (exactly_one-same f g xs h.1)
+    ∙ ap (λ b. cond (g x) (not b) (exactly_one g xs)) (some-same f g xs h.1)
+
 -- a test that passes everywhere, and facts
 
 pub every-all : {A : Type 0} (p : A → Bool) (xs : List A) → every p xs ≡ true
@@ -118,6 +126,12 @@ pub some-map : {A B : Type 0} (p : B → Bool) (f : A → B) (xs : List A)
     → some p (map f xs) ≡ some (λ x. p (f x)) xs
 some-map p f [] = refl
 some-map p f (x ∷ xs) = ap (λ b. p (f x) || b) (some-map p f xs)
+
+pub exactly_one-map : {A B : Type 0} (p : B → Bool) (f : A → B) (xs : List A)
+    → exactly_one p (map f xs) ≡ exactly_one (λ x. p (f x)) xs
+exactly_one-map p f [] = refl
+exactly_one-map p f (x ∷ xs) =
+    ap₂ (λ a b. cond (p (f x)) (not a) b) (some-map p f xs) (exactly_one-map p f xs)
 
 pub every-append : {A : Type 0} (p : A → Bool) (xs ys : List A)
     → every p (xs ++ ys) ≡ (every p xs && every p ys)

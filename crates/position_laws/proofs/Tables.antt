@@ -3,7 +3,7 @@ use Rattle.std.proofs.Common.{◌≡◌, ℕ, zero, suc, ◌+◌, ◌<◌, ◌�
 use Rattle.std.specs.List.{AllByRecursion}
 use Rattle.std.proofs.lemmas.Bool.{and_parts, ltb-true, lt-ltb, le-ltb, cond-true, cond-false, cases_lt}
 use Rattle.documents.specs.Tests.{every}
-use Rattle.positions.specs.Position.{Position, False, position_at, in_place, names_below, ranks_fall, is_table}
+use Rattle.positions.specs.Position.{Position, False, position_at, in_place, of_parts, names_below, in_range, ranks_fall, is_table}
 use Rattle.positions.specs.Holds.{IsTable}
 use Rattle.position_laws.proofs.Counts.{passing, passing-bound, passing-less}
 use Rattle.position_laws.proofs.Lists.{all-weaker, all-both, every-all}
@@ -21,9 +21,14 @@ position_at-past [] p l = refl
 position_at-past (x ∷ xs) zero l = absurd (omega arith)
 position_at-past (x ∷ xs) (suc p) l = position_at-past xs p (omega arith)
 
+-- what is named in place, and for parts, is in the table
 pub names_below-all : (n : ℕ) (P : Position) → names_below n P ≡ true
-    → AllByRecursion (λ q. q < n) (in_place P)
-names_below-all n P e = all-weaker _ _ (in_place P) (λ q h. ltb-true q n h) (every-all _ (in_place P) e)
+    → AllByRecursion (λ q. q < n) (in_place P) × AllByRecursion (λ q. q < n) (of_parts P)
+names_below-all n P e =
+    let (here, parts) = and_parts (every (λ q. nat_lt q n) (in_place P)) (every (λ q. nat_lt q n) (of_parts P)) e in
+    (are_below (in_place P) here, are_below (of_parts P) parts) where
+      are_below : (qs : List ℕ) → every (λ q. nat_lt q n) qs ≡ true → AllByRecursion (λ q. q < n) qs
+      are_below qs h = all-weaker _ _ qs (λ q l. ltb-true q n l) (every-all _ qs h)
 
 ranks_fall-all : (ranks : List ℕ) (k : ℕ) (xs : List Position) → ranks_fall ranks k xs ≡ true
     → (p : ℕ) → AllByRecursion (λ q. get_or ranks q 0 < get_or ranks (k + p) 0) (in_place (position_at xs p))
@@ -41,19 +46,40 @@ ranks_fall-all ranks k (x ∷ xs) e (suc p) =
 -- tables
 
 module _ (T : List Position) (ranks : List ℕ) (e : is_table T ranks ≡ true) where
+  -- the four parts of the test
+  parts : (nat_eq (length T) (length ranks) ≡ true) × (every (names_below (length T)) T ≡ true)
+      × (every in_range T ≡ true) × (ranks_fall ranks 0 T ≡ true)
+  parts =
+      let (others, fall) = and_parts _ (ranks_fall ranks 0 T) e in
+      let (named, range) = and_parts _ (every in_range T) others in
+      let (same, below) = and_parts (nat_eq (length T) (length ranks)) (every (names_below (length T)) T) named in
+      (same, below, range, fall)
+
   pub is_table-length : nat_eq (length T) (length ranks) ≡ true
-  is_table-length = (and_parts _ _ (and_parts _ (ranks_fall ranks 0 T) e).0).0
+  is_table-length = parts.0
 
   pub is_table-below : every (names_below (length T)) T ≡ true
-  is_table-below = (and_parts (nat_eq (length T) (length ranks)) _ (and_parts _ (ranks_fall ranks 0 T) e).0).1
+  is_table-below = parts.1
+
+  pub is_table-range : every in_range T ≡ true
+  is_table-range = parts.2
 
   pub is_table-fall : ranks_fall ranks 0 T ≡ true
-  is_table-fall = (and_parts _ (ranks_fall ranks 0 T) e).1
+  is_table-fall = parts.3
+
+  pub is_table-names : (p : ℕ) → AllByRecursion (λ q. q < length T) (in_place (position_at T p))
+      × AllByRecursion (λ q. q < length T) (of_parts (position_at T p))
+  is_table-names p =
+      position_at-all (λ P. AllByRecursion (λ q. q < length T) (in_place P)
+      × AllByRecursion (λ q. q < length T) (of_parts P)) (tt, tt) T
+      (all-weaker _ _ T (λ P h. names_below-all (length T) P h) (every-all _ T is_table-below)) p
 
   pub is_table-named : (p : ℕ) → AllByRecursion (λ q. q < length T) (in_place (position_at T p))
-  is_table-named p =
-      position_at-all (λ P. AllByRecursion (λ q. q < length T) (in_place P)) tt T
-      (all-weaker _ _ T (λ P h. names_below-all (length T) P h) (every-all _ T is_table-below)) p
+  is_table-named p = (is_table-names p).0
+
+  -- the numbers of each position have their ranges
+  pub is_table-in_range : (p : ℕ) → in_range (position_at T p) ≡ true
+  is_table-in_range p = position_at-all (λ P. in_range P ≡ true) refl T (every-all _ T is_table-range) p
 
   abbrev number : ℕ → ℕ
   number p = get_or ranks p 0
@@ -116,4 +142,5 @@ module _ (T : List Position) (ranks : List ℕ) (e : is_table T ranks ≡ true) 
     rank = rank_of;
     ranked = record { bounded = rank_of-bounded some; falls = rank_of-falls };
     named = is_table-named;
+    parts_named = λ p. (is_table-names p).1;
   }

@@ -1,3 +1,5 @@
--- What a reader must believe: what each kind of position asks of a document, and which lists are tables.
+-- What a reader must believe: what each kind of position asks of a document, which lists are tables, and what is asked
+-- of names.
 pub mod Position
 pub mod Holds
+pub mod NameFormula

@@ -1,0 +1,13 @@
+pub mod MakingLemmas
+pub mod MemberTests
+pub mod ItemTests
+pub mod ValueNodes
+pub mod Repeats
+pub mod EnumNodes
+pub mod KeywordNodes
+pub mod KeywordLaw
+pub mod NormalLaw
+pub mod Growth
+pub mod KeywordGrowth
+pub mod TableLaw
+pub mod Meaning
