@@ -6,6 +6,7 @@
 #![tactic(auto)]
 
 mod choice;
+mod copies;
 mod goal;
 mod lists;
 mod names;
