@@ -1,5 +1,6 @@
 pub mod Signs
 pub mod Firsts
+pub mod OneLaws
 pub mod Rules
 pub mod Steps
 pub mod Branches

@@ -16,6 +16,7 @@ use Rattle.goals.specs.Signed.{Signed, Plus, Minus, opposite, position_of, has, 
 use Rattle.goals.specs.Choices.{one_plus, two_plus, for_objects, plus_choices, minus_choices, choices}
 use Rattle.goals.specs.Choices.{is_elsewhere, plus_wrong, minus_wrong, is_wrong}
 use Rattle.goal_laws.proofs.Signs.{met-opposite, every-has}
+use Rattle.goal_laws.proofs.OneLaws.{one_plus-some, two_plus-some}
 
 not-not : (b : Bool) → b ≡ not (not b)
 not-not true = refl
@@ -46,50 +47,24 @@ module _ (here : ℕ → Bool) where
   single : (x : Signed) → some (every (met here)) ((x ∷ []) ∷ []) ≡ met here x
   single x = or-false (met here x && true) ∙ and-true (met here x)
 
-  -- one signed position in front of each choice is asked for once
-  some-put : (x : Signed) (cs : List (List Signed))
-      → some (every (met here)) (map (λ C. x ∷ C) cs) ≡ (met here x && some (every (met here)) cs)
-  some-put x [] = sym (and-false (met here x))
-  some-put x (C ∷ cs) =
-      ap (λ b. (met here x && every (met here) C) || b) (some-put x cs)
-      ∙ gather (met here x) (every (met here) C) (some (every (met here)) cs) where
-        gather : (a b c : Bool) → ((a && b) || (a && c)) ≡ (a && (b || c))
-        gather true b c = refl
-        gather false b c = refl
-
   -- one of the positions is the one that holds
   one_plus-met : (qs : List ℕ) → some (every (met here)) (one_plus qs) ≡ exactly_one here qs
   one_plus-met [] = refl
   one_plus-met (q ∷ qs) =
-      ap₂ (λ a b. (here q && a) || b) (all_minus qs)
-      (some-put (Minus q) (one_plus qs) ∙ ap (λ b. not (here q) && b) (one_plus-met qs))
+      one_plus-some (met here) q qs
+      ∙ ap₂ (λ a b. (here q && a) || (not (here q) && b)) (all_minus qs) (one_plus-met qs)
       ∙ either (here q) (not (some here qs)) (exactly_one here qs) where
         either : (a b c : Bool) → ((a && b) || (not a && c)) ≡ cond a b c
         either true true c = refl
         either true false c = refl
         either false b c = refl
 
-  two_plus-first : (q : ℕ) (rs : List ℕ)
-      → some (every (met here)) (map (λ r. Plus q ∷ Plus r ∷ []) rs) ≡ (here q && some here rs)
-  two_plus-first q rs = ap (some (every (met here))) (put-first rs)
-      ∙ some-put (Plus q) (map (λ r. Plus r ∷ []) rs) ∙ ap (λ b. here q && b) (each_plus rs) where
-        put-first : (rs : List ℕ)
-            → map (λ r. Plus q ∷ Plus r ∷ []) rs ≡ map (λ C. Plus q ∷ C) (map (λ r. Plus r ∷ []) rs)
-        put-first [] = refl
-        put-first (r ∷ rs) = ap (λ Cs. (Plus q ∷ Plus r ∷ []) ∷ Cs) (put-first rs)
-
-  two_plus-met : (q : ℕ) (qs : List ℕ) → some (every (met here)) (two_plus (q ∷ qs))
-      ≡ ((here q && some here qs) || some (every (met here)) (two_plus qs))
-  two_plus-met q qs =
-      some-append (every (met here)) (map (λ r. Plus q ∷ Plus r ∷ []) qs) (two_plus qs)
-      ∙ ap (λ b. b || some (every (met here)) (two_plus qs)) (two_plus-first q qs)
-
   -- two that hold are one that holds
-  two_plus-some : (qs : List ℕ) → some (every (met here)) (two_plus qs) ≡ true → some here qs ≡ true
-  two_plus-some [] e = e
-  two_plus-some (q ∷ qs) e =
-      go (here q) (some here qs) (some (every (met here)) (two_plus qs)) (two_plus-some qs)
-      (sym (two_plus-met q qs) ∙ e) where
+  two_plus-met : (qs : List ℕ) → some (every (met here)) (two_plus qs) ≡ true → some here qs ≡ true
+  two_plus-met [] e = e
+  two_plus-met (q ∷ qs) e =
+      go (here q) (some here qs) (some (every (met here)) (two_plus qs)) (two_plus-met qs)
+      (sym (two_plus-some (met here) q qs) ∙ e) where
         go : (a s two : Bool) → (two ≡ true → s ≡ true) → ((a && s) || two) ≡ true → (a || s) ≡ true
         go true s two f e = refl
         go false s two f e = f e
@@ -101,8 +76,8 @@ module _ (here : ℕ → Bool) where
         → (not (some here qs) || some (every (met here)) (two_plus qs)) ≡ not (exactly_one here qs)
     none_or_two [] = refl
     none_or_two (q ∷ qs) =
-        ap (λ b. not (here q || some here qs) || b) (two_plus-met q qs)
-        ∙ go (here q) (some here qs) (some (every (met here)) (two_plus qs)) (exactly_one here qs) (two_plus-some qs)
+        ap (λ b. not (here q || some here qs) || b) (two_plus-some (met here) q qs)
+        ∙ go (here q) (some here qs) (some (every (met here)) (two_plus qs)) (exactly_one here qs) (two_plus-met qs)
         (none_or_two qs) where
           go : (a s two one : Bool) → (two ≡ true → s ≡ true) → (not s || two) ≡ not one
               → (not (a || s) || ((a && s) || two)) ≡ not (cond a (not s) one)
@@ -191,7 +166,7 @@ module _ (Q : ℕ → Type 0) (t : Kind) where
     go Object = h
     go _ = k
 
-  plus_choices-names : (P : Position) → AllByRecursion Q (in_place P) → IfSome (plus_choices t P) AreNames
+  pub plus_choices-names : (P : Position) → AllByRecursion Q (in_place P) → IfSome (plus_choices t P) AreNames
   plus_choices-names True h = (tt, tt)
   plus_choices-names False h = tt
   plus_choices-names (Same q) h = ((h.0, tt), tt)
@@ -203,7 +178,7 @@ module _ (Q : ℕ → Type 0) (t : Kind) where
       for_objects-names ((Minus p ∷ []) ∷ (Plus q ∷ []) ∷ []) ([] ∷ []) ((h.0, tt), ((h.1.0, tt), tt)) (tt, tt)
   plus_choices-names _ h = tt
 
-  minus_choices-names : (P : Position) → AllByRecursion Q (in_place P) → IfSome (minus_choices t P) AreNames
+  pub minus_choices-names : (P : Position) → AllByRecursion Q (in_place P) → IfSome (minus_choices t P) AreNames
   minus_choices-names True h = tt
   minus_choices-names False h = (tt, tt)
   minus_choices-names (Same q) h = ((h.0, tt), tt)

@@ -5,3 +5,4 @@ pub mod Sets
 pub mod Sorting
 pub mod Closeness
 pub mod Contained
+pub mod Choosing

@@ -1,8 +1,9 @@
 -- What a table's nodes stand for, place by place.
-use Rattle.std.proofs.Common.{◌≡◌, ℕ, zero, suc, ◌<◌, List, [], ◌∷◌, map, get_or, length, true, Bool, ◌&&◌, nat_eq, arith, ap, sym}
+use Rattle.std.proofs.Common.{◌≡◌, ℕ, zero, suc, ◌<◌, List, [], ◌∷◌, map, get_or, length, true, Bool, arith, ap, sym}
 use Rattle.std.proofs.lemmas.Bool.{and_parts}
 use Rattle.documents.specs.Tests.{every}
-use Rattle.positions.specs.Position.{Position, position_at, names_below, is_table, ranks_fall}
+use Rattle.positions.specs.Position.{Position, position_at, names_below, is_table}
+use Rattle.position_laws.proofs.Tables.{is_table-below}
 use Rattle.js_algebra.specs.View.{node_view}
 use Rattle.js_algebra.specs.declared.node.Node.{Node}
 
@@ -21,12 +22,6 @@ every-position_at f (x ∷ T) zero l e = (and_parts (f x) (every f T) e).0
 every-position_at f (x ∷ T) (suc p) l e = every-position_at f T p (omega (arith, l)) (and_parts (f x) (every f T) e).1
 
 -- each position that is named is in the table
-pub table_names : (T : List Position) (ranks : List ℕ) → is_table T ranks ≡ true
-    → every (names_below (length T)) T ≡ true
-table_names T ranks e =
-    (and_parts (nat_eq (length T) (length ranks)) (every (names_below (length T)) T)
-    (and_parts (nat_eq (length T) (length ranks) && every (names_below (length T)) T) (ranks_fall ranks 0 T) e).0).1
-
 pub names_below-position_at : (T : List Position) (ranks : List ℕ) (p : ℕ) → is_table T ranks ≡ true → p < length T
     → names_below (length T) (position_at T p) ≡ true
-names_below-position_at T ranks p e l = every-position_at (names_below (length T)) T p l (table_names T ranks e)
+names_below-position_at T ranks p e l = every-position_at (names_below (length T)) T p l (is_table-below T ranks e)

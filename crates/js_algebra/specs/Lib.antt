@@ -4,3 +4,4 @@ pub mod View
 pub mod Order
 pub mod Rules
 pub mod Close
+pub mod TreeCode

@@ -97,6 +97,10 @@ impl Core {
         ensures in_table { IfSome result (λ y. is_in_table self.now.positions (signed_view y) ≡ true) }
     {
         match self.node(x.pos) {
+            Node::Same(q) => Some(Signed {
+                pos: *q,
+                plus: x.plus,
+            }),
             Node::Not(q) => Some(Signed {
                 pos: *q,
                 plus: !x.plus,

@@ -5,17 +5,22 @@
 //! they read. The search, the trees and the certificates stand on this crate.
 #![tactic(auto)]
 
+mod choice;
+mod copies;
 mod goal;
 mod lists;
+mod names;
 mod node;
 mod rules;
 mod signed;
 mod table;
 
+pub use choice::{Choice, Rule};
 pub use goal::{Goal, contains, form};
-pub use lists::{Choices, KindList, NodeList, PosList, RankList, SignedList};
+pub use lists::{Choices, KindList, NodeList, PatternList, PosList, RankList, SignedList};
+pub use names::{NameFormula, NameList, NameSet, Pattern};
 pub use node::{JsonKind, Node, Pos};
-pub use rules::{Rule, rule_choices};
+pub use rules::rule_choices;
 pub use signed::Signed;
 pub use table::Core;
 

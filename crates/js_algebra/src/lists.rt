@@ -2,6 +2,7 @@
 
 ghost use Rattle.std.specs.Prelude.{◌≡◌, map};
 
+use crate::names::Pattern;
 use crate::node::{JsonKind, Node, Pos};
 use crate::signed::Signed;
 use std::marker::Model;
@@ -86,9 +87,13 @@ pub struct NodeList {
 
 impl Model for NodeList {
     ghost use Rattle.std.specs.Prelude.{List};
+    ghost use Rattle.std.specs.Coded.{codes};
+    ghost use Rattle.js_pattern.specs.contracts.re.Re as re;
     ghost use Rattle.js_algebra.specs.declared.node.Node.{Node};
 
     ghost Value = { List Node };
+
+    ghost coded = { Prim.hlevel (codes, re.the_row.coded) };
 
     ghost view = { λ l. l.items.items };
 }
@@ -219,6 +224,46 @@ impl Choices {
     }
 
     pub fn as_slice(&self) -> &[SignedList]
+        ensures { result.now ≡ self.now }
+    {
+        self.items.as_slice()
+    }
+}
+
+/// A list of patterns.
+#[derive(Drop)]
+pub struct PatternList {
+    items: Vec<Pattern>,
+}
+
+impl Model for PatternList {
+    ghost use Rattle.std.specs.Prelude.{List};
+    ghost use Rattle.std.specs.Coded.{codes};
+    ghost use Rattle.js_pattern.specs.contracts.re.Re as re;
+    ghost use Rattle.js_algebra.specs.declared.names.Pattern.{Pattern};
+
+    ghost Value = { List Pattern };
+
+    ghost coded = { Prim.hlevel (codes, re.the_row.coded) };
+
+    ghost view = { λ l. l.items.items };
+}
+
+impl PatternList {
+    pub fn from_vec(items: Vec<Pattern>) -> PatternList
+        ensures { result ≡ items.items }
+    {
+        PatternList { items }
+    }
+
+    pub fn into_vec(self) -> Vec<Pattern>
+        ensures { result.items ≡ self }
+    {
+        let PatternList { items } = self;
+        items
+    }
+
+    pub fn as_slice(&self) -> &[Pattern]
         ensures { result.now ≡ self.now }
     {
         self.items.as_slice()

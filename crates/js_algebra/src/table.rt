@@ -15,9 +15,13 @@ pub struct Core {
 
 impl Model for Core {
     ghost use Rattle.std.specs.Prelude.{map};
+    ghost use Rattle.std.specs.Coded.{codes};
+    ghost use Rattle.js_algebra.specs.TreeCode.{tree_code};
     ghost use Rattle.js_algebra.specs.View.{Table, IsCore, node_view};
 
     ghost Value = { Table };
+
+    ghost coded = { Prim.hlevel (codes, tree_code) };
 
     ghost view = { λ c. record { positions = map node_view c.nodes; ranks = c.ranks } };
 

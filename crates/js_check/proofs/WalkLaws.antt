@@ -1,5 +1,5 @@
 -- What a walk has left, after a line and after its next set.
-use Rattle.std.proofs.Common.{◌≡◌, ℕ, ◌+◌, ◌<◌, ◌≤◌, Bool, true, false, ◌&&◌, cond, nat_le, List, [], ◌∷◌, ◌++◌, take, drop, length, reverse, Option, Some, None, option_map, refl, arith, ap, ap₂, sym, ◌∙◌, subst}
+use Rattle.std.proofs.Common.{is_none, ◌≡◌, ℕ, ◌+◌, ◌<◌, ◌≤◌, Bool, true, false, ◌&&◌, cond, nat_le, List, [], ◌∷◌, ◌++◌, take, drop, length, reverse, Option, Some, None, option_map, refl, arith, ap, ap₂, sym, ◌∙◌, subst}
 use Rattle.std.proofs.lemmas.Bool.{true≢false, and_parts, and_from, leb-true, le-leb}
 use Rattle.std.proofs.lemmas.List.{reverse-append, drop_more, take_all, take-take, length-take-le}
 use Rattle.std.proofs.Math.ListN.{drop_of_length-le}
@@ -15,7 +15,7 @@ use Rattle.certificates.specs.Good.{Duty, OfSet, after, by_rule, where_true}
 use Rattle.js_algebra.specs.View.{signed_view, is_in_table}
 use Rattle.js_algebra.specs.declared.signed.Signed.{Signed}
 use Rattle.js_check.specs.Growing.{set_of, with_members}
-use Rattle.js_check.specs.Walking.{choices_of, choice_at, choice_duties, duties_left, are_fine, is_none}
+use Rattle.js_check.specs.Walking.{choices_of, choice_at, choice_duties, duties_left, are_fine}
 use Rattle.js_check.specs.declared.walk.Pending.{Pending}
 use Rattle.js_check.proofs.GrowingLaws.{has-set_of, set-with_members, length-with_members, take-with_members}
 

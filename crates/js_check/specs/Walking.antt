@@ -58,7 +58,3 @@ Settles T t l old new ok =
 abbrev pub Advances : List Position → Kind → Walk → Walk → Bool → Type 0
 Advances T t old new more =
     duties_after T t old ≡ cond more (OfSet t (set_of new.set.members) ∷ duties_after T t new) []
-
-abbrev pub is_none : {A : Type 0} → Option A → Bool
-is_none None = true
-is_none (Some x) = false

@@ -7,11 +7,12 @@
 ghost use Rattle.std.specs.Prelude.{◌≡◌, ◌<◌, [], map, take, length, true, nat_lt, IfOk, OnOk};
 ghost use Rattle.documents.specs.Tests.{every};
 ghost use Rattle.goals.specs.Signed.{has};
-ghost use Rattle.js_algebra.specs.View.{signed_view, with_sign, places};
+ghost use Rattle.js_algebra.specs.View.{signed_view};
+ghost use Rattle.js_algebra.specs.Rules.{choice_view};
 ghost use Rattle.js_algebra.specs.Order.{order_of};
 ghost use Rattle.js_check.specs.Growing.{with_member, with_members};
 
-use js_algebra::{Pos, Signed};
+use js_algebra::{Choice, Signed};
 use js_doc::Memory;
 use std::alloc::Global;
 use std::marker::Model;
@@ -92,15 +93,14 @@ impl GrowingSet {
         Ok(())
     }
 
-    /// Adds each of the positions with one sign.
-    pub fn add_each(&mut self, positions: &[Pos], plus: bool) -> Result<(), Memory>
-        requires { every (λ x. nat_lt (order_of x) self.old.room) (map (with_sign plus) (places positions.now)) ≡ true }
-        ensures members { OnOk result (self.new.members ≡ with_members
-            (map (with_sign plus) (places positions.now)) self.old.members) }
+    /// Adds each of a choice.
+    pub fn add_each(&mut self, choice: Choice<'_>) -> Result<(), Memory>
+        requires { every (λ x. nat_lt (order_of x) self.old.room) (choice_view choice) ≡ true }
+        ensures members { OnOk result (self.new.members ≡ with_members (choice_view choice.entry) self.old.members) }
         ensures room { self.new.room ≡ self.old.room }
     {
-        for p in positions {
-            self.add(Signed { pos: *p, plus })?;
+        for k in 0..choice.len() {
+            self.add(choice.at(k))?;
         }
         Ok(())
     }

@@ -2,16 +2,16 @@
 //! dead, each as its number in a rule and the members of the walk that it is added to. So sets share what they have in
 //! common, and a line costs what it adds.
 
-ghost use Rattle.std.specs.Prelude.{◌≡◌, ◌<◌, ◌*◌, [], length, true, IfOk, OnOk};
+ghost use Rattle.std.specs.Prelude.{◌≡◌, ◌<◌, ◌*◌, [], length, true, IfOk, OnOk, is_none};
 ghost use Rattle.goals.specs.Choices.{choices};
 ghost use Rattle.certificates.specs.Line as L;
 ghost use Rattle.js_algebra.specs.View.{signed_view, kind_view, is_in_table, are_in_table};
 ghost use Rattle.js_cert.specs.View.{line_view};
 ghost use Rattle.js_check.specs.Growing.{set_of, with_members};
-ghost use Rattle.js_check.specs.Walking.{IsReady, Settles, Advances, choices_of, choice_at, is_none};
+ghost use Rattle.js_check.specs.Walking.{IsReady, Settles, Advances, choices_of, choice_at};
 
 use crate::growing::GrowingSet;
-use js_algebra::{Core, Goal, JsonKind, Rule, Signed};
+use js_algebra::{Core, Goal, JsonKind, Signed};
 use js_cert::CertLine;
 use js_doc::Memory;
 use std::alloc::Global;
@@ -21,7 +21,7 @@ use std::alloc::Global;
 pub struct Pending {
     pub members: usize,
     pub rule: Signed,
-    pub next: usize,
+    pub next: u128,
 }
 
 /// The set at hand, and what is still to be shown dead after it, the next rule last.
@@ -118,7 +118,7 @@ impl Walk {
         core: &Core,
         kind: JsonKind,
         rule: Signed,
-        index: usize,
+        index: u128,
     ) -> Result<(), Memory>
         requires in_table { is_in_table core.now.positions (signed_view rule) ≡ true }
         requires room { self.old.set.room ≡ 2 * length core.now.positions }
@@ -130,14 +130,7 @@ impl Walk {
         ensures room { self.new.set.room ≡ self.old.set.room }
         ensures pending { self.new.pending ≡ self.old.pending }
     {
-        match core.rule(rule, kind) {
-            Rule::Literal => Ok(()),
-            Rule::Together(positions, plus) => self.set.add_each(positions, plus),
-            Rule::Apart(positions, plus) => self.set.add(Signed {
-                pos: positions[index],
-                plus,
-            }),
-        }
+        self.set.add_each(core.rule(rule, kind).choice(index))
     }
 }
 
@@ -145,17 +138,13 @@ fn is_literal(core: &Core, kind: JsonKind, x: Signed) -> bool
     requires { is_in_table core.now.positions (signed_view x) ≡ true }
     ensures { result ≡ is_none (choices core.now.positions (kind_view kind) (signed_view x)) }
 {
-    matches!(core.rule(x, kind), Rule::Literal)
+    core.rule(x, kind).is_literal()
 }
 
 /// How many choices a rule has; a literal has none.
-fn choice_count(core: &Core, kind: JsonKind, x: Signed) -> usize
+fn choice_count(core: &Core, kind: JsonKind, x: Signed) -> u128
     requires { is_in_table core.now.positions (signed_view x) ≡ true }
     ensures { result ≡ length (choices_of core.now.positions (kind_view kind) (signed_view x)) }
 {
-    match core.rule(x, kind) {
-        Rule::Literal => 0,
-        Rule::Together(_, _) => 1,
-        Rule::Apart(positions, _) => positions.len(),
-    }
+    core.rule(x, kind).count()
 }

@@ -1,8 +1,9 @@
 //! Lists that contracts see as lists. Each is made of a `Vec` and gives it back without taking memory.
 
-ghost use Rattle.std.specs.Prelude.{◌≡◌};
+ghost use Rattle.std.specs.Prelude.{◌≡◌, IfOk};
 
-use crate::text::Str;
+use crate::text::{Memory, Str};
+use std::alloc::Global;
 use std::marker::Model;
 
 /// A list of texts.
@@ -31,6 +32,17 @@ impl StrList {
     {
         let StrList { items } = self;
         items
+    }
+
+    /// A copy, which takes memory of its own.
+    pub fn copy(&self, alloc: Global) -> Result<StrList, Memory>
+        ensures { IfOk result (λ l. l ≡ self.now) }
+    {
+        let mut items = Vec::with_capacity(alloc, self.items.len())?;
+        for text in &self.items {
+            items.push(text.copy(alloc)?)?;
+        }
+        Ok(StrList { items })
     }
 
     pub fn as_slice(&self) -> &[Str]

@@ -47,6 +47,16 @@ impl NumList {
         items
     }
 
+    /// A copy, which takes memory of its own.
+    pub fn copy(&self) -> Result<NumList, Memory>
+        ensures { IfOk result (λ l. l ≡ self.now) }
+    {
+        Ok(NumList {
+            items: self.items.clone()?,
+            sorted: self.sorted.clone()?,
+        })
+    }
+
     pub fn as_slice(&self) -> &[i128]
         ensures { result.now ≡ self.now }
     {

@@ -1,6 +1,7 @@
 pub mod PlacesLaws
 pub mod TableLaws
 pub mod Meaning
+pub mod Plain
 pub mod Ranks
 pub mod WordsLemmas
 pub mod Views

@@ -2,18 +2,21 @@
 -- later entries.
 use Rattle.std.proofs.Common.{◌≡◌, ℕ, zero, suc, ◌+◌, ◌*◌, ◌-◌, ◌<◌, ◌≤◌, List, [], ◌∷◌, ◌++◌, map, flat_map, length, get_or, true, false, Option, Some, None, refl, sym, ap, ap₂, subst, ◌∙◌, append_assoc, length-append, arith, codes}
 use Rattle.std.specs.List.{AllByRecursion}
-use Rattle.std.proofs.lemmas.Bool.{and_from, lt-ltb, eq-eqb}
+use Rattle.std.proofs.lemmas.Bool.{and_from, and_parts, lt-ltb, eq-eqb}
 use Rattle.std.proofs.lemmas.List.{length-map}
 use Rattle.documents.specs.Tests.{every}
 use Rattle.documents.specs.Json.{Json, object, Members, lookup, count}
 use Rattle.validity.specs.Validity.{listed}
-use Rattle.positions.specs.Position.{Position, in_place, names_below, ranks_fall, is_table}
+use Rattle.positions.specs.Position.{Position, in_place, names_below, in_range, ranks_fall, is_table}
 use Rattle.positions.specs.Holds.{IsTable}
-use Rattle.position_laws.proofs.Lists.{all-weaker, all-append, all-every}
+use Rattle.position_laws.proofs.Lists.{all-weaker, all-append, all-every, every-all}
+use Rattle.position_laws.specs.Plain.{is_untyped, is_plain}
+use Rattle.position_laws.proofs.Plainness.{is_untyped-below, is_untyped-in_range}
 use Rattle.position_laws.proofs.Tables.{is_table-IsTable}
 use Rattle.js_forms.specs.Places.{sub_schemas}
 use Rattle.js_forms.specs.Table.{Entry, Constant, Keywords, schemas, values, numbers, after, types_node, all_node, any_node, not_node, keyword_nodes, entry_of, entries_from, nodes_of, count_up, entry_position, entry_positions, laid_out, table_of, entry_ranks, node_ranks, ranks_of}
 use Rattle.js_forms.proofs.PlacesLaws.{count-positive, values-count, whole-count, schemas-step, schemas-object, inner, whole}
+use Rattle.js_forms.proofs.Plain.{are_plain, entries_from-plain, laid_out-plain}
 use Rattle.js_forms.proofs.TableLaws.{after-length, length-entry_positions, length-entries_from}
 
 -- each number that a position names lies between e and n
@@ -258,12 +261,15 @@ nodes-good l n R b entry A (x ∷ xs) e f r k m h =
     (r ∙ sym (append_assoc A N (node_ranks xs)))
     (omega (arith, k, same, length-append A N)) (omega (arith, m)) h.1)
 
-good-below : (l : ℕ) (R : List ℕ) (p : ℕ) (Ps : List Position) → Good l R p Ps
+good-below : (l : ℕ) (R : List ℕ) (p : ℕ) (Ps : List Position) → is_plain Ps ≡ true → Good l R p Ps
     → every (names_below l) Ps ≡ true
-good-below l R p [] h = refl
-good-below l R p (P ∷ Ps) h =
-    and_from _ _ (all-every _ (in_place P) (all-weaker _ _ (in_place P) (λ q g. lt-ltb q l g.0) h.0))
-    (good-below l R (suc p) Ps h.1)
+good-below l R p [] e h = refl
+good-below l R p (P ∷ Ps) e h =
+    let (untyped, others) = and_parts (is_untyped P) (is_plain Ps) e in
+    and_from _ _
+    (is_untyped-below l P untyped
+    (all-every _ (in_place P) (all-weaker _ _ (in_place P) (λ q g. lt-ltb q l g.0) h.0)))
+    (good-below l R (suc p) Ps others h.1)
 
 good-falls : (l : ℕ) (R : List ℕ) (p : ℕ) (Ps : List Position) → Good l R p Ps → ranks_fall R p Ps ≡ true
 good-falls l R p [] h = refl
@@ -276,9 +282,9 @@ length-laid_out xs =
     length-append (entry_positions (length xs) xs) (flat_map nodes_of xs)
     ∙ ap (λ n. n + length (flat_map nodes_of xs)) (length-entry_positions (length xs) xs)
 
-pub laid_out-table : (xs : List Entry) → NamesLater (length xs) 0 xs
+pub laid_out-table : (xs : List Entry) → are_plain xs → NamesLater (length xs) 0 xs
     → is_table (laid_out xs) (entry_ranks xs ++ node_ranks xs) ≡ true
-laid_out-table xs h =
+laid_out-table xs plain h =
     let l = length (laid_out xs) in
     let R = entry_ranks xs ++ node_ranks xs in
     let many = length-laid_out xs in
@@ -297,11 +303,17 @@ laid_out-table xs h =
       length-entry_ranks xs,
       length-node_ranks xs,
     ) in
-    and_from _ _ (and_from _ _ (eq-eqb _ _ same) (good-below l R 0 (laid_out xs) good))
+    let untyped = laid_out-plain xs plain in
+    let in_ranges : every in_range (laid_out xs) ≡ true =
+    all-every in_range (laid_out xs)
+    (all-weaker _ _ (laid_out xs) is_untyped-in_range (every-all is_untyped (laid_out xs) untyped)) in
+    and_from _ _
+    (and_from _ _ (and_from _ _ (eq-eqb _ _ same) (good-below l R 0 (laid_out xs) untyped good)) in_ranges)
     (good-falls l R 0 (laid_out xs) good)
 
 pub is_table-table_of : (R : Json) → is_table (table_of R) (ranks_of R) ≡ true
-is_table-table_of R = laid_out-table (entries_from 0 (schemas R)) (table-later R)
+is_table-table_of R =
+    laid_out-table (entries_from 0 (schemas R)) (entries_from-plain 0 (schemas R)) (table-later R)
 
 pub IsTable-table_of : (R : Json) → IsTable (table_of R)
 IsTable-table_of R =

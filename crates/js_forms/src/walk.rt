@@ -38,9 +38,13 @@ pub(crate) struct Walk {
 
 impl Model for Walk {
     ghost use Rattle.std.specs.Prelude.{◌≤◌, map, length};
+    ghost use Rattle.std.specs.Coded.{codes};
+    ghost use Rattle.js_algebra.specs.TreeCode.{tree_code};
     ghost use Rattle.js_forms.specs.Walk.{State, entry_view};
 
     ghost Value = { State };
+
+    ghost coded = { Prim.hlevel (codes, tree_code) };
 
     ghost view = { λ w. record { pointer = w.pointer; weight = w.weight; entries = map entry_view w.entries.items } };
 

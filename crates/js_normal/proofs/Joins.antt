@@ -1,9 +1,10 @@
 -- The table that is built one node at a time is the joined one.
 use Rattle.std.proofs.Common.{◌≡◌, ℕ, zero, suc, ◌+◌, ◌<◌, ◌^◌, List, [], ◌∷◌, ◌++◌, map, take, length, get_or, Bool, true, false, ◌&&◌, nat_lt, nat_eq, refl, ap, ap₂, sym, ◌∙◌, subst, arith, append_assoc}
+use Rattle.std.proofs.Math.Path.{fun_ext}
 use Rattle.std.proofs.lemmas.Bool.{and_parts, and_from, ltb-true, lt-ltb, eqb-true}
 use Rattle.std.proofs.lemmas.List.{map-append, take_more, take_all}
 use Rattle.documents.specs.Tests.{every}
-use Rattle.positions.specs.Position.{Position, True, False, Not, All, Any, Types, position_at, in_place, names_below, is_table}
+use Rattle.positions.specs.Position.{Position, True, False, Not, All, Any, Types, position_at, in_place, of_parts, names_below, is_table}
 use Rattle.position_laws.specs.Join.{renamed, moved, joined}
 use Rattle.position_laws.proofs.Joined.{renamed-itself, is_table-joined}
 use Rattle.position_laws.proofs.Tables.{is_table-length}
@@ -18,8 +19,10 @@ every-room by n room (q ∷ qs) e =
 
 -- what a node of a table names can be moved up where the whole table can
 pub names_below-room : (by n : ℕ) (P : Position) → by + n < 4294967296 → names_below n P ≡ true
-    → every (has_room by) (in_place P) ≡ true
-names_below-room by n P room e = every-room by n room (in_place P) e
+    → (every (has_room by) (in_place P) ≡ true) × (every (has_room by) (of_parts P) ≡ true)
+names_below-room by n P room e =
+    let (here, parts) = and_parts (every (λ q. nat_lt q n) (in_place P)) (every (λ q. nat_lt q n) (of_parts P)) e in
+    (every-room by n room (in_place P) here, every-room by n room (of_parts P) parts)
 
 pub take-position : (T : List Position) (i : ℕ) → i < length T → take (i + 1) T ≡ take i T ++ position_at T i ∷ []
 take-position [] i l = absurd (omega arith)
@@ -50,17 +53,9 @@ pub ranks-length : (T : List Position) (ranks : List ℕ) → is_table T ranks �
 ranks-length T ranks e = eqb-true _ _ (is_table-length T ranks e)
 
 -- nothing is moved by no place
-numbers-itself : (qs : List ℕ) → map (λ q. 0 + q) qs ≡ qs
-numbers-itself [] = refl
-numbers-itself (q ∷ qs) = let same : 0 + q ≡ q = omega arith in ap₂ (λ x xs. x ∷ xs) same (numbers-itself qs)
-
 moved-itself : (P : Position) → moved 0 P ≡ P
-moved-itself True = refl
-moved-itself False = refl
-moved-itself (Not q) = let same : 0 + q ≡ q = omega arith in ap Not same
-moved-itself (All qs) = ap All (numbers-itself qs)
-moved-itself (Any qs) = ap Any (numbers-itself qs)
-moved-itself (Types ts) = refl
+moved-itself P =
+    ap (λ (f : ℕ → ℕ). renamed f P) (fun_ext (λ q. let same : 0 + q ≡ q = omega arith in same)) ∙ renamed-itself P
 
 map-itself : (T : List Position) → map (moved 0) T ≡ T
 map-itself [] = refl

@@ -6,12 +6,12 @@
 
 ghost use Rattle.std.specs.Prelude.{true, ◌≡◌, ◌+◌, ◌^◌, ◌<◌, ◌++◌, IfOk, length, map};
 ghost use Rattle.position_laws.specs.Join.{joined, moved};
-ghost use Rattle.positions.specs.Position.{in_place};
+ghost use Rattle.positions.specs.Position.{in_place, of_parts};
 ghost use Rattle.documents.specs.Tests.{every};
 ghost use Rattle.js_normal.specs.Room.{has_room};
 ghost use Rattle.js_algebra.specs.View.{node_view, places};
 
-use js_algebra::{Core, KindList, Node, NodeList, Pos, PosList, RankList};
+use js_algebra::{Core, Node, NodeList, Pos, PosList, RankList};
 use js_doc::Memory;
 use std::alloc::Global;
 
@@ -51,17 +51,37 @@ fn append(
 }
 
 fn moved_node(alloc: Global, node: &Node, by: u32) -> Result<Node, Memory>
-    requires { every (has_room by) (in_place (node_view node.now)) ≡ true }
+    requires in_place { every (has_room by) (in_place (node_view node.now)) ≡ true }
+    requires of_parts { every (has_room by) (of_parts (node_view node.now)) ≡ true }
     ensures { IfOk result (λ r. node_view r ≡ moved by (node_view node.now)) }
 {
-    Ok(match node {
-        Node::True => Node::True,
-        Node::False => Node::False,
-        Node::Not(p) => Node::Not(Pos(p.0 + by)),
-        Node::All(ps) => Node::All(moved_list(alloc, ps, by)?),
-        Node::Any(ps) => Node::Any(moved_list(alloc, ps, by)?),
-        Node::Types(kinds) => Node::Types(KindList::from_vec(kinds.as_slice().to_vec(alloc)?)),
-    })
+    match node {
+        Node::Same(p) => Ok(Node::Same(moved_pos(*p, by))),
+        Node::Not(p) => Ok(Node::Not(moved_pos(*p, by))),
+        Node::All(ps) => Ok(Node::All(moved_list(alloc, ps, by)?)),
+        Node::Any(ps) => Ok(Node::Any(moved_list(alloc, ps, by)?)),
+        Node::One(ps) => Ok(Node::One(moved_list(alloc, ps, by)?)),
+        Node::Depends(h, p) => Ok(Node::Depends(moved_pos(*h, by), moved_pos(*p, by))),
+        Node::Items(ps, rest) => {
+            let prefix = moved_list(alloc, ps, by)?;
+            Ok(Node::Items(prefix, moved_pos(*rest, by)))
+        }
+        Node::Contains(p) => Ok(Node::Contains(moved_pos(*p, by))),
+        Node::MembersOf(names, p) => {
+            let names = names.copy(alloc)?;
+            Ok(Node::MembersOf(names, moved_pos(*p, by)))
+        }
+        Node::NamesIn(p) => Ok(Node::NamesIn(moved_pos(*p, by))),
+        // the others name no position
+        node => node.copy(alloc),
+    }
+}
+
+fn moved_pos(p: Pos, by: u32) -> Pos
+    requires { has_room by p.0 ≡ true }
+    ensures { result.0 ≡ by + p.0 }
+{
+    Pos(by + p.0)
 }
 
 fn moved_list(alloc: Global, list: &PosList, by: u32) -> Result<PosList, Memory>
@@ -70,7 +90,7 @@ fn moved_list(alloc: Global, list: &PosList, by: u32) -> Result<PosList, Memory>
 {
     let mut moved = Vec::with_capacity(alloc, list.as_slice().len())?;
     for p in list.as_slice() {
-        moved.push(Pos(p.0 + by))?;
+        moved.push(moved_pos(*p, by))?;
     }
     Ok(PosList::from_vec(moved))
 }

@@ -6,3 +6,4 @@ pub mod Nexts
 pub mod Unfolded
 pub mod Telling
 pub mod Remaining
+pub mod Having

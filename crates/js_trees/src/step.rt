@@ -6,7 +6,7 @@
 ghost use Rattle.std.specs.Prelude.{◌≡◌, ◌<◌, ◌≤◌, ◌*◌, ◌++◌, ◌&&◌, ℕ, List, [], ◌∷◌, map, take, drop, length, IfOk, OnOk, true, false, Option, Some, None, option_map, not, cond};
 ghost use Rattle.documents.specs.Tests.{every, some};
 ghost use Rattle.goals.specs.Signed.{has, opposite};
-ghost use Rattle.goals.specs.Choices.{choices, is_wrong};
+ghost use Rattle.goals.specs.Choices.{choices, is_wrong, one_plus, two_plus};
 ghost use Rattle.goals.specs.Tree.{next, choice_list, has_choice};
 ghost use Rattle.js_algebra.specs.View.{signed_view, kind_view, with_sign, places, is_in_table, are_in_table};
 ghost use Rattle.js_trees.specs.Trails.{set_of};
@@ -124,6 +124,12 @@ impl Walk {
             Rule::Literal => true,
             Rule::Together(positions, plus) => self.has_all(positions, plus),
             Rule::Apart(positions, plus) => self.has_any(positions, plus),
+            Rule::ExactlyOne(positions) => self.has_one(positions),
+            Rule::NotExactlyOne(positions) => {
+                self.has_all(positions, false) || self.has_two(positions)
+            }
+            Rule::Both(a, b) => self.trail.has(a) && self.trail.has(b),
+            Rule::Either(a, b) => self.trail.has(a) || self.trail.has(b),
         }
     }
 
@@ -149,6 +155,35 @@ impl Walk {
         }
         false
     }
+
+    /// Whether one of the positions is in the set with plus and each other one with minus.
+    fn has_one(&self, positions: &[Pos]) -> bool
+        ensures { result ≡ some (λ C. every (λ x. has x self.now.trail.members) C) (one_plus (places positions.now)) }
+    {
+        let mut none_yet = true;
+        let mut one = false;
+        for p in positions {
+            let is_in = self.trail.has(Signed::plus(*p));
+            let is_out = self.trail.has(Signed::minus(*p));
+            one = (one & is_out) | (none_yet & is_in);
+            none_yet &= is_out;
+        }
+        one
+    }
+
+    /// Whether two of the positions are in the set with plus.
+    fn has_two(&self, positions: &[Pos]) -> bool
+        ensures { result ≡ some (λ C. every (λ x. has x self.now.trail.members) C) (two_plus (places positions.now)) }
+    {
+        let mut one = false;
+        let mut two = false;
+        for p in positions {
+            let is_in = self.trail.has(Signed::plus(*p));
+            two |= one & is_in;
+            one |= is_in;
+        }
+        two
+    }
 }
 
 /// The lesser of what was found and `x`, where `x` passes.
@@ -164,13 +199,9 @@ fn better(passes: bool, best: Option<Signed>, x: Signed) -> Option<Signed>
     }
 }
 
-fn choice_count(core: &Core, kind: JsonKind, x: Signed) -> usize
+fn choice_count(core: &Core, kind: JsonKind, x: Signed) -> u128
     requires { is_in_table core.now.positions (signed_view x) ≡ true }
     ensures { result ≡ length (choice_list (choices core.now.positions (kind_view kind) (signed_view x))) }
 {
-    match core.rule(x, kind) {
-        Rule::Literal => 0,
-        Rule::Together(_, _) => 1,
-        Rule::Apart(positions, _) => positions.len(),
-    }
+    core.rule(x, kind).count()
 }

@@ -52,7 +52,7 @@ pub fn line(step: &Step) -> Option<CertLine>
     }
 }
 
-pub fn choice_count(step: &Step) -> usize
+pub fn choice_count(step: &Step) -> u128
     ensures { result ≡ choice_count step.now }
 {
     match step {

@@ -93,11 +93,17 @@ fn visit(
     let step = walk.next_step(core, kind, from)?;
     found.tell(is_end(&step), line(&step))?;
     let more = choice_count(&step);
-    if more > MOST_ENDS || found.ends + pending.len() + more > MOST_ENDS {
+    if more > MOST_ENDS as u128 || found.ends + pending.len() + more as usize > MOST_ENDS {
         return Ok(true);
     }
     if let Step::Rule(rule, count) = step {
-        add_choices(pending, walk.trail.len(), walk.settled.len(), rule, count)?;
+        add_choices(
+            pending,
+            walk.trail.len(),
+            walk.settled.len(),
+            rule,
+            count as usize,
+        )?;
     }
     Ok(false)
 }

@@ -9,14 +9,15 @@ ghost use Rattle.goals.specs.Signed.{has, opposite};
 ghost use Rattle.goals.specs.Choices.{choices, is_wrong};
 ghost use Rattle.positions.specs.Position.{is_table};
 ghost use Rattle.goals.specs.Tree.{next, choice_list, has_choice};
-ghost use Rattle.js_algebra.specs.View.{signed_view, kind_view, with_sign, places, is_in_table, are_in_table};
+ghost use Rattle.js_algebra.specs.View.{signed_view, kind_view, is_in_table, are_in_table};
+ghost use Rattle.js_algebra.specs.Rules.{choice_view};
 ghost use Rattle.js_algebra.specs.Order.{order_of};
 ghost use Rattle.js_trees.specs.Trails.{with_member, with_members, set_of};
 ghost use Rattle.js_trees.specs.Walks.{IsCovered, is_clean, are_settled, are_settled_but, step_view, IsLeast, is_clash, Follows, Keeps};
 
 use crate::trail::Trail;
 use crate::waiting::Waiting;
-use js_algebra::{Core, JsonKind, Pos, Rule, Signed};
+use js_algebra::{Choice, Core, JsonKind, Signed};
 use js_doc::Memory;
 use std::alloc::Global;
 
@@ -26,7 +27,7 @@ pub enum Step {
     /// Its position has both signs.
     Clash(Signed),
     Wrong(Signed),
-    Rule(Signed, usize),
+    Rule(Signed, u128),
     Saturated,
 }
 
@@ -78,15 +79,15 @@ impl Walk {
         Ok(())
     }
 
-    fn add_each(&mut self, positions: &[Pos], plus: bool) -> Result<(), Memory>
-        requires { every (λ x. nat_lt (order_of x) self.old.trail.room)
-            (map (with_sign plus) (places positions.now)) ≡ true }
-        ensures members { OnOk result (self.new.trail.members ≡ with_members
-            (map (with_sign plus) (places positions.now)) self.old.trail.members) }
+    /// Adds each of a choice to the set.
+    fn add_each(&mut self, choice: Choice<'_>) -> Result<(), Memory>
+        requires { every (λ x. nat_lt (order_of x) self.old.trail.room) (choice_view choice) ≡ true }
+        ensures members { OnOk result (self.new.trail.members ≡ with_members (choice_view choice.entry)
+            self.old.trail.members) }
         ensures kept { OnOk result (Keeps self.old self.new) }
     {
-        for p in positions {
-            self.add(Signed { pos: *p, plus })?;
+        for k in 0..choice.len() {
+            self.add(choice.at(k))?;
         }
         Ok(())
     }
@@ -109,14 +110,7 @@ impl Walk {
             (get_or (choice_list (choices core.now.positions (kind_view kind) (signed_view x))) index []) ≡ true }
         ensures kept { OnOk result (Keeps self.old self.new) }
     {
-        match core.rule(x, kind) {
-            Rule::Literal => Ok(()),
-            Rule::Together(positions, plus) => self.add_each(positions, plus),
-            Rule::Apart(positions, plus) => self.add_all(&[Signed {
-                pos: positions[index],
-                plus,
-            }]),
-        }
+        self.add_each(core.rule(x, kind).choice(index as u128))
     }
 
     /// Forgets what came after the first `members` members, and what was seen to be settled after the first `settled`.

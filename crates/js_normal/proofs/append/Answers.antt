@@ -7,8 +7,9 @@ use Rattle.js_normal.proofs.append.Goals as goal
 
 pub moved_node-requires : goal.moved_node-requires
 moved_node-requires c =
-    names_below-room c.args.by (length c.args.core.now.positions)
-    (node_view c.node.result.now) c.requires c.node.ensures.named
+    let (here, parts) = names_below-room c.args.by (length c.args.core.now.positions) (node_view c.node.result.now)
+    c.requires c.node.ensures.named in
+    record { in_place = here; of_parts = parts }
 
 pub loop-i-preserved : goal.loop-i-preserved
 loop-i-preserved c =

@@ -9,10 +9,10 @@ use Rattle.js_trees.specs.Progress.{AreFine, entries, one_more, is_none, with_li
 use Rattle.js_trees.proofs.Settling.{member_in_table}
 use Rattle.js_trees.proofs.Remaining.{matches, visits, over, left-rule, left-end, fine-entries, fine-same, fewer-entries, extends-take}
 use Rattle.js_trees.proofs.visits.visit.Goals as goal
-use Rattle.js_trees.proofs.visits.visit.Goals.{then-more-gt-MOST_ENDS-via-then-more-gt-MOST_ENDS, then-more-gt-MOST_ENDS-via-else-more-gt-MOST_ENDS+then-found-len-gt-MOST_ENDS}
+use Rattle.js_trees.proofs.visits.visit.Goals.{then-more-via-then-more, then-more-via-else-more+then-found-len-gt-MOST_ENDS}
 
-pub returns-then-more-gt-MOST_ENDS-clause-over : goal.returns-then-more-gt-MOST_ENDS-clause-over
-returns-then-more-gt-MOST_ENDS-clause-over c =
+pub returns-then-more-clause-over : goal.returns-then-more-clause-over
+returns-then-more-clause-over c =
     over c.args.core.now.positions (kind_view c.args.kind) c.args.core.now.ranks c.requires.table
     c.args.walk.now.trail.members c.args.walk.now.settled.items
     c.in_ok-step.step c.args.pending.now.items c.args.found.now.ends c.tell.new.self.ends c.requires.stands.in_table
@@ -20,10 +20,10 @@ returns-then-more-gt-MOST_ENDS-clause-over c =
     (map signed_view c.next_step.new.self.settled.items)
     c.in_ok-step.step c.in_ok-step.ensures.step c.in_ok-step.ensures.follows)
     c.requires.stands.fine (c.in_ok-tell.ensures.ends ∙ ap (λ b. one_more b c.args.found.now.ends) c.is_end.ensures)
-    (elim c.then-more-gt-MOST_ENDS.branch [
-      | then-more-gt-MOST_ENDS-via-then-more-gt-MOST_ENDS w ↦ omega
-          (arith, w.if-more-gt-MOST_ENDS.true, c.choice_count-more.ensures)
-      | then-more-gt-MOST_ENDS-via-else-more-gt-MOST_ENDS+then-found-len-gt-MOST_ENDS w ↦
+    (elim c.then-more.branch [
+      | then-more-via-then-more w ↦ omega
+          (arith, w.if-more.true, c.choice_count-more.ensures)
+      | then-more-via-else-more+then-found-len-gt-MOST_ENDS w ↦
           omega (arith, w.if-found-len-gt-MOST_ENDS.true, w.len.ensures, c.choice_count-more.ensures)
     ])
 
