@@ -1,9 +1,11 @@
 -- The in-place edges of a table, entry by entry.
-use Rattle.std.proofs.Common.{◌≡◌, ℕ, zero, suc, ◌+◌, ◌<◌, ◌≤◌, List, [], ◌∷◌, ◌++◌, map, length, get_or, take, sym, ap, ap₂, ◌∙◌, arith}
+use Rattle.std.proofs.Common.{◌≡◌, ℕ, zero, suc, ◌+◌, ◌<◌, ◌≤◌, List, [], ◌∷◌, ◌++◌, map, length, get_or, take, true, sym, ap, ap₂, ◌∙◌, arith}
 use Rattle.std.proofs.lemmas.List.{take_more, take_all}
 use Rattle.schemas.specs.Entry.{Form, Entry}
-use Rattle.schemas.specs.Schema.{in_place}
+use Rattle.schemas.specs.Schema.{in_place, is_table}
 use Rattle.schemas.specs.Guarded.{edges, targets}
+use Rattle.schema_laws.proofs.Ranks.{edges-below}
+use Rattle.js_guard.specs.Rows.{AreClosed}
 
 edges-at : (es : List Entry) (x : ℕ) (f : Form) → x < length es → f ≡ get_or (map (λ e. e.form) es) x f
     → targets (edges es) x ≡ in_place f
@@ -26,3 +28,7 @@ edges-more es x f row g l h r e =
 -- all of them
 pub edges-all : (es : List Entry) (x : ℕ) (g : List (List ℕ)) → length es ≤ x → g ≡ take x (edges es) → g ≡ edges es
 edges-all es x g l e = e ∙ take_all x (edges es) (omega (arith, edges-length es))
+
+-- the edges of a table lead to its entries
+pub edges-closed : (es : List Entry) → is_table es ≡ true → AreClosed (edges es)
+edges-closed es h x y k = let inside = edges-below es h x y k in omega (arith, edges-length es)

@@ -9,3 +9,8 @@ pub mod Leaving
 pub mod Closing
 pub mod Stepping
 pub mod Resting
+pub mod Linking
+pub mod Reaching
+pub mod Reached
+pub mod NearestLemmas
+pub mod Walking

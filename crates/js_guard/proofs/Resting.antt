@@ -11,6 +11,7 @@ use Rattle.js_guard.specs.declared.search.Search.{Search}
 use Rattle.js_guard.specs.Rows.{AreClosed}
 use Rattle.js_guard.specs.Searching.{mark, rank_of, at, Reaches, IsAtMost, IsSearch}
 use Rattle.js_guard.specs.Steps.{IsSearchWith, IsResting, Keeps, Enters}
+use Rattle.js_guard.proofs.Walking.{cycle-inside}
 use Rattle.js_guard.proofs.Stepping.{entering, entering-new}
 
 pub rest-none : (g : List (List ℕ)) (M : List Mark) (S B : List ℕ) (done : ℕ) (least : Option ℕ)
@@ -122,17 +123,7 @@ module _ (g : List (List ℕ)) (s : Search) (closed : AreClosed g) (rest : IsRes
   found_least l some = record {
     on_cycle = rest.search.least_on l some;
     least = λ y c.
-        (let first = leads-first g c.0 y y c.1 in
-        let inside : y < length g = on-inside y first.0 first.1 in
+        (let inside : y < length g = cycle-inside g y c in
         let done = all_done y inside in
         subst (λ o. IsAtMost o y) some (rest.search.done_least y done.0 done.1 c));
   }
-    where
-      -- an entry without edges lies on no cycle
-      on-inside : (y z : ℕ) → is_among z (targets g y) ≡ true → y < length g
-      on-inside y z h =
-          elim (cases_lt y (length g)) [
-            inl l ↦ l
-          | inr l ↦
-              absurd (true≢false (sym (subst (λ r. is_among z r ≡ true) (get_or_past g y [] l) h)))
-          ]

@@ -36,7 +36,9 @@ impl Model for Edges {
 }
 
 impl Edges {
+    ghost use Rattle.std.specs.Prelude.{◌^◌};
     ghost use Rattle.schemas.specs.Guarded.{edges, targets};
+    ghost use Rattle.js_guard.specs.Rows.{AreClosed};
     ghost use Rattle.js_schema.specs.SchemaView.{schema_view};
 
     /// No entries.
@@ -51,7 +53,9 @@ impl Edges {
 
     /// The in-place edges of a schema.
     pub(crate) fn of(alloc: Global, schema: &Schema) -> Result<Edges, Memory>
-        ensures { IfOk result (λ e. e ≡ edges (schema_view schema.now)) }
+        ensures edges { IfOk result (λ e. e ≡ edges (schema_view schema.now)) }
+        ensures closed { IfOk result AreClosed }
+        ensures small { IfOk result (λ e. length e < 2 ^ 32) }
     {
         let mut edges = Edges::new(alloc);
         let mut row = Vec::new(alloc);

@@ -1,9 +1,11 @@
 -- One entry's edges more.
-use Rattle.std.proofs.Common.{◌≡◌, ◌∷◌, ◌++◌, [], ap, ◌∙◌, arith}
+use Rattle.std.proofs.Common.{◌≡◌, ◌∷◌, ◌++◌, [], length, sym, ap, ◌∙◌, subst, arith}
 use Rattle.schemas.specs.Schema.{in_place}
+use Rattle.schema_laws.proofs.TableLaws.{is_table-length}
 use Rattle.js_schema.specs.View.{form_view}
 use Rattle.js_schema.specs.SchemaView.{schema_view}
-use Rattle.js_guard.proofs.EdgesLemmas.{edges-more, edges-all}
+use Rattle.js_guard.specs.Rows.{AreClosed}
+use Rattle.js_guard.proofs.EdgesLemmas.{edges-length, edges-closed, edges-more, edges-all}
 use Rattle.js_guard.proofs.edges.Edges.of.Goals as goal
 
 pub loop-entry-preserved : goal.loop-entry-preserved
@@ -17,4 +19,12 @@ loop-entry-preserved c =
 
 pub returns : goal.returns
 returns c =
-    edges-all (schema_view c.args.schema.now) c.loop-entry.entry c.loop-entry.edges (omega arith) c.loop-entry.invariant
+    let es = schema_view c.args.schema.now in
+    let all = edges-all es c.loop-entry.entry c.loop-entry.edges (omega arith) c.loop-entry.invariant in
+    let table = c.len-entry-end.ensures.table in
+    let small = is_table-length es table in
+    record {
+      edges = all;
+      closed = subst AreClosed (sym all) (edges-closed es table);
+      small = (let few = small.1 in omega (arith, ap length all, edges-length es));
+    }
