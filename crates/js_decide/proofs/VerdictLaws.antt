@@ -8,6 +8,7 @@ use Rattle.documents.specs.Kind.{Kind, Null, Boolean, Number, Text, Array, Objec
 use Rattle.documents.specs.Document.{Document, kind_of}
 use Rattle.positions.specs.Position.{Position}
 use Rattle.positions.specs.Holds.{holds, IsTable}
+use Rattle.position_laws.specs.Plain.{is_plain}
 use Rattle.goals.specs.Signed.{Signed, Plus, Minus, meets}
 use Rattle.goals.specs.Goal.{form}
 use Rattle.goals.specs.Tree.{steps, branches, first}
@@ -76,10 +77,10 @@ both-met true false e = (refl, refl)
 both-met false b e = cc
 
 module _ (T : List Position) (ok : IsTable T) (a b : ℕ) where
-  -- each document of the verdict's kind meets the first position and not the second
-  pub verdict-document : (t : Kind) → verdict T a b ≡ OfKind t
+  -- each document of the verdict's kind meets the first position and not the second, where no position is typed
+  pub verdict-document : is_plain T ≡ true → (t : Kind) → verdict T a b ≡ OfKind t
       → (J : Document) → kind_of J ≡ t → (holds T a J ≡ true) × (holds T b J ≡ false)
-  verdict-document t e J k = both-met (holds T a J) (holds T b J)
+  verdict-document plain t e J k = both-met (holds T a J) (holds T b J)
       (meets-form T ok J (Plus a ∷ Minus b ∷ []) ∙ go (form T (Plus a ∷ Minus b ∷ [])) e) where
         at_kind : (g : List Signed) (o : Option Kind) → first (is_open T g) all_kinds ≡ o → of_kinds T g o ≡ OfKind t
             → meets T g J ≡ true
@@ -91,7 +92,7 @@ module _ (T : List Position) (ok : IsTable T) (a b : ℕ) where
             let same : u ≡ t = cc in
             let opened = first-passes (is_open T g) all_kinds u h in
             let (B, Bs, some_branch) = is_some_branch-true _ (and_parts (not (is_over T g u)) _ opened).1 in
-            branches-some_met T ok J u (k ∙ sym same) g B Bs some_branch
+            branches-some_met T ok plain J u (k ∙ sym same) g B Bs some_branch
 
         go : (o : Option (List Signed)) → of_goal T o ≡ OfKind t → meets_goal T o J ≡ true
         go None e = cc

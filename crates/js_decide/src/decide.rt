@@ -1,6 +1,7 @@
 //! The verdict on two positions.
 
 ghost use Rattle.std.specs.Prelude.{◌≡◌, ◌<◌, ◌∷◌, ◌++◌, [], true, Some, None, IfOk, OnOk, length, map};
+ghost use Rattle.position_laws.specs.Plain.{is_plain};
 ghost use Rattle.certificates.specs.Line.{At};
 ghost use Rattle.certificates.specs.TreeLines.{written};
 ghost use Rattle.js_algebra.specs.View.{kind_view, are_in_table};
@@ -38,8 +39,10 @@ const KINDS: [JsonKind; 6] = [
     JsonKind::Object,
 ];
 
-/// Whether a document meets the position `a` and not the position `b`.
+/// Whether a document meets the position `a` and not the position `b`, in a table without typed positions: in others a
+/// branch may ask for more than a kind.
 pub fn make_verdict(alloc: Global, core: &Core, a: Pos, b: Pos) -> Result<Verdict, Memory>
+    requires plain { is_plain core.now.positions ≡ true }
     requires a_in { a.0 < length core.now.positions }
     requires b_in { b.0 < length core.now.positions }
     ensures verdict { IfOk result (λ v. verdict_view v ≡ verdict core.now.positions a.0 b.0) }

@@ -1,9 +1,10 @@
 //! Reading a schema of the forms that are read so far.
 
-ghost use Rattle.std.specs.Prelude.{◌≡◌, ◌≤◌, ℕ, List, length, IfOk, OnOk, Some, None, Err};
+ghost use Rattle.std.specs.Prelude.{◌≡◌, ◌≤◌, ℕ, List, length, IfOk, OnOk, Some, None, Err, true};
 ghost use Rattle.documents.specs.Document.{Document};
 ghost use Rattle.validity.specs.Validity.{valid};
 ghost use Rattle.positions.specs.Holds.{holds};
+ghost use Rattle.position_laws.specs.Plain.{is_plain};
 ghost use Rattle.js_doc.specs.JsonView.{view};
 ghost use Rattle.js_forms.specs.Places.{first_fault, most_weight};
 ghost use Rattle.js_forms.specs.Table.{table_of, ranks_of};
@@ -21,6 +22,7 @@ pub fn read_forms(alloc: Global, json: &Json) -> Result<Core, FormsFault>
     ensures positions { IfOk result (λ core. core.positions ≡ table_of (view json.now)) }
     ensures ranks { IfOk result (λ core. core.ranks ≡ ranks_of (view json.now)) }
     ensures small { IfOk result (λ core. length core.positions ≤ most_weight) }
+    ensures plain { IfOk result (λ core. is_plain core.positions ≡ true) }
     ensures meaning { IfOk result (λ core. (J : Document) → valid (view json.now) J ≡ holds core.positions 0 J) }
 
     ensures read { OnOk result (first_fault (view json.now) ≡ None) }

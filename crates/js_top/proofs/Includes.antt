@@ -3,6 +3,8 @@ use Rattle.std.proofs.Common.{◌≡◌, ℕ, ◌<◌, List, ◌∷◌, ◌++◌
 use Rattle.documents.specs.Json.{Json}
 use Rattle.positions.specs.Position.{Position}
 use Rattle.position_laws.specs.Join.{joined}
+use Rattle.position_laws.specs.Plain.{is_plain}
+use Rattle.js_forms.proofs.Plain.{is_plain-table_of}
 use Rattle.js_outside.specs.Told.{Files}
 use Rattle.js_report.specs.WholeFile.{HasBytes}
 use Rattle.js_algebra.specs.View.{Table}
@@ -21,6 +23,10 @@ pub table_of-filled : (core : Table) (j : Json) → IsTableOf core j → 0 < len
 table_of-filled core j is =
     let ok = IsTable-table_of j in
     omega (arith, ok.ranked.bounded 0, ap length is.positions)
+
+-- and no typed positions
+pub table_of-plain : (core : Table) (j : Json) → IsTableOf core j → is_plain core.positions ≡ true
+table_of-plain core j is = ap is_plain is.positions ∙ is_plain-table_of j
 
 pub is_answer-verdict : (v : Verdict) → is_answer (verdict_report v).status ≡ true
 is_answer-verdict (Document t) = refl

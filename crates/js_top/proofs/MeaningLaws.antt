@@ -24,6 +24,8 @@ use Rattle.js_forms.proofs.Meaning.{valid-holds}
 use Rattle.js_forms.proofs.Small.{length-table_of}
 use Rattle.js_forms.specs.Places.{first_fault}
 use Rattle.js_decide.specs.Verdict.{Verdict, Document as OfKind, Limit, Certificate, is_over, is_open, of_kinds, of_goal, verdict}
+use Rattle.position_laws.proofs.Plainness.{is_plain-joined}
+use Rattle.js_forms.proofs.Plain.{is_plain-table_of}
 use Rattle.js_decide.proofs.VerdictLaws.{verdict-document, verdict-good, verdict-text, verdict-certificate}
 use Rattle.js_top.specs.Report.{line, sample_text, verdict_report, include_report}
 use Rattle.js_top.specs.Meaning.{IsCounterexample, IsCertificate, IsLimit, PassesLimit, Settles}
@@ -130,8 +132,9 @@ module _ (a b : Json) where
       (length (table_of a)) ≡ OfKind t
       → line (codes "document") ++ line (sample_text t) ≡ text → IsCounterexample a b text
   counterexample t text e is =
-      let (first, second) = verdict-document (joined (table_of a) (table_of b)) both_table 0 (length (table_of a)) t e
-      (sample t) (kind_of-sample t) in
+      let (first, second) = verdict-document (joined (table_of a) (table_of b)) both_table 0 (length (table_of a))
+      (is_plain-joined (table_of a) (table_of b) (is_plain-table_of a) (is_plain-table_of b)) t e (sample t)
+      (kind_of-sample t) in
       record {
         document = sample t;
         is = record { rest = line (sample_text t); line = sym is; value = value_of-sample t };

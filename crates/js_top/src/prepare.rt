@@ -1,7 +1,8 @@
 //! The report of a command, made whole before anything is written.
 
-ghost use Rattle.std.specs.Prelude.{◌≡◌, ◌<◌, ◌≤◌, IfOk, OnErr, IsSome, length};
+ghost use Rattle.std.specs.Prelude.{◌≡◌, ◌<◌, ◌≤◌, IfOk, OnErr, IsSome, length, true};
 ghost use Rattle.position_laws.specs.Join.{joined};
+ghost use Rattle.position_laws.specs.Plain.{is_plain};
 ghost use Rattle.js_forms.specs.Places.{most_weight};
 ghost use Rattle.js_decide.specs.Verdict.{verdict};
 ghost use Rattle.js_top.specs.Report.{verdict_report};
@@ -114,6 +115,8 @@ fn refused(alloc: Global, role: &str, words: String) -> Result<Prepared, Memory>
 fn compared(alloc: Global, a: &Core, b: &Core) -> Result<Prepared, Memory>
     requires a_filled { 0 < length a.now.positions }
     requires b_filled { 0 < length b.now.positions }
+    requires a_plain { is_plain a.now.positions ≡ true }
+    requires b_plain { is_plain b.now.positions ≡ true }
     requires a_small { length a.now.positions ≤ most_weight }
     requires b_small { length b.now.positions ≤ most_weight }
     ensures { IfOk result (λ p. report_of p

@@ -3,7 +3,7 @@ use Rattle.js_report.specs.WholeFile.{HasBytes}
 use Rattle.position_laws.specs.Join.{joined}
 use Rattle.js_decide.specs.Verdict.{verdict}
 use Rattle.js_top.specs.Loading.{LoadSays}
-use Rattle.js_top.proofs.Includes.{table_of-filled, is_answer-verdict, IncludeSays-answer, IsReportOf-first, IsReportOf-second, IsReportOf-read, IfOk-weaker}
+use Rattle.js_top.proofs.Includes.{table_of-filled, table_of-plain, is_answer-verdict, IncludeSays-answer, IsReportOf-first, IsReportOf-second, IsReportOf-read, IfOk-weaker}
 use Rattle.js_top.proofs.prepare.prepare_include.Goals as goal
 
 pub compared-requires-clause-a_filled : goal.compared-requires-clause-a_filled
@@ -18,6 +18,19 @@ compared-requires-clause-b_filled g c =
     (g.H.Shelf.faults c.load.new.shelf) (g.H.Shelf.faults c.load-2.new.shelf)) c.in-Table-2.is
     c.in_ok-core-2.ensures.says in
     table_of-filled c.in-Table-2.core j is
+
+pub compared-requires-clause-a_plain : goal.compared-requires-clause-a_plain
+compared-requires-clause-a_plain g c =
+    let (same, (j, is, more)) = subst (LoadSays (g.H.Shelf.told c.args.shelf.now) c.args.first.now
+    (g.H.Shelf.faults c.args.shelf.now) (g.H.Shelf.faults c.load.new.shelf)) c.in-Table.is c.in_ok-core.ensures.says in
+    table_of-plain c.in-Table.core j is
+
+pub compared-requires-clause-b_plain : goal.compared-requires-clause-b_plain
+compared-requires-clause-b_plain g c =
+    let (same, (j, is, more)) = subst (LoadSays (g.H.Shelf.told c.load.new.shelf) c.args.second.now
+    (g.H.Shelf.faults c.load.new.shelf) (g.H.Shelf.faults c.load-2.new.shelf)) c.in-Table-2.is
+    c.in_ok-core-2.ensures.says in
+    table_of-plain c.in-Table-2.core j is
 
 pub returns-in-Refused-clause-says : goal.returns-in-Refused-clause-says
 returns-in-Refused-clause-says g c =
