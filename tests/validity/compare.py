@@ -103,7 +103,7 @@ def main():
         cases.extend((root, document(rng, 3)) for _ in range(3))
     lines = ''.join('%s\t%s\n' % tuple(json.dumps(x, ensure_ascii=False) for x in case) for case in cases)
     told = subprocess.run([words.program], input=lines.encode(), capture_output=True, check=True).stdout.decode()
-    answers = [line.split(' ', 1)[1] for line in told.splitlines()]
+    answers = told.splitlines()
     assert len(answers) == len(cases), 'as many answers as cases'
     agreed, differed, refused = 0, 0, collections.Counter()
     for (root, instance), answer in zip(cases, answers):
