@@ -18,3 +18,6 @@ pub mod TableNumbers
 pub mod TableRanges
 pub mod TableLaw
 pub mod NamesLaws
+pub mod Ways
+pub mod Ranks
+mod GuardExamples

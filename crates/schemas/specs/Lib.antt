@@ -11,3 +11,5 @@ pub mod Entry
 pub mod Entries
 -- Which lists of entries are tables of a schema, whatever value they were read from.
 pub mod Schema
+-- Which of them lead in a circle, which cycle is told of them, and ranks where there is none.
+pub mod Guarded
