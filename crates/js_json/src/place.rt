@@ -8,7 +8,7 @@ ghost use Rattle.std.specs.Char.{is_ascii_digit};
 ghost use Rattle.std.specs.List.{list_all};
 ghost use Rattle.documents.specs.Json as D;
 ghost use Rattle.js_doc.specs.JsonView.{view, list_view};
-ghost use Rattle.js_json.specs.Place as place;
+ghost use Rattle.documents.specs.Place as place;
 
 use crate::members::member;
 use crate::pointer::Pointer;
@@ -28,7 +28,7 @@ pub fn at_pointer<'a>(json: &'a Json, pointer: &Pointer) -> Option<&'a Json>
 
 /// The element or member that `token` names.
 fn child<'a>(json: &'a Json, token: &str) -> Option<&'a Json>
-    ensures { option_map (λ j. view j.now) result ≡ place.child (chars token.now) (view json.now) }
+    ensures { option_map (λ j. view j.now) result ≡ place.child_at (chars token.now) (view json.now) }
 {
     match json {
         Json::Members(members) => member(members, token),
@@ -39,7 +39,7 @@ fn child<'a>(json: &'a Json, token: &str) -> Option<&'a Json>
 
 fn element<'a>(list: &'a JsonList, token: &str) -> Option<&'a Json>
     ensures { option_map (λ j. view j.now) result
-        ≡ place.child (chars token.now) (D.array (list_view list.now)) }
+        ≡ place.child_at (chars token.now) (D.array (list_view list.now)) }
 {
     let items = list.as_slice();
     items.get(index(token)?)

@@ -4,7 +4,8 @@ use Prim.Native.String.{String}
 use Rattle.documents.specs.Tests.{same_word}
 use Rattle.documents.specs.Json as J
 use Rattle.documents.specs.Json.{Json}
-use Rattle.schemas.specs.Places.{Pointer, value_at}
+use Rattle.documents.specs.Place.{value_at}
+use Rattle.schemas.specs.Places.{Pointer}
 use Rattle.schemas.specs.Keyword.{is_object_or_boolean}
 use Rattle.schemas.specs.Fault.{Fault, Rules}
 use Rattle.schemas.specs.Entry.{Entry}

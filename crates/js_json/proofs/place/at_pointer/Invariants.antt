@@ -1,6 +1,6 @@
 use Rattle.std.proofs.Common.{◌≡◌, drop}
 use Rattle.js_doc.specs.JsonView.{view}
-use Rattle.js_json.specs.Place.{value_at}
+use Rattle.documents.specs.Place.{value_at}
 use Rattle.js_json.proofs.place.at_pointer.Given as goal
 
 abbrev pub invariant-loop-token : goal.invariant-loop-token
