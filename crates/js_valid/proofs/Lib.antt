@@ -1,0 +1,12 @@
+-- A form asks of a document what it asks of it itself and of its parts.
+pub mod Halves
+-- What it asks of parts, part by part.
+pub mod PartsLaws
+-- Steps from places to places.
+pub mod LeadsLaws
+-- Rounds of a repeat over sets of places.
+pub mod Rounds
+-- Tables of marks.
+pub mod Marks
+-- What each loop of the walk keeps.
+pub mod WalkLaws

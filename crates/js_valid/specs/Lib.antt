@@ -1,0 +1,6 @@
+-- What a reader must believe: which patterns match in which words. Validity itself is `entry_valid` of `draft06`.
+pub mod Matching
+-- What is asked of a document itself, and what of its parts, one after another.
+pub mod Parts
+-- Where matches of a pattern can end.
+pub mod Places
