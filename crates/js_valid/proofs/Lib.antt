@@ -10,3 +10,5 @@ pub mod Rounds
 pub mod Marks
 -- What each loop of the walk keeps.
 pub mod WalkLaws
+-- Verdicts that are taken in order.
+pub mod PlanLaws

@@ -2,5 +2,7 @@
 pub mod Matching
 -- What is asked of a document itself, and what of its parts, one after another.
 pub mod Parts
+-- Orders of entries, and tables of what is known of them.
+pub mod Plan
 -- Where matches of a pattern can end.
 pub mod Places
