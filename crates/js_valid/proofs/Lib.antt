@@ -12,3 +12,11 @@ pub mod Marks
 pub mod WalkLaws
 -- Verdicts that are taken in order.
 pub mod PlanLaws
+-- A pattern is found where the walk ends.
+pub mod FoundLaws
+-- Equality of documents.
+pub mod SameLaws
+-- What is asked of a part, request by request.
+pub mod RequestLaws
+-- What is known of verdicts before a place of the order.
+pub mod Settled

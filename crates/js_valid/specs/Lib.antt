@@ -4,5 +4,7 @@ pub mod Matching
 pub mod Parts
 -- Orders of entries, and tables of what is known of them.
 pub mod Plan
+-- Requests for parts.
+pub mod Requests
 -- Where matches of a pattern can end.
 pub mod Places

@@ -12,6 +12,10 @@ use Rattle.draft06.specs.EntryValidity.{items_ask, rest_asks, need_asks, asks_an
 abbrev pub no_parts : ℕ → Document → Bool
 no_parts q K = false
 
+-- nothing is known of entries
+abbrev pub no_entry : ℕ → Bool
+no_entry q = false
+
 module _ (matches : List ℕ → List ℕ → Bool) (here : ℕ → Bool) where
   abbrev pub own_array : Keywords → List Document → Bool
   own_array k ds = meets (λ n. nat_le (length ds) n) k.max_items && meets (λ n. nat_le n (length ds)) k.min_items

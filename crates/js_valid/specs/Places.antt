@@ -56,3 +56,7 @@ is_open [] left = false
 is_open (x ∷ xs) (Some zero) = false
 is_open (x ∷ xs) (Some (suc n)) = true
 is_open (x ∷ xs) None = true
+
+abbrev pub has_place : List ℕ → Bool
+has_place [] = false
+has_place (x ∷ xs) = true

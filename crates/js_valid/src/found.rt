@@ -5,7 +5,7 @@ ghost use Rattle.patterns.specs.Decision.{finds};
 ghost use Rattle.js_pattern.specs.View.{view};
 ghost use Rattle.js_schema.specs.Patterns.{source_of};
 ghost use Rattle.js_valid.specs.Matching.{matches};
-ghost use Rattle.js_valid.specs.Places.{is_at, are_within};
+ghost use Rattle.js_valid.specs.Places.{is_at, are_within, has_place};
 
 use crate::walk::walk;
 use js_doc::{Memory, Str};
@@ -27,10 +27,17 @@ fn is_in(alloc: Global, re: &Re, word: &[char]) -> Result<bool, Memory>
 {
     let starts = places(alloc, word.len())?;
     let ends = walk(alloc, re, word, &starts)?;
-    Ok(!ends.is_empty())
+    Ok(is_some(&ends))
 }
 
-fn letters(alloc: Global, text: &str) -> Result<Vec<char>, AllocError>
+fn is_some(places: &[usize]) -> bool
+    ensures { result ≡ has_place places.now }
+{
+    !places.is_empty()
+}
+
+/// The characters of a text.
+pub(crate) fn letters(alloc: Global, text: &str) -> Result<Vec<char>, AllocError>
     ensures { IfOk result (λ letters. letters.items ≡ chars text.now) }
 {
     text.chars().collect(alloc)

@@ -1,8 +1,11 @@
 //! Whether a document is valid for a schema.
 #![tactic(auto)]
 
+mod ask;
 mod asked;
 mod found;
+mod own;
 mod places;
+mod settle;
 mod tables;
 mod walk;
