@@ -167,6 +167,29 @@ module _ (es : List Entry) (order : List ℕ) (plan : IsPlan es order) where
             is (at j) ∙ ap (λ b. if b then v else flag table (at j)) e
             ∙ known j (before jl (λ same. true≢false (sym (eq-eqb (at k) (at j) same) ∙ e))) jless a
 
+    pub verdict-right : (k : ℕ) (table fine : List Bool) (v : Bool) → k < length order → KnownTo k table
+        → KnowsParts es asked J fine
+        → v ≡ (flag asked (at k) && (flag fine (at k) && own matches (flag table) (form_at es (at k)) J))
+        → flag asked (at k) ≡ true → v ≡ valid_at es (at k) J
+    verdict-right k table fine v less known knows is a =
+        is ∙ ap (λ b. b && (flag fine (at k) && own matches (flag table) (form_at es (at k)) J)) a
+        ∙ and_swap (flag fine (at k)) (own matches (flag table) (form_at es (at k)) J)
+        ∙ ap (λ b. own matches (flag table) (form_at es (at k)) J && b) (knows (at k) a)
+        ∙ settled k table less known a
+      where
+        and_swap : (a b : Bool) → (a && b) ≡ (b && a)
+        and_swap true true = refl
+        and_swap true false = refl
+        and_swap false true = refl
+        and_swap false false = refl
+
+    pub settle-done : (table : List Bool) (k : ℕ) → length order ≤ k → KnownTo k table → KnowsVerdicts es asked J table
+    settle-done table k end known e a =
+        let b = flag-below asked e a in
+        let (i, less, same) = plan.all e (omega (arith, b, len)) in
+        subst (λ x. flag table x ≡ valid_at es x J) same
+        (known i (omega (arith, less, end)) less (subst (λ x. flag asked x ≡ true) (sym same) a))
+
   -- past the last entry nothing is valid
   pub valid-past : (e : ℕ) (J : Document) → length es ≤ e → valid_at es e J ≡ false
   valid-past e J h =

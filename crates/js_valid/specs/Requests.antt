@@ -5,7 +5,7 @@ use Rattle.documents.specs.Document.{Document}
 use Rattle.schemas.specs.Entry.{Entry, Form, Asks}
 use Rattle.schemas.specs.Schema.{meets}
 use Rattle.draft06.specs.EntryValidity.{form_at}
-use Rattle.js_valid.specs.Parts.{asked_by, flag}
+use Rattle.js_valid.specs.Parts.{asked_by, flag, parts_array, parts_object}
 use Rattle.js_valid.specs.Places.{is_at}
 
 -- one owner asks for these entries too
@@ -28,3 +28,17 @@ each_at test i (d ∷ ds) = test i d && each_at test (suc i) ds
 abbrev pub contained : Form → Option ℕ
 contained (Asks k) = k.contains
 contained f = None
+
+-- what is known of each owner
+abbrev pub FinePart : List Entry → List ℕ → List Bool → (ℕ → Bool) → Type 0
+FinePart es owners fine test = (e : ℕ) → is_at e owners ≡ true → flag fine e ≡ test e
+
+-- what a form asks of elements
+abbrev pub parts_list : (ℕ → Document → Bool) → Form → List Document → Bool
+parts_list below (Asks k) ds = parts_array (λ t w. true) below k ds
+parts_list below f ds = true
+
+-- what it asks of members
+abbrev pub parts_members : (List ℕ → List ℕ → Bool) → (ℕ → Document → Bool) → Form → List (List ℕ × Document) → Bool
+parts_members matches below (Asks k) ms = parts_object matches below k ms
+parts_members matches below f ms = true

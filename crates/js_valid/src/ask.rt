@@ -10,7 +10,7 @@ ghost use Rattle.js_schema.specs.View.{form_view, keywords_view, items_view, pro
 ghost use Rattle.js_schema.specs.SchemaView.{schema_view};
 ghost use Rattle.js_valid.specs.Matching.{matches};
 ghost use Rattle.js_valid.specs.Parts.{asked_by, of_contains, of_element, of_items_part, of_listed, of_member, of_name, of_named, of_names, or_else};
-ghost use Rattle.js_valid.specs.Requests.{AsksMore, AskedByOwners};
+ghost use Rattle.js_valid.specs.Requests.{AsksMore, AskedByOwners, contained};
 
 use crate::found::is_found;
 use js_doc::{Memory, Str};
@@ -135,6 +135,15 @@ fn add_contains(requests: &mut Requests, owner: u32, form: &Form) -> Result<(), 
     match form {
         Form::Keywords(keywords) => add_option(requests, owner, keywords.contains),
         _ => Ok(()),
+    }
+}
+
+pub(crate) fn contained_entry(form: &Form) -> Option<u32>
+    ensures { result ≡ contained (form_view form.now) }
+{
+    match form {
+        Form::Keywords(keywords) => keywords.contains,
+        _ => None,
     }
 }
 

@@ -34,10 +34,29 @@ pub(crate) fn settle(
     let mut table = vec![in alloc; false; schema.len() as usize]?;
     for place in 0..order.len() {
         let entry = order[place];
-        let verdict = holds(asked, entry) && holds(fine, entry) && own_at(alloc, schema, entry, &table, doc)?;
+        let verdict = verdict_of(alloc, schema, entry, &table, doc, asked, fine)?;
         set(&mut table, entry, verdict);
     }
     Ok(table)
+}
+
+fn verdict_of(
+    alloc: Global,
+    schema: &Schema,
+    entry: u32,
+    table: &[bool],
+    doc: &Doc,
+    asked: &[bool],
+    fine: &[bool],
+) -> Result<bool, Memory>
+    requires { entry < length (schema_view schema.now) }
+    ensures { IfOk result (λ b. b ≡ (flag asked.now entry && (flag fine.now entry
+        && own matches (flag table.now) (form_at (schema_view schema.now) entry) (view doc.now)))) }
+{
+    if holds(asked, entry) && holds(fine, entry) {
+        return own_at(alloc, schema, entry, table, doc);
+    }
+    Ok(false)
 }
 
 fn own_at(alloc: Global, schema: &Schema, entry: u32, table: &[bool], doc: &Doc) -> Result<bool, Memory>

@@ -100,7 +100,8 @@ pub(crate) fn marked_entries(alloc: Global, table: &[bool]) -> Result<Vec<u32>, 
     Ok(entries)
 }
 
-fn refuse(table: &mut Vec<bool>, entry: u32, answer: bool)
+/// Takes the test from an entry, where its answer is no.
+pub(crate) fn refuse(table: &mut Vec<bool>, entry: u32, answer: bool)
     ensures len { length table.new.items ≡ length table.old.items }
     ensures value { (j : ℕ) → flag table.new.items j ≡ (flag table.old.items j && (not (nat_eq entry j) || answer)) }
 {
