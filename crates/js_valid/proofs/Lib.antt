@@ -20,3 +20,5 @@ pub mod SameLaws
 pub mod RequestLaws
 -- What is known of verdicts before a place of the order.
 pub mod Settled
+-- What is known of all parts.
+pub mod DecideLaws

@@ -3,7 +3,6 @@
 
 mod ask;
 mod asked;
-mod decide;
 mod found;
 mod own;
 mod places;

@@ -1,0 +1,196 @@
+-- What is known of all parts is what the form asks of them.
+use Rattle.std.proofs.Common.{◌≡◌, ℕ, zero, suc, ◌+◌, ◌<◌, ◌≤◌, ◌⊎◌, List, [], ◌∷◌, ◌++◌, map, drop, drop-cons, add-one, length, get_or, Bool, true, false, ◌||◌, ◌&&◌, not, cond, nat_eq, nat_lt, inl, inr, Option, Some, None, refl, sym, ap, subst, ◌∙◌, arith, true≢false}
+use Rattle.std.proofs.lemmas.Bool.{cases_lt, eq-eqb}
+use Rattle.documents.specs.Tests.{every, some, same_word}
+use Rattle.documents.specs.Document.{Document, string, array, object, Items, Members, elements, entries}
+use Rattle.documents.specs.Measures.{meets_in_order, every_in}
+use Rattle.schemas.specs.Entry.{Entry, Form, Always, Never, Ref, Asks, ItemsPart, Each, Listed, Keywords}
+use Rattle.schemas.specs.Schema.{lists, meets, one}
+use Rattle.draft06.specs.Names.{keys, is_additional}
+use Rattle.draft06.specs.EntryValidity.{form_at, items_ask, rest_asks}
+use Rattle.js_valid.specs.Parts.{flag, parts, parts_array, parts_object, asked_by, answered, of_listed, of_items_part, of_element, of_contains, of_named, of_names, or_else, of_member, of_name}
+use Rattle.js_valid.specs.Places.{is_at}
+use Rattle.js_valid.specs.Plan.{IsPlan, KnowsVerdicts, KnowsParts, valid_at}
+use Rattle.js_valid.specs.Matching.{matches}
+use Rattle.js_valid.specs.Requests.{each_at, FinePart, contained, parts_list, parts_members, AskedByOwners}
+use Rattle.js_valid.proofs.PartsLaws.{both, every-append, every-named}
+use Rattle.js_valid.proofs.PlanLaws.{flag-below, flag-past, valid-past}
+use Rattle.js_valid.proofs.RequestLaws.{owners_ask, answered-asked, owners_within}
+
+and_true : (a : Bool) → (a && true) ≡ a
+and_true true = refl
+and_true false = refl
+
+and_false : (a : Bool) → (a && false) ≡ false
+and_false true = refl
+and_false false = refl
+
+and_assoc : (a b c : Bool) → ((a && b) && c) ≡ (a && (b && c))
+and_assoc true b c = refl
+and_assoc false b c = refl
+
+every-always : {A : Type 0} (xs : List A) → every (λ (x : A). true) xs ≡ true
+every-always [] = refl
+every-always (x ∷ xs) = every-always xs
+
+every-alike : {A : Type 0} (p q : A → Bool) (xs : List A) → ((x : A) → p x ≡ q x) → every p xs ≡ every q xs
+every-alike p q [] h = refl
+every-alike p q (x ∷ xs) h = both (h x) (every-alike p q xs h)
+
+every-two : {A : Type 0} (p q : A → Bool) (xs : List A) → every (λ x. p x && q x) xs ≡ (every p xs && every q xs)
+every-two p q [] = refl
+every-two p q (x ∷ xs) = ap (λ b. (p x && q x) && b) (every-two p q xs) ∙ swap (p x) (q x) (every p xs) (every q xs)
+  where
+    swap : (a b c d : Bool) → ((a && b) && (c && d)) ≡ ((a && c) && (b && d))
+    swap a b c d = grind arith
+
+-- ---- entries that are asked
+
+pub verdicts-of : (es : List Entry) (order : List ℕ) → IsPlan es order → (J : Document) (asked table : List Bool) (qs : List ℕ)
+    → length asked ≡ length es → length table ≡ length es → KnowsVerdicts es asked J table
+    → ((q : ℕ) → q < length es → is_at q qs ≡ true → flag asked q ≡ true)
+    → map (flag table) qs ≡ map (λ q. valid_at es q J) qs
+verdicts-of es order plan J asked table [] la lt knows marked = refl
+verdicts-of es order plan J asked table (q ∷ qs) la lt knows marked =
+    ap (λ b. b ∷ map (flag table) qs) (here (cases_lt q (length es)))
+    ∙ ap (λ bs. valid_at es q J ∷ bs) (verdicts-of es order plan J asked table qs la lt knows
+    (λ r l h. marked r l (or_right (nat_eq q r) (is_at r qs) h)))
+  where
+    or_right : (a b : Bool) → b ≡ true → (a || b) ≡ true
+    or_right true b k = refl
+    or_right false b k = k
+    here : (q < length es) ⊎ (length es ≤ q) → flag table q ≡ valid_at es q J
+    here (inl l) = knows q (marked q l (ap (λ b. b || is_at q qs) (eq-eqb q q refl)))
+    here (inr l) = flag-past table q (omega (arith, l, lt)) ∙ sym (valid-past es order plan q J l)
+
+pub owners-within : (n : ℕ) (asked : List Bool) (owners : List ℕ) → length asked ≡ n
+    → ((j : ℕ) → is_at j owners ≡ flag asked j) → every (λ o. nat_lt o n) owners ≡ true
+owners-within n asked owners len same =
+    owners_within n owners (λ j h. let l = flag-below asked j (sym (same j) ∙ h) in omega (arith, l, len))
+
+-- ---- elements
+
+module _ (below : ℕ → Document → Bool) where
+  each_at-shift : (test : ℕ → Document → Bool) (i : ℕ) (ds : List Document)
+      → each_at test (suc i) ds ≡ each_at (λ k. test (suc k)) i ds
+  each_at-shift test i [] = refl
+  each_at-shift test i (d ∷ ds) = ap (λ b. test (suc i) d && b) (each_at-shift test (suc i) ds)
+
+  each_at-same : (test : Document → Bool) (i : ℕ) (ds : List Document) → each_at (λ k. test) i ds ≡ every test ds
+  each_at-same test i [] = refl
+  each_at-same test i (d ∷ ds) = ap (λ b. test d && b) (each_at-same test (suc i) ds)
+
+  listed-ask : (es rest : List ℕ) (ds : List Document)
+      → each_at (λ i d. every (λ q. below q d) (of_listed es rest i)) 0 ds
+      ≡ (meets_in_order below es ds && every (λ d. every (λ q. below q d) rest) (drop (length es) ds))
+  listed-ask [] rest ds = each_at-same (λ d. every (λ q. below q d) rest) 0 ds
+  listed-ask (e ∷ es) rest [] = refl
+  listed-ask (e ∷ es) rest (d ∷ ds) =
+      ap (λ b. (below e d && true) && b) (each_at-shift (λ i d. every (λ q. below q d) (of_listed (e ∷ es) rest i)) 0 ds
+      ∙ listed-ask es rest ds)
+      ∙ ap (λ b. b && (meets_in_order below es ds && every (λ d. every (λ q. below q d) rest) (drop (length es) ds)))
+      (and_true (below e d))
+      ∙ sym (and_assoc (below e d) (meets_in_order below es ds)
+      (every (λ d. every (λ q. below q d) rest) (drop (length es) ds)))
+
+  single : (e : ℕ) (ds : List Document) → every (λ d. every (λ q. below q d) (e ∷ [])) ds ≡ every (below e) ds
+  single e ds = every-alike (λ d. below e d && true) (below e) ds (λ d. and_true (below e d))
+
+  rest-ask : (es : List ℕ) (rest : Option ℕ) (ds : List Document)
+      → every (λ d. every (λ q. below q d) (lists one rest)) (drop (length es) ds)
+      ≡ meets (λ e. rest_asks below (Some (Listed es)) e ds) rest
+  rest-ask es None ds = every-always (drop (length es) ds)
+  rest-ask es (Some e) ds = single e (drop (length es) ds)
+
+  no-rest : (items : Option ItemsPart) (rest : Option ℕ) (ds : List Document)
+      → ((es : List ℕ) → items ≡ Some (Listed es) → ⊥) → meets (λ e. rest_asks below items e ds) rest ≡ true
+  no-rest items None ds h = refl
+  no-rest None (Some e) ds h = refl
+  no-rest (Some (Each f)) (Some e) ds h = refl
+  no-rest (Some (Listed es)) (Some e) ds h = absurd (h es refl)
+
+  is_listed : Option ItemsPart → Bool
+  is_listed None = false
+  is_listed (Some (Each e)) = false
+  is_listed (Some (Listed es)) = true
+
+  pub elements-ask : (items : Option ItemsPart) (rest : Option ℕ) (ds : List Document)
+      → each_at (λ i d. every (λ q. below q d) (of_items_part items rest i)) 0 ds
+      ≡ (meets (λ s. items_ask below s ds) items && meets (λ e. rest_asks below items e ds) rest)
+  elements-ask None None ds = each_at-same (λ d. true) 0 ds ∙ every-always ds
+  elements-ask None (Some e) ds = each_at-same (λ d. true) 0 ds ∙ every-always ds
+  elements-ask (Some (Each e)) None ds =
+      each_at-same (λ d. below e d && true) 0 ds ∙ single e ds ∙ sym (and_true (every (below e) ds))
+  elements-ask (Some (Each e)) (Some f) ds =
+      each_at-same (λ d. below e d && true) 0 ds ∙ single e ds ∙ sym (and_true (every (below e) ds))
+  elements-ask (Some (Listed es)) rest ds =
+      listed-ask es (lists one rest) ds ∙ ap (λ b. meets_in_order below es ds && b) (rest-ask es rest ds)
+
+  -- `contains` is met where not all elements fail it
+  some-unless : (e : ℕ) (ds : List Document) → some (below e) ds ≡ not (every (λ d. not (below e d) && true) ds)
+  some-unless e [] = refl
+  some-unless e (d ∷ ds) = go (below e d) refl
+    where
+      go : (b : Bool) → below e d ≡ b → some (below e) (d ∷ ds) ≡ not (every (λ d. not (below e d) && true) (d ∷ ds))
+      go true h = rw h refl
+      go false h = rw h (some-unless e ds)
+
+  -- ---- members
+
+  abbrev no_entries : List ℕ → Bool
+  no_entries [] = true
+  no_entries (q ∷ qs) = false
+
+  word-turned : (v w : List ℕ) → same_word v w ≡ same_word w v
+  word-turned [] [] = refl
+  word-turned [] (y ∷ ys) = refl
+  word-turned (x ∷ xs) [] = refl
+  word-turned (x ∷ xs) (y ∷ ys) = both (turned x y) (word-turned xs ys)
+    where
+      turned : (x y : ℕ) → nat_eq x y ≡ nat_eq y x
+      turned x y = grind arith
+
+  not_or : (a b : Bool) → (not a && not b) ≡ not (a || b)
+  not_or true b = refl
+  not_or false b = refl
+
+  no-append : (xs ys : List ℕ) → no_entries (xs ++ ys) ≡ (no_entries xs && no_entries ys)
+  no-append [] ys = refl
+  no-append (x ∷ xs) ys = refl
+
+  no-named : (test turned : List ℕ → Bool) → ((w : List ℕ) → turned w ≡ test w) → (ps : List (List ℕ × ℕ))
+      → not (some turned (map (λ m. m.0) ps)) ≡ no_entries (of_named test ps)
+  no-named test turned h [] = refl
+  no-named test turned h (p ∷ ps) = go (test p.0) refl (no-named test turned h ps)
+    where
+      go : (b : Bool) → test p.0 ≡ b → not (some turned (map (λ m. m.0) ps)) ≡ no_entries (of_named test ps)
+          → not (turned p.0 || some turned (map (λ m. m.0) ps)) ≡ no_entries (cond (test p.0) (p.1 ∷ of_named test ps) (of_named test ps))
+      go true e r = rw (h p.0, e) refl
+      go false e r = rw (h p.0, e) r
+
+  no-named-in : (test turned : List ℕ → Bool) → ((w : List ℕ) → turned w ≡ test w) → (o : Option (List (List ℕ × ℕ)))
+      → not (some turned (keys o)) ≡ no_entries (lists (of_named test) o)
+  no-named-in test turned h None = refl
+  no-named-in test turned h (Some ps) = no-named test turned h ps
+
+  additional-ask : (k : Keywords) (w : List ℕ) (d : Document)
+      → every (λ q. below q d) (or_else (of_names matches k w) (lists one k.additional_properties))
+      ≡ (every (λ q. below q d) (of_names matches k w)
+      && meets (λ e. not (is_additional matches (keys k.properties) (keys k.pattern_properties) w) || below e d)
+      k.additional_properties)
+  additional-ask k w d = go (of_names matches k w) (is_additional matches (keys k.properties) (keys k.pattern_properties) w)
+      k.additional_properties
+      (both (no-named-in (λ n. same_word n w) (same_word w) (λ n. word-turned w n) k.properties)
+      (no-named-in (λ t. matches t w) (λ t. matches t w) (λ t. refl) k.pattern_properties)
+      ∙ sym (no-append (lists (of_named (λ n. same_word n w)) k.properties)
+      (lists (of_named (λ t. matches t w)) k.pattern_properties)))
+    where
+      go : (qs : List ℕ) (free : Bool) (rest : Option ℕ) → free ≡ no_entries qs
+          → every (λ q. below q d) (or_else qs (lists one rest))
+          ≡ (every (λ q. below q d) qs && meets (λ e. not free || below e d) rest)
+      go [] free None h = refl
+      go [] free (Some e) h = and_true (below e d) ∙ sym (ap (λ b. not b || below e d) h)
+      go (q ∷ qs) free None h = sym (and_true (below q d && every (λ r. below r d) qs))
+      go (q ∷ qs) free (Some e) h =
+          sym (ap (λ b. (below q d && every (λ r. below r d) qs) && (not b || below e d)) h
+          ∙ and_true (below q d && every (λ r. below r d) qs))
