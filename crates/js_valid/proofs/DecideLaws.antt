@@ -1,6 +1,6 @@
 -- What is known of all parts is what the form asks of them.
 use Rattle.std.proofs.Common.{◌≡◌, ℕ, zero, suc, ◌+◌, ◌<◌, ◌≤◌, ◌⊎◌, List, [], ◌∷◌, ◌++◌, map, drop, drop-cons, add-one, length, get_or, Bool, true, false, ◌||◌, ◌&&◌, not, cond, nat_eq, nat_lt, inl, inr, Option, Some, None, refl, sym, ap, subst, ◌∙◌, arith, true≢false}
-use Rattle.std.proofs.lemmas.Bool.{cases_lt, eq-eqb}
+use Rattle.std.proofs.lemmas.Bool.{cases_lt, eqb-true, eq-eqb, or_cases}
 use Rattle.documents.specs.Tests.{every, some, same_word}
 use Rattle.documents.specs.Document.{Document, string, array, object, Items, Members, elements, entries}
 use Rattle.documents.specs.Measures.{meets_in_order, every_in}
@@ -129,11 +129,12 @@ module _ (below : ℕ → Document → Bool) where
   -- `contains` is met where not all elements fail it
   some-unless : (e : ℕ) (ds : List Document) → some (below e) ds ≡ not (every (λ d. not (below e d) && true) ds)
   some-unless e [] = refl
-  some-unless e (d ∷ ds) = go (below e d) refl
+  some-unless e (d ∷ ds) = go (below e d) (some-unless e ds)
     where
-      go : (b : Bool) → below e d ≡ b → some (below e) (d ∷ ds) ≡ not (every (λ d. not (below e d) && true) (d ∷ ds))
-      go true h = rw h refl
-      go false h = rw h (some-unless e ds)
+      go : (b : Bool) → some (below e) ds ≡ not (every (λ d. not (below e d) && true) ds)
+          → (b || some (below e) ds) ≡ not ((not b && true) && every (λ d. not (below e d) && true) ds)
+      go true h = refl
+      go false h = h
 
   -- ---- members
 
@@ -194,3 +195,159 @@ module _ (below : ℕ → Document → Bool) where
       go (q ∷ qs) free (Some e) h =
           sym (ap (λ b. (below q d && every (λ r. below r d) qs) && (not b || below e d)) h
           ∙ and_true (below q d && every (λ r. below r d) qs))
+
+  named-ask : (test : List ℕ → List ℕ → Bool) (o : Option (List (List ℕ × ℕ))) (ms : List (List ℕ × Document))
+      → every (λ m. every (λ q. below q m.1) (lists (of_named (λ n. test n m.0)) o)) ms
+      ≡ meets (every (λ p. every_in (test p.0) (below p.1) ms)) o
+  named-ask test None ms = every-always ms
+  named-ask test (Some ps) ms = sym (every-named below test ps ms)
+
+  others-ask : (set : List ℕ → Bool) (o : Option ℕ) (ms : List (List ℕ × Document))
+      → every (λ m. meets (λ e. not (set m.0) || below e m.1) o) ms ≡ meets (λ e. every_in set (below e) ms) o
+  others-ask set None ms = every-always ms
+  others-ask set (Some e) ms = refl
+
+  words-ask : (o : Option ℕ) (ms : List (List ℕ × Document))
+      → every (λ m. every (λ q. below q (string m.0)) (lists one o)) ms
+      ≡ meets (λ e. every (λ (m : List ℕ × Document). below e (string m.0)) ms) o
+  words-ask None ms = every-always ms
+  words-ask (Some e) ms = every-alike _ _ ms (λ m. and_true (below e (string m.0)))
+
+  pub members-ask : (k : Keywords) (ms : List (List ℕ × Document))
+      → every (λ m. every (λ q. below q m.1) (or_else (of_names matches k m.0) (lists one k.additional_properties))
+      && every (λ q. below q (string m.0)) (lists one k.property_names)) ms
+      ≡ parts_object matches below k ms
+  members-ask k ms =
+      every-two (λ m. every (λ q. below q m.1) (or_else (of_names matches k m.0) (lists one k.additional_properties)))
+      (λ m. every (λ q. below q (string m.0)) (lists one k.property_names)) ms
+      ∙ both (every-alike _ _ ms (λ m. additional-ask k m.0 m.1)
+      ∙ every-two (λ m. every (λ q. below q m.1) (of_names matches k m.0))
+      (λ m. meets (λ e. not (is_additional matches (keys k.properties) (keys k.pattern_properties) m.0) || below e m.1)
+      k.additional_properties) ms
+      ∙ both (every-alike _ _ ms (λ m. every-append (λ q. below q m.1) (lists (of_named (λ n. same_word n m.0)) k.properties)
+      (lists (of_named (λ t. matches t m.0)) k.pattern_properties))
+      ∙ every-two (λ m. every (λ q. below q m.1) (lists (of_named (λ n. same_word n m.0)) k.properties))
+      (λ m. every (λ q. below q m.1) (lists (of_named (λ t. matches t m.0)) k.pattern_properties)) ms
+      ∙ both (named-ask same_word k.properties ms) (named-ask matches k.pattern_properties ms))
+      (others-ask (is_additional matches (keys k.properties) (keys k.pattern_properties)) k.additional_properties ms))
+      (words-ask k.property_names ms)
+
+  pub members-done : (f : Form) (ms : List (List ℕ × Document))
+      → every (λ m. every (λ q. below q m.1) (of_member matches f m.0) && every (λ q. below q (string m.0)) (of_name f)) ms
+      ≡ parts_members matches below f ms
+  members-done Always ms = every-always ms
+  members-done Never ms = every-always ms
+  members-done (Ref e) ms = every-always ms
+  members-done (Asks k) ms = members-ask k ms
+
+  contain-done : (o : Option ℕ) (ds : List Document) (b : Bool)
+      → b ≡ every (λ d. every (λ q. not (below q d)) (lists one o)) ds
+      → meets (λ q. not b) o ≡ meets (λ e. some (below e) ds) o
+  contain-done None ds b h = refl
+  contain-done (Some e) ds b h = ap not h ∙ sym (some-unless e ds)
+
+  pub list-done : (f : Form) (ds : List Document) (a b : Bool)
+      → a ≡ each_at (λ i d. every (λ q. below q d) (of_element f i)) 0 ds
+      → b ≡ every (λ d. every (λ q. not (below q d)) (of_contains f)) ds
+      → (a && meets (λ q. not b) (contained f)) ≡ parts_list below f ds
+  list-done Always ds a b h k = and_true a ∙ h ∙ each_at-same (λ d. true) 0 ds ∙ every-always ds
+  list-done Never ds a b h k = and_true a ∙ h ∙ each_at-same (λ d. true) 0 ds ∙ every-always ds
+  list-done (Ref e) ds a b h k = and_true a ∙ h ∙ each_at-same (λ d. true) 0 ds ∙ every-always ds
+  list-done (Asks k) ds a b h c =
+      both (h ∙ elements-ask k.items k.additional_items ds) (contain-done k.contains ds b c)
+
+  pub parts-list : (f : Form) (ds : Items) → parts_list below f (elements ds) ≡ parts matches below f (array ds)
+  parts-list Always ds = refl
+  parts-list Never ds = refl
+  parts-list (Ref e) ds = refl
+  parts-list (Asks k) ds = sym (and_true (parts_array matches below k (elements ds)))
+
+  pub parts-members : (f : Form) (ms : Members) → parts_members matches below f (entries ms) ≡ parts matches below f (object ms)
+  parts-members Always ms = refl
+  parts-members Never ms = refl
+  parts-members (Ref e) ms = refl
+  parts-members (Asks k) ms = refl
+
+-- ---- steps over parts
+
+pub owner_one : (test : ℕ → Bool) (e : ℕ) (owners : List ℕ) → is_at e owners ≡ true
+    → every (λ o. not (nat_eq o e) || test o) owners ≡ test e
+owner_one test e owners h = go (test e) refl
+  where
+    kept : (owners : List ℕ) → test e ≡ true → every (λ o. not (nat_eq o e) || test o) owners ≡ true
+    kept [] t = refl
+    kept (o ∷ owners) t = one_kept (nat_eq o e) refl (kept owners t)
+      where
+        one_kept : (b : Bool) → nat_eq o e ≡ b → every (λ o. not (nat_eq o e) || test o) owners ≡ true
+            → ((not (nat_eq o e) || test o) && every (λ o. not (nat_eq o e) || test o) owners) ≡ true
+        one_kept true k r =
+            both (ap (λ b. not b || test o) k ∙ ap test (eqb-true o e k) ∙ t) r
+        one_kept false k r = both (ap (λ b. not b || test o) k) r
+    refused : (owners : List ℕ) → is_at e owners ≡ true → test e ≡ false
+        → every (λ o. not (nat_eq o e) || test o) owners ≡ false
+    refused [] a n = absurd (true≢false (sym a))
+    refused (o ∷ owners) a n = elim (or_cases (nat_eq o e) (is_at e owners) a) [
+      | inl k ↦ ap (λ b. b && every (λ o. not (nat_eq o e) || test o) owners)
+          (ap (λ b. not b || test o) k ∙ ap test (eqb-true o e k) ∙ n)
+      | inr r ↦ ap (λ b. (not (nat_eq o e) || test o) && b) (refused owners r n) ∙ and_false (not (nat_eq o e) || test o)
+    ]
+    go : (b : Bool) → test e ≡ b → every (λ o. not (nat_eq o e) || test o) owners ≡ test e
+    go true k = kept owners k ∙ sym k
+    go false k = refused owners h k ∙ sym k
+
+-- one more part, of which `a` is known so far
+pub step_each : {A : Type 0} (see : A → Document) (test : ℕ → Document → Bool) (items : List A) (i : ℕ) (x : A) (a b whole : Bool)
+    → i < length items → x ≡ get_or items i x → b ≡ (a && test i (see x))
+    → (a && each_at test i (map see (drop i items))) ≡ whole
+    → (b && each_at test (i + 1) (map see (drop (i + 1) items))) ≡ whole
+step_each see test items i x a b whole less is e h =
+    ap (λ t. t && each_at test (i + 1) (map see (drop (i + 1) items))) e
+    ∙ and_assoc a (test i (see x)) (each_at test (i + 1) (map see (drop (i + 1) items)))
+    ∙ ap (λ t. a && t) (sym (split see test items i x less is)) ∙ h
+  where
+    split : {A : Type 0} (see : A → Document) (test : ℕ → Document → Bool) (items : List A) (i : ℕ) (x : A) → i < length items
+        → x ≡ get_or items i x → each_at test i (map see (drop i items))
+        ≡ (test i (see x) && each_at test (i + 1) (map see (drop (i + 1) items)))
+    split see test items i x less is = rw (add-one, drop-cons items i x, ← is) refl
+
+pub step_every : {A B : Type 0} (see : A → B) (test : B → Bool) (items : List A) (i : ℕ) (x : A) (a b whole : Bool)
+    → i < length items → x ≡ get_or items i x → b ≡ (a && test (see x))
+    → (a && every test (map see (drop i items))) ≡ whole
+    → (b && every test (map see (drop (i + 1) items))) ≡ whole
+step_every see test items i x a b whole less is e h =
+    ap (λ t. t && every test (map see (drop (i + 1) items))) e
+    ∙ and_assoc a (test (see x)) (every test (map see (drop (i + 1) items)))
+    ∙ ap (λ t. a && t) (sym (split see test items i x less is)) ∙ h
+  where
+    split : {A B : Type 0} (see : A → B) (test : B → Bool) (items : List A) (i : ℕ) (x : A) → i < length items
+        → x ≡ get_or items i x → every test (map see (drop i items)) ≡ (test (see x) && every test (map see (drop (i + 1) items)))
+    split see test items i x less is = rw (add-one, drop-cons items i x, ← is) refl
+
+nothing_left : {A : Type 0} (items : List A) (i : ℕ) → length items ≤ i → drop i items ≡ []
+nothing_left [] zero h = refl
+nothing_left [] (suc i) h = refl
+nothing_left (x ∷ items) zero h = absurd (omega (arith, h))
+nothing_left (x ∷ items) (suc i) h = nothing_left items i (omega (arith, h))
+
+pub end_each : {A : Type 0} (see : A → Document) (test : ℕ → Document → Bool) (items : List A) (i : ℕ) (a whole : Bool)
+    → length items ≤ i → (a && each_at test i (map see (drop i items))) ≡ whole → a ≡ whole
+end_each see test items i a whole le h =
+    sym (and_true a) ∙ ap (λ xs. a && each_at test i (map see xs)) (sym (nothing_left items i le)) ∙ h
+
+pub end_every : {A B : Type 0} (see : A → B) (test : B → Bool) (items : List A) (i : ℕ) (a whole : Bool)
+    → length items ≤ i → (a && every test (map see (drop i items))) ≡ whole → a ≡ whole
+end_every see test items i a whole le h =
+    sym (and_true a) ∙ ap (λ xs. a && every test (map see xs)) (sym (nothing_left items i le)) ∙ h
+
+-- the requests of the owners, for one of them
+pub requests-ask : (es : List Entry) (of : Form → List ℕ) (owners os qs : List ℕ) (e : ℕ) (p : ℕ → Bool)
+    → AskedByOwners es of owners os qs → is_at e owners ≡ true → asked_by e p os qs ≡ every p (of (form_at es e))
+requests-ask es of owners os qs e p asked h = asked e p ∙ owners_ask es of e p owners h
+
+pub map-append : {A B : Type 0} (f : A → B) (xs ys : List A) → map f (xs ++ ys) ≡ map f xs ++ map f ys
+map-append f [] ys = refl
+map-append f (x ∷ xs) ys = ap (λ zs. f x ∷ zs) (map-append f xs ys)
+
+pub map-twice : {A B C : Type 0} (g : B → C) (f : A → B) (xs : List A) → map g (map f xs) ≡ map (λ x. g (f x)) xs
+map-twice g f [] = refl
+map-twice g f (x ∷ xs) = ap (λ zs. g (f x) ∷ zs) (map-twice g f xs)

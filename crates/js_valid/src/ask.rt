@@ -246,7 +246,7 @@ fn add_named(found: &mut Vec<u32>, list: &PropertyList, name: &Str) -> Result<()
 fn is_name(a: &Str, b: &Str) -> bool
     ensures { result ≡ same_word a.now b.now }
 {
-    a.as_text() == b.as_text()
+    b.as_text() == a.as_text()
 }
 
 fn add_patterns(

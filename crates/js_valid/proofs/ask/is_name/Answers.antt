@@ -5,5 +5,5 @@ use Rattle.js_valid.proofs.ask.is_name.Goals as goal
 
 pub returns : goal.returns
 returns c =
-    sym (ap (λ w. same_word w c.args.b.now) (sym c.as_text.ensures.text)
-    ∙ same_word-named _ _ _ _ c.as_text.utf8 c.as_text-2.utf8 c.as_text-2.ensures.text c.eq.ensures)
+    sym (ap (λ w. same_word w c.args.b.now) (sym c.as_text-2.ensures.text)
+    ∙ same_word-named _ _ _ _ c.as_text-2.utf8 c.as_text.utf8 c.as_text.ensures.text c.eq.ensures)
