@@ -1,8 +1,8 @@
 -- What is known of all parts is what the form asks of them.
-use Rattle.std.proofs.Common.{◌≡◌, ℕ, zero, suc, ◌+◌, ◌<◌, ◌≤◌, ◌⊎◌, List, [], ◌∷◌, ◌++◌, map, drop, drop-cons, add-one, length, get_or, Bool, true, false, ◌||◌, ◌&&◌, not, cond, nat_eq, nat_lt, inl, inr, Option, Some, None, refl, sym, ap, subst, ◌∙◌, arith, true≢false}
-use Rattle.std.proofs.lemmas.Bool.{cases_lt, eqb-true, eq-eqb, or_cases}
+use Rattle.std.proofs.Common.{◌≡◌, ℕ, zero, suc, ◌+◌, ◌<◌, ◌≤◌, ◌⊎◌, List, [], ◌∷◌, ◌++◌, map, take, drop, drop-cons, add-one, length, get_or, Bool, true, false, ◌||◌, ◌&&◌, not, cond, nat_eq, nat_lt, inl, inr, Option, Some, None, refl, sym, ap, subst, ◌∙◌, arith, true≢false}
+use Rattle.std.proofs.lemmas.Bool.{cases_lt, eqb-true, eq-eqb, ltb-true, and_parts, or_cases}
 use Rattle.documents.specs.Tests.{every, some, same_word}
-use Rattle.documents.specs.Document.{Document, string, array, object, Items, Members, elements, entries}
+use Rattle.documents.specs.Document.{Document, null, boolean, number, string, array, object, Items, Members, elements, entries}
 use Rattle.documents.specs.Measures.{meets_in_order, every_in}
 use Rattle.schemas.specs.Entry.{Entry, Form, Always, Never, Ref, Asks, ItemsPart, Each, Listed, Keywords}
 use Rattle.schemas.specs.Schema.{lists, meets, one}
@@ -351,3 +351,66 @@ map-append f (x ∷ xs) ys = ap (λ zs. f x ∷ zs) (map-append f xs ys)
 pub map-twice : {A B C : Type 0} (g : B → C) (f : A → B) (xs : List A) → map g (map f xs) ≡ map (λ x. g (f x)) xs
 map-twice g f [] = refl
 map-twice g f (x ∷ xs) = ap (λ zs. g (f x) ∷ zs) (map-twice g f xs)
+
+-- ---- answers to two lists of requests at once
+
+front_of : {A : Type 0} (xs ys : List A) → take (length xs) (xs ++ ys) ≡ xs
+front_of [] ys = refl
+front_of (x ∷ xs) ys = ap (λ zs. x ∷ zs) (front_of xs ys)
+
+back_of : {A : Type 0} (xs ys : List A) → drop (length xs) (xs ++ ys) ≡ ys
+back_of [] ys = refl
+back_of (x ∷ xs) ys = back_of xs ys
+
+mapped-length : {A B : Type 0} (f : A → B) (xs : List A) → length (map f xs) ≡ length xs
+mapped-length f [] = refl
+mapped-length f (x ∷ xs) = ap suc (mapped-length f xs)
+
+pub front-asked : (e : ℕ) (p : ℕ → Bool) (os qs rs all : List ℕ) (answers first : List Bool) → all ≡ qs ++ rs
+    → answers ≡ map p all → first ≡ take (length qs) answers → answered e os first ≡ asked_by e p os qs
+front-asked e p os qs rs all answers first ea eb ec =
+    let split = eb ∙ ap (map p) ea ∙ map-append p qs rs in
+    let front = ec ∙ ap (take (length qs)) split ∙ ap (λ n. take n (map p qs ++ map p rs)) (sym (mapped-length p qs))
+        ∙ front_of (map p qs) (map p rs) in
+    ap (answered e os) front ∙ answered-asked e p os qs
+
+pub back-asked : (e : ℕ) (p : ℕ → Bool) (os qs rs all : List ℕ) (answers second : List Bool) → all ≡ qs ++ rs
+    → answers ≡ map p all → second ≡ drop (length qs) answers
+    → answered e os (map not second) ≡ asked_by e (λ q. not (p q)) os rs
+back-asked e p os qs rs all answers second ea eb ec =
+    let split = eb ∙ ap (map p) ea ∙ map-append p qs rs in
+    let back = ec ∙ ap (drop (length qs)) split ∙ ap (λ n. drop n (map p qs ++ map p rs)) (sym (mapped-length p qs))
+        ∙ back_of (map p qs) (map p rs) in
+    ap (λ bs. answered e os (map not bs)) back ∙ ap (answered e os) (map-twice not p rs)
+    ∙ answered-asked e (λ q. not (p q)) os rs
+
+pub answers-asked : (e : ℕ) (p : ℕ → Bool) (os qs : List ℕ) (answers : List Bool) → answers ≡ map p qs
+    → answered e os answers ≡ asked_by e p os qs
+answers-asked e p os qs answers h = ap (answered e os) h ∙ answered-asked e p os qs
+
+pub owner-less : (n e : ℕ) (owners : List ℕ) → every (λ o. nat_lt o n) owners ≡ true → is_at e owners ≡ true → e < n
+owner-less n e [] h k = absurd (true≢false (sym k))
+owner-less n e (o ∷ owners) h k =
+    let parts = and_parts (nat_lt o n) (every (λ x. nat_lt x n) owners) h in
+    elim (or_cases (nat_eq o e) (is_at e owners) k) [
+      | inl s ↦ subst (λ x. x < n) (eqb-true o e s) (ltb-true o n parts.0)
+      | inr r ↦ owner-less n e owners parts.1 r
+    ]
+
+pub all-first : (a x : Bool) → a ≡ true → (a && x) ≡ x
+all-first a x h = ap (λ b. b && x) h
+
+pub two-asked : (a b c x y : Bool) → b ≡ (a && x) → c ≡ (b && y) → c ≡ (a && (x && y))
+two-asked a b c x y f g = g ∙ ap (λ t. t && y) f ∙ and_assoc a x y
+
+pub scalar-parts : (f : Form) (below : ℕ → Document → Bool) (J : Document) → ((ds : Items) → J ≡ array ds → ⊥)
+    → ((ms : Members) → J ≡ object ms → ⊥) → parts matches below f J ≡ true
+scalar-parts Always below J a o = refl
+scalar-parts Never below J a o = refl
+scalar-parts (Ref e) below J a o = refl
+scalar-parts (Asks k) below null a o = refl
+scalar-parts (Asks k) below (boolean b) a o = refl
+scalar-parts (Asks k) below (number n) a o = refl
+scalar-parts (Asks k) below (string w) a o = refl
+scalar-parts (Asks k) below (array ds) a o = absurd (a ds refl)
+scalar-parts (Asks k) below (object ms) a o = absurd (o ms refl)

@@ -22,3 +22,5 @@ pub mod RequestLaws
 pub mod Settled
 -- What is known of all parts.
 pub mod DecideLaws
+-- Depths of parts.
+pub mod DepthLaws

@@ -3,6 +3,7 @@
 
 mod ask;
 mod asked;
+mod decide;
 mod found;
 mod own;
 mod places;
