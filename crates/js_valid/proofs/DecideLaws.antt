@@ -15,6 +15,7 @@ use Rattle.js_valid.specs.Matching.{matches}
 use Rattle.js_valid.specs.Requests.{each_at, FinePart, contained, parts_list, parts_members, AskedByOwners}
 use Rattle.js_valid.proofs.PartsLaws.{both, every-append, every-named}
 use Rattle.js_valid.proofs.PlanLaws.{flag-below, flag-past, valid-past}
+use Rattle.js_valid.proofs.DepthLaws.{is_scalar}
 use Rattle.js_valid.proofs.RequestLaws.{owners_ask, answered-asked, owners_within}
 
 and_true : (a : Bool) → (a && true) ≡ a
@@ -403,14 +404,14 @@ all-first a x h = ap (λ b. b && x) h
 pub two-asked : (a b c x y : Bool) → b ≡ (a && x) → c ≡ (b && y) → c ≡ (a && (x && y))
 two-asked a b c x y f g = g ∙ ap (λ t. t && y) f ∙ and_assoc a x y
 
-pub scalar-parts : (f : Form) (below : ℕ → Document → Bool) (J : Document) → ((ds : Items) → J ≡ array ds → ⊥)
-    → ((ms : Members) → J ≡ object ms → ⊥) → parts matches below f J ≡ true
-scalar-parts Always below J a o = refl
-scalar-parts Never below J a o = refl
-scalar-parts (Ref e) below J a o = refl
-scalar-parts (Asks k) below null a o = refl
-scalar-parts (Asks k) below (boolean b) a o = refl
-scalar-parts (Asks k) below (number n) a o = refl
-scalar-parts (Asks k) below (string w) a o = refl
-scalar-parts (Asks k) below (array ds) a o = absurd (a ds refl)
-scalar-parts (Asks k) below (object ms) a o = absurd (o ms refl)
+pub scalar-parts : (f : Form) (below : ℕ → Document → Bool) (J : Document) → is_scalar J ≡ true
+    → parts matches below f J ≡ true
+scalar-parts Always below J h = refl
+scalar-parts Never below J h = refl
+scalar-parts (Ref e) below J h = refl
+scalar-parts (Asks k) below null h = refl
+scalar-parts (Asks k) below (boolean b) h = refl
+scalar-parts (Asks k) below (number n) h = refl
+scalar-parts (Asks k) below (string w) h = refl
+scalar-parts (Asks k) below (array ds) h = absurd (true≢false (sym h))
+scalar-parts (Asks k) below (object ms) h = absurd (true≢false (sym h))

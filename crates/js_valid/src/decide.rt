@@ -60,7 +60,7 @@ fn fine_parts(
     match doc {
         Doc::List(list) => fine_list(alloc, schema, order, list, owners),
         Doc::Members(members) => fine_members(alloc, schema, order, members, owners),
-        Doc::Null | Doc::Bool(_) | Doc::Num(_) | Doc::Text(_) => all_fine(alloc, schema.len()),
+        _ => all_fine(alloc, schema.len()),
     }
 }
 

@@ -5,6 +5,7 @@ mod ask;
 mod asked;
 mod decide;
 mod found;
+mod order;
 mod own;
 mod places;
 mod settle;

@@ -13,7 +13,8 @@ use Rattle.js_valid.specs.Requests.{contained, parts_list, parts_members, each_a
 use Rattle.js_valid.proofs.LeadsLaws.{or_right_true}
 use Rattle.js_valid.proofs.WalkLaws as W
 use Rattle.js_valid.proofs.DecideLaws as D
-use Rattle.js_valid.proofs.DepthLaws.{item-depth, member-depth}
+use Rattle.js_valid.proofs.DepthLaws.{item-depth, member-depth, view-scalar, view-Text}
+use Rattle.js_doc.specs.declared.document.Doc.TheVariants as C
 use Rattle.js_valid.proofs.decide.+decide.Goals as goal
 
 pub decide_element-returns-clause-fine : goal.decide_element-returns-clause-fine
@@ -23,6 +24,8 @@ decide_element-returns-clause-fine t c h e =
     (D.front-asked e (λ q. valid_at (schema_view c.args.schema.now) q (view c.args.doc.now)) _
     c.args.requests.now.entries.items c.args.contains.now.entries.items c.extend_from_slice.new.self.items
     c.in_ok-answers.answers.items c.split_at.result.0.now (search rules) (search rules) (search rules))
+    ∙ ap (λ os. flag c.args.fine.now.items e && asked_by e (λ q. valid_at (schema_view c.args.schema.now) q (view c.args.doc.now)) os
+    c.args.requests.now.entries.items) c.deref-4.ensures.value
 
 pub decide_element-returns-clause-unmet : goal.decide_element-returns-clause-unmet
 decide_element-returns-clause-unmet t c h e =
@@ -31,11 +34,18 @@ decide_element-returns-clause-unmet t c h e =
     (D.back-asked e (λ q. valid_at (schema_view c.args.schema.now) q (view c.args.doc.now)) _
     c.args.requests.now.entries.items c.args.contains.now.entries.items c.extend_from_slice.new.self.items
     c.in_ok-answers.answers.items c.split_at.result.1.now (search rules) (search rules) (search rules))
+    ∙ ap (λ os. flag c.args.unmet.now.items e && asked_by e (λ q. not (valid_at (schema_view c.args.schema.now) q (view c.args.doc.now))) os
+    c.args.contains.now.entries.items) c.deref-5.ensures.value
 
 pub decide_name-returns : goal.decide_name-returns
 decide_name-returns t c h e =
     let answers : c.deref-3.result.now ≡ map (λ q. valid_at (schema_view c.args.schema.now) q (string c.args.name.now))
-        c.args.requests.now.entries.items = search rules in
+        c.args.requests.now.entries.items = (
+      c.deref-3.ensures.value ∙ c.in_ok-answers.ensures
+      ∙ ap (λ d. map (λ q. valid_at (schema_view c.args.schema.now) q d) c.deref.result.now)
+      (ap (λ w. view (C.Text w)) c.in_ok-copy.ensures ∙ view-Text c.args.name.now)
+      ∙ ap (map (λ q. valid_at (schema_view c.args.schema.now) q (string c.args.name.now))) c.deref.ensures.value
+    ) in
     let value = c.refuse_all.ensures.value e in
     let asked = D.answers-asked e (λ q. valid_at (schema_view c.args.schema.now) q (string c.args.name.now))
         c.deref-2.result.now c.args.requests.now.entries.items c.deref-3.result.now answers in
@@ -75,7 +85,7 @@ fine_list-loop-place-preserved t c = record {
       (of_element (form_at (schema_view c.args.schema.now) e) i)) c.as_slice-child-items.result.now c.loop-place.place
       c.child-item.result (flag c.loop-place.fine.items e) (flag c.decide_element.new.fine.items e) _ c.loop-place-test.true
       c.child-item.is
-      (c.in_ok-decide_element.ensures.fine e ∙ ap (λ b. flag c.loop-place.fine.items e && b)
+      (c.in_ok-decide_element.ensures.fine refl e ∙ ap (λ b. flag c.loop-place.fine.items e && b)
       (D.requests-ask (schema_view c.args.schema.now) (λ f. of_element f c.loop-place.place) c.args.owners.now
       c.in_ok-requests.requests.owners.items c.in_ok-requests.requests.entries.items e
       (λ q. valid_at (schema_view c.args.schema.now) q (view c.child-item.result)) c.in_ok-requests.ensures.asks h))
@@ -84,7 +94,7 @@ fine_list-loop-place-preserved t c = record {
       (of_contains (form_at (schema_view c.args.schema.now) e))) c.as_slice-child-items.result.now c.loop-place.place
       c.child-item.result (flag c.loop-place.unmet.items e) (flag c.decide_element.new.unmet.items e) _ c.loop-place-test.true
       c.child-item.is
-      (c.in_ok-decide_element.ensures.unmet e ∙ ap (λ b. flag c.loop-place.unmet.items e && b)
+      (c.in_ok-decide_element.ensures.unmet refl e ∙ ap (λ b. flag c.loop-place.unmet.items e && b)
       (D.requests-ask (schema_view c.args.schema.now) of_contains c.args.owners.now
       c.in_ok-contains.contains.owners.items c.in_ok-contains.contains.entries.items e
       (λ q. not (valid_at (schema_view c.args.schema.now) q (view c.child-item.result))) c.in_ok-contains.ensures.asks h))
@@ -149,8 +159,8 @@ fine_members-loop-member-preserved t c e h =
     c.member-item.result (flag c.loop-member.fine.items e) (flag c.decide_name.new.fine.items e) _ c.loop-member-test.true
     c.member-item.is
     (D.two-asked (flag c.loop-member.fine.items e) (flag c.decide_part.new.fine.items e) (flag c.decide_name.new.fine.items e) _ _
-    (c.in_ok-decide_part.ensures e ∙ ap (λ b. flag c.loop-member.fine.items e && b) part)
-    (c.in_ok-decide_name.ensures e ∙ ap (λ b. flag c.decide_part.new.fine.items e && b) word))
+    (c.in_ok-decide_part.ensures refl e ∙ ap (λ b. flag c.loop-member.fine.items e && b) part)
+    (c.in_ok-decide_name.ensures refl e ∙ ap (λ b. flag c.decide_part.new.fine.items e && b) word))
     (c.loop-member.invariant e h)
 
 pub fine_members-returns : goal.fine_members-returns
@@ -172,7 +182,16 @@ verdicts-fine_parts-requires t c = (
 
 pub verdicts-returns : goal.verdicts-returns
 verdicts-returns t c =
-    W.ok_then c.tests_of.result _ _ (λ vs e. e
+    W.ok_then c.tests_of.result _ _ (λ vs e.
+    e ∙ ap (λ bs. map (flag bs) c.args.entries.now) c.deref-5.ensures.value
     ∙ D.verdicts-of (schema_view c.args.schema.now) c.args.order.now c.requires (view c.args.doc.now) c.close.new.asked.items
-    _ c.args.entries.now c.close.ensures.len (search rules) (search rules)
-    (λ q l h. c.close.ensures.keeps q (c.mark_all.ensures.marks q (search rules) ∙ or_right_true _ _ h))) (search rules)
+    c.in_ok-table.table.items c.args.entries.now c.close.ensures.len c.in_ok-table.ensures.len (search rules)
+    (λ q l h. c.close.ensures.keeps q (c.mark_all.ensures.marks q (search rules) ∙ or_right_true _ _ h))) c.tests_of.ensures
+
+pub fine_parts-returns-in_default : goal.fine_parts-returns-in_default
+fine_parts-returns-in_default t c =
+    W.ok_then c.all_fine.result _ _ (λ fine all e h.
+    all e (omega (arith, c.len.ensures.value, D.owner-less _ e c.args.owners.now c.requires.owners h))
+    ∙ sym (D.scalar-parts (form_at (schema_view c.args.schema.now) e) (valid_at (schema_view c.args.schema.now))
+    (view c.args.doc.now) (sym (view-scalar c.args.doc.now c.in_default.not-List c.in_default.not-Members))))
+    c.all_fine.ensures.all
