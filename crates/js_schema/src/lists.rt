@@ -7,7 +7,7 @@ use crate::part::{Dependency, PatternProperty, Property, TypeName};
 use std::marker::Model;
 
 /// A list of entry numbers.
-#[derive(Drop)]
+#[derive(Debug, Drop)]
 pub struct EntryList {
     items: Vec<u32>,
 }

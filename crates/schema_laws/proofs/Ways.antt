@@ -69,6 +69,17 @@ module _ (g : List (List ℕ)) where
       subst (λ l. leads g l x z ≡ true) (sym same)
       (leads-edge (m + n) x first.0 z first.1 (leads-join m n (m + n) first.0 y z refl first.2 i))
 
+  -- a way ends with an edge
+  pub leads-last : (n x y : ℕ) → leads g (suc n) x y ≡ true
+      → (z : ℕ) × (leads g n x z ≡ true) × (is_among y (targets g z) ≡ true)
+  leads-last zero x y h =
+      let first = leads-first zero x y h in
+      (x, leads-here x, subst (λ w. is_among w (targets g x) ≡ true) (leads-same first.0 y first.2) first.1)
+  leads-last (suc n) x y h =
+      let first = leads-first (suc n) x y h in
+      let last = leads-last n first.0 y first.2 in
+      (last.0, leads-edge n x first.0 last.0 first.1 last.1, last.2)
+
   -- what edges keep, ways keep
   pub leads-keeps : (P : ℕ → Type 0) → ((x y : ℕ) → P x → is_among y (targets g x) ≡ true → P y)
       → (n x y : ℕ) → leads g n x y ≡ true → P x → P y

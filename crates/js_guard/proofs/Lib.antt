@@ -1,0 +1,16 @@
+pub mod RowsLemmas
+pub mod EdgesLemmas
+pub mod Pushes
+pub mod Counts
+pub mod Entering
+pub mod Turns
+pub mod Passing
+pub mod Leaving
+pub mod Closing
+pub mod Stepping
+pub mod Resting
+pub mod Linking
+pub mod Reaching
+pub mod Reached
+pub mod NearestLemmas
+pub mod Walking

@@ -1,0 +1,10 @@
+-- What a reader must believe stands in `schemas`: in-place edges, the cycle that is told, and ranks. Here is what an
+-- answer of the guard means.
+pub mod Answer
+-- Internal: edges in flat arrays, what a search keeps and its steps, edges the other way round, and distances.
+pub mod Rows
+pub mod Searching
+pub mod Steps
+pub mod Linked
+pub mod Distances
+pub mod Nearest
