@@ -24,3 +24,5 @@ pub mod Settled
 pub mod DecideLaws
 -- Depths of parts.
 pub mod DepthLaws
+-- Orders by ranks.
+pub mod OrderLaws

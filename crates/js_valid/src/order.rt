@@ -1,6 +1,6 @@
 //! The entries of a schema in rising order of their ranks.
 
-ghost use Rattle.std.specs.Prelude.{◌≡◌, ℕ, ◌+◌, ◌<◌, ◌≤◌, ◌^◌, IfOk, length, get_or, true};
+ghost use Rattle.std.specs.Prelude.{◌≡◌, ℕ, ◌+◌, ◌<◌, ◌≤◌, ◌^◌, IfOk, map, length, get_or};
 ghost use Rattle.std.specs.List.{Contains};
 
 use js_doc::Memory;
@@ -14,26 +14,31 @@ pub(crate) fn order_of(alloc: Global, ranks: &[u32]) -> Result<Vec<u32>, Memory>
     ensures rises { IfOk result (λ order. (k l : ℕ) → k ≤ l → l < length order.items
         → get_or ranks.now (get_or order.items k 0) 0 ≤ get_or ranks.now (get_or order.items l 0) 0) }
 {
-    let mut order = numbers(alloc, ranks.len())?;
-    order.sort_by_key(|entry| rank_at(ranks, *entry))?;
-    Ok(order)
+    let mut pairs = pairs(alloc, ranks)?;
+    pairs.sort_by_key(|pair| pair.0)?;
+    entries_of(alloc, &pairs)
 }
 
-fn rank_at(ranks: &[u32], entry: u32) -> u32
-    ensures { result ≡ get_or ranks.now entry 0 }
+/// Each rank with its entry.
+fn pairs(alloc: Global, ranks: &[u32]) -> Result<Vec<(u32, u32)>, Memory>
+    requires { length ranks.now < 2 ^ 32 }
+    ensures len { IfOk result (λ v. length v.items ≡ length ranks.now) }
+    ensures each { IfOk result (λ v. (k : ℕ) (d : ℕ × ℕ) → k < length ranks.now
+        → get_or v.items k d ≡ (get_or ranks.now k 0, k)) }
 {
-    let place = entry as usize;
-    if place < ranks.len() { ranks[place] } else { 0 }
-}
-
-fn numbers(alloc: Global, count: usize) -> Result<Vec<u32>, Memory>
-    requires { count < 2 ^ 32 }
-    ensures len { IfOk result (λ v. length v.items ≡ count) }
-    ensures each { IfOk result (λ v. (k : ℕ) (d : ℕ) → k < count → get_or v.items k d ≡ k) }
-{
-    let mut numbers = Vec::new(alloc);
-    for number in 0..count {
-        numbers.push(number as u32)?;
+    let mut pairs = Vec::new(alloc);
+    for (entry, rank) in ranks.iter().enumerate() {
+        pairs.push((*rank, entry as u32))?;
     }
-    Ok(numbers)
+    Ok(pairs)
+}
+
+fn entries_of(alloc: Global, pairs: &[(u32, u32)]) -> Result<Vec<u32>, Memory>
+    ensures { IfOk result (λ v. v.items ≡ map (λ p. p.1) pairs.now) }
+{
+    let mut entries = Vec::new(alloc);
+    for pair in pairs {
+        entries.push(pair.1)?;
+    }
+    Ok(entries)
 }
