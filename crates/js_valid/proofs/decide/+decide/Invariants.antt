@@ -1,0 +1,58 @@
+use Rattle.std.proofs.Common.{◌≡◌, ℕ, ◌+◌, ◌*◌, ◌&&◌, not, true, map, drop, length}
+use Rattle.documents.specs.Tests.{every}
+use Rattle.documents.specs.Document.{depth, items_depth, members_depth, string}
+use Rattle.draft06.specs.EntryValidity.{form_at}
+use Rattle.js_doc.specs.View.{view, list_view, map_view, member_view}
+use Rattle.js_schema.specs.SchemaView.{schema_view}
+use Rattle.js_valid.specs.Matching.{matches}
+use Rattle.js_valid.specs.Parts.{flag, of_element, of_contains, of_member, of_name}
+use Rattle.js_valid.specs.Places.{is_at}
+use Rattle.js_valid.specs.Plan.{valid_at}
+use Rattle.js_valid.specs.Requests.{each_at}
+use Rattle.js_valid.proofs.decide.+decide.Given as goal
+
+abbrev pub decreases-verdicts : goal.decreases-verdicts
+decreases-verdicts l = 4 * depth (view l.doc.now) + 1
+
+abbrev pub decreases-fine_parts : goal.decreases-fine_parts
+decreases-fine_parts l = 4 * depth (view l.doc.now)
+
+abbrev pub decreases-fine_list : goal.decreases-fine_list
+decreases-fine_list l = 4 * items_depth (list_view l.list.now) + 3
+
+abbrev pub decreases-fine_members : goal.decreases-fine_members
+decreases-fine_members l = 4 * members_depth (map_view l.members.now) + 3
+
+abbrev pub decreases-decide_element : goal.decreases-decide_element
+decreases-decide_element l = 4 * depth (view l.doc.now) + 2
+
+abbrev pub decreases-decide_part : goal.decreases-decide_part
+decreases-decide_part l = 4 * depth (view l.doc.now) + 2
+
+abbrev pub decreases-decide_name : goal.decreases-decide_name
+decreases-decide_name l = 2
+
+abbrev pub invariant-fine_list-loop-place : goal.invariant-fine_list-loop-place
+invariant-fine_list-loop-place l =
+    record {
+      fine : (e : ℕ) → is_at e l.owners ≡ true
+          → (flag l.fine.items e && each_at (λ i d. every (λ q. valid_at (schema_view l.schema) q d)
+          (of_element (form_at (schema_view l.schema) e) i)) l.place (map view (drop l.place l.child-items)))
+          ≡ each_at (λ i d. every (λ q. valid_at (schema_view l.schema) q d)
+          (of_element (form_at (schema_view l.schema) e) i)) 0 (map view l.child-items);
+      unmet : (e : ℕ) → is_at e l.owners ≡ true
+          → (flag l.unmet.items e && every (λ d. every (λ q. not (valid_at (schema_view l.schema) q d))
+          (of_contains (form_at (schema_view l.schema) e))) (map view (drop l.place l.child-items)))
+          ≡ every (λ d. every (λ q. not (valid_at (schema_view l.schema) q d))
+          (of_contains (form_at (schema_view l.schema) e))) (map view l.child-items);
+    }
+
+abbrev pub invariant-fine_members-loop-member : goal.invariant-fine_members-loop-member
+invariant-fine_members-loop-member l =
+    (e : ℕ) → is_at e l.owners ≡ true
+    → (flag l.fine.items e && every (λ m. every (λ q. valid_at (schema_view l.schema) q m.1)
+    (of_member matches (form_at (schema_view l.schema) e) m.0) && every (λ q. valid_at (schema_view l.schema) q (string m.0))
+    (of_name (form_at (schema_view l.schema) e))) (map member_view (drop l.member-index l.member-items)))
+    ≡ every (λ m. every (λ q. valid_at (schema_view l.schema) q m.1)
+    (of_member matches (form_at (schema_view l.schema) e) m.0) && every (λ q. valid_at (schema_view l.schema) q (string m.0))
+    (of_name (form_at (schema_view l.schema) e))) (map member_view l.member-items)

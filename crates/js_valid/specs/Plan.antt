@@ -1,0 +1,35 @@
+-- What a validator goes by: the entries of a table in an order in which each stands after those that it names in place.
+use Rattle.std.specs.Prelude.{◌≡◌, ℕ, ◌<◌, ◌≤◌, List, length, get_or, Bool, true, IsTrue}
+use Rattle.documents.specs.Document.{Document}
+use Rattle.schemas.specs.Entry.{Entry}
+use Rattle.schemas.specs.Schema.{is_table, in_place}
+use Rattle.draft06.specs.EntryValidity.{form_at, entry_valid}
+use Rattle.draft06_laws.specs.Ranks.{FallInPlace}
+use Rattle.js_valid.specs.Matching.{matches}
+use Rattle.js_valid.specs.Parts.{flag, parts}
+use Rattle.js_valid.specs.Places.{is_at}
+
+pub record IsPlan (es : List Entry) (order : List ℕ) : Type 0 where
+  pub table : is_table es ≡ true
+  pub rank : ℕ → ℕ
+  pub falls : FallInPlace es rank
+  pub rises : (k l : ℕ) → k ≤ l → l < length order → rank (get_or order k 0) ≤ rank (get_or order l 0)
+  pub all : (e : ℕ) → e < length es → (k : ℕ) × (k < length order) × (get_or order k 0 ≡ e)
+  pub only : (k : ℕ) → k < length order → get_or order k 0 < length es
+
+-- validity by the patterns of the grammar
+abbrev pub valid_at : List Entry → ℕ → Document → Bool
+valid_at es = entry_valid matches es
+
+-- what an entry that is asked names in place is asked as well
+abbrev pub IsClosed : List Entry → List Bool → Type 0
+IsClosed es asked = (e q : ℕ) → flag asked e ≡ true → is_at q (in_place (form_at es e)) ≡ true → flag asked q ≡ true
+
+-- what the entries that are asked ask of the document's parts
+abbrev pub KnowsParts : List Entry → List Bool → Document → List Bool → Type 0
+KnowsParts es asked J fine =
+    (e : ℕ) → flag asked e ≡ true → flag fine e ≡ parts matches (valid_at es) (form_at es e) J
+
+-- the verdicts of the entries that are asked
+abbrev pub KnowsVerdicts : List Entry → List Bool → Document → List Bool → Type 0
+KnowsVerdicts es asked J table = (e : ℕ) → flag asked e ≡ true → flag table e ≡ valid_at es e J

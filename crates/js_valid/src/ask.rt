@@ -1,0 +1,277 @@
+//! What the entries ask of one part of a document: requests, each of an entry that asks, its owner, for an entry that
+//! the part is to meet.
+
+ghost use Rattle.std.specs.Prelude.{◌≡◌, ℕ, ◌<◌, ◌||◌, ◌&&◌, ◌++◌, not, nat_eq, nat_lt, true, Bool, List, [], IfOk, IsOk, map, option_map, length};
+ghost use Rattle.documents.specs.Tests.{every, same_word};
+ghost use Rattle.schemas.specs.Schema.{lists, one};
+ghost use Rattle.draft06.specs.EntryValidity.{form_at};
+ghost use Rattle.js_schema.specs.Patterns.{source_of};
+ghost use Rattle.js_schema.specs.View.{form_view, keywords_view, items_view, property_view, pattern_property_view, pattern_properties_view};
+ghost use Rattle.js_schema.specs.SchemaView.{schema_view};
+ghost use Rattle.js_valid.specs.Matching.{matches};
+ghost use Rattle.js_valid.specs.Parts.{asked_by, of_contains, of_element, of_items_part, of_listed, of_member, of_name, of_named, of_names, or_else};
+ghost use Rattle.js_valid.specs.Requests.{AsksMore, AskedByOwners, contained};
+
+use crate::found::is_found;
+use js_doc::{Memory, Str};
+use js_schema::{EntryList, Form, ItemsPart, Keywords, PatternPropertyList, PropertyList, Schema};
+use std::alloc::Global;
+
+/// Requests of the owners, each for the entry at its place.
+#[derive(Drop)]
+pub(crate) struct Requests {
+    pub(crate) owners: Vec<u32>,
+    pub(crate) entries: Vec<u32>,
+}
+
+impl Requests {
+    pub(crate) fn new(alloc: Global) -> Requests
+        ensures owners { result.owners.items ≡ [] }
+        ensures entries { result.entries.items ≡ [] }
+    {
+        Requests {
+            owners: Vec::new(alloc),
+            entries: Vec::new(alloc),
+        }
+    }
+}
+
+/// Adds requests of one owner.
+fn add(requests: &mut Requests, owner: u32, entries: &[u32]) -> Result<(), Memory>
+    requires { length requests.old.owners.items ≡ length requests.old.entries.items }
+    ensures len { IsOk result → length requests.new.owners.items ≡ length requests.new.entries.items }
+    ensures asks { IsOk result → (e : ℕ) (p : ℕ → Bool) → asked_by e p requests.new.owners.items requests.new.entries.items
+        ≡ (asked_by e p requests.old.owners.items requests.old.entries.items && (not (nat_eq owner e) || every p entries.now)) }
+{
+    for entry in entries {
+        requests.owners.push(owner)?;
+        requests.entries.push(*entry)?;
+    }
+    Ok(())
+}
+
+fn add_option(requests: &mut Requests, owner: u32, entry: Option<u32>) -> Result<(), Memory>
+    requires { length requests.old.owners.items ≡ length requests.old.entries.items }
+    ensures len { IsOk result → length requests.new.owners.items ≡ length requests.new.entries.items }
+    ensures asks { IsOk result → AsksMore owner (lists one entry) requests.old.owners.items requests.old.entries.items
+        requests.new.owners.items requests.new.entries.items }
+{
+    match entry {
+        None => Ok(()),
+        Some(entry) => add(requests, owner, &[entry]),
+    }
+}
+
+/// The requests for the element at that place, but for `contains`.
+pub(crate) fn of_element(alloc: Global, schema: &Schema, owners: &[u32], place: usize) -> Result<Requests, Memory>
+    requires { every (λ o. nat_lt o (length (schema_view schema.now))) owners.now ≡ true }
+    ensures len { IfOk result (λ r. length r.owners.items ≡ length r.entries.items) }
+    ensures asks { IfOk result (λ r. AskedByOwners (schema_view schema.now) (λ f. of_element f place) owners.now
+        r.owners.items r.entries.items) }
+{
+    let mut requests = Requests::new(alloc);
+    for owner in owners {
+        add_element(&mut requests, *owner, schema.form(*owner), place)?;
+    }
+    Ok(requests)
+}
+
+fn add_element(requests: &mut Requests, owner: u32, form: &Form, place: usize) -> Result<(), Memory>
+    requires { length requests.old.owners.items ≡ length requests.old.entries.items }
+    ensures len { IsOk result → length requests.new.owners.items ≡ length requests.new.entries.items }
+    ensures asks { IsOk result → AsksMore owner (of_element (form_view form.now) place) requests.old.owners.items
+        requests.old.entries.items requests.new.owners.items requests.new.entries.items }
+{
+    match form {
+        Form::Keywords(keywords) => add_item(requests, owner, keywords, place),
+        _ => Ok(()),
+    }
+}
+
+fn add_item(requests: &mut Requests, owner: u32, keywords: &Keywords, place: usize) -> Result<(), Memory>
+    requires { length requests.old.owners.items ≡ length requests.old.entries.items }
+    ensures len { IsOk result → length requests.new.owners.items ≡ length requests.new.entries.items }
+    ensures asks { IsOk result → AsksMore owner
+        (of_items_part (option_map items_view keywords.now.items) keywords.now.additional_items place)
+        requests.old.owners.items requests.old.entries.items requests.new.owners.items requests.new.entries.items }
+{
+    match &keywords.items {
+        None => Ok(()),
+        Some(ItemsPart::Each(entry)) => add_option(requests, owner, Some(*entry)),
+        Some(ItemsPart::Listed(list)) => add_option(requests, owner, listed(list, keywords.additional_items, place)),
+    }
+}
+
+fn listed(list: &EntryList, rest: Option<u32>, place: usize) -> Option<u32>
+    ensures { lists one result ≡ of_listed list.now (lists one rest) place }
+{
+    let entries = list.as_slice();
+    if place < entries.len() {
+        return Some(entries[place]);
+    }
+    rest
+}
+
+/// The requests of `contains`.
+pub(crate) fn of_contains(alloc: Global, schema: &Schema, owners: &[u32]) -> Result<Requests, Memory>
+    requires { every (λ o. nat_lt o (length (schema_view schema.now))) owners.now ≡ true }
+    ensures len { IfOk result (λ r. length r.owners.items ≡ length r.entries.items) }
+    ensures asks { IfOk result (λ r. AskedByOwners (schema_view schema.now) of_contains owners.now
+        r.owners.items r.entries.items) }
+{
+    let mut requests = Requests::new(alloc);
+    for owner in owners {
+        add_contains(&mut requests, *owner, schema.form(*owner))?;
+    }
+    Ok(requests)
+}
+
+fn add_contains(requests: &mut Requests, owner: u32, form: &Form) -> Result<(), Memory>
+    requires { length requests.old.owners.items ≡ length requests.old.entries.items }
+    ensures len { IsOk result → length requests.new.owners.items ≡ length requests.new.entries.items }
+    ensures asks { IsOk result → AsksMore owner (of_contains (form_view form.now)) requests.old.owners.items
+        requests.old.entries.items requests.new.owners.items requests.new.entries.items }
+{
+    match form {
+        Form::Keywords(keywords) => add_option(requests, owner, keywords.contains),
+        _ => Ok(()),
+    }
+}
+
+pub(crate) fn contained_entry(form: &Form) -> Option<u32>
+    ensures { result ≡ contained (form_view form.now) }
+{
+    match form {
+        Form::Keywords(keywords) => keywords.contains,
+        _ => None,
+    }
+}
+
+/// The requests of `propertyNames`.
+pub(crate) fn of_name(alloc: Global, schema: &Schema, owners: &[u32]) -> Result<Requests, Memory>
+    requires { every (λ o. nat_lt o (length (schema_view schema.now))) owners.now ≡ true }
+    ensures len { IfOk result (λ r. length r.owners.items ≡ length r.entries.items) }
+    ensures asks { IfOk result (λ r. AskedByOwners (schema_view schema.now) of_name owners.now
+        r.owners.items r.entries.items) }
+{
+    let mut requests = Requests::new(alloc);
+    for owner in owners {
+        add_name(&mut requests, *owner, schema.form(*owner))?;
+    }
+    Ok(requests)
+}
+
+fn add_name(requests: &mut Requests, owner: u32, form: &Form) -> Result<(), Memory>
+    requires { length requests.old.owners.items ≡ length requests.old.entries.items }
+    ensures len { IsOk result → length requests.new.owners.items ≡ length requests.new.entries.items }
+    ensures asks { IsOk result → AsksMore owner (of_name (form_view form.now)) requests.old.owners.items
+        requests.old.entries.items requests.new.owners.items requests.new.entries.items }
+{
+    match form {
+        Form::Keywords(keywords) => add_option(requests, owner, keywords.property_names),
+        _ => Ok(()),
+    }
+}
+
+/// The requests for the value of a member with that name.
+pub(crate) fn of_member(alloc: Global, schema: &Schema, owners: &[u32], name: &Str) -> Result<Requests, Memory>
+    requires { every (λ o. nat_lt o (length (schema_view schema.now))) owners.now ≡ true }
+    ensures len { IfOk result (λ r. length r.owners.items ≡ length r.entries.items) }
+    ensures asks { IfOk result (λ r. AskedByOwners (schema_view schema.now) (λ f. of_member matches f name.now) owners.now
+        r.owners.items r.entries.items) }
+{
+    let mut requests = Requests::new(alloc);
+    for owner in owners {
+        add_member(alloc, &mut requests, *owner, schema.form(*owner), name)?;
+    }
+    Ok(requests)
+}
+
+fn add_member(
+    alloc: Global,
+    requests: &mut Requests,
+    owner: u32,
+    form: &Form,
+    name: &Str,
+) -> Result<(), Memory>
+    requires { length requests.old.owners.items ≡ length requests.old.entries.items }
+    ensures len { IsOk result → length requests.new.owners.items ≡ length requests.new.entries.items }
+    ensures asks { IsOk result → AsksMore owner (of_member matches (form_view form.now) name.now) requests.old.owners.items
+        requests.old.entries.items requests.new.owners.items requests.new.entries.items }
+{
+    match form {
+        Form::Keywords(keywords) => {
+            let named = named_entries(alloc, keywords, name)?;
+            add(requests, owner, &named)
+        }
+        _ => Ok(()),
+    }
+}
+
+fn named_entries(alloc: Global, keywords: &Keywords, name: &Str) -> Result<Vec<u32>, Memory>
+    ensures { IfOk result (λ found. found.items ≡ or_else (of_names matches (keywords_view keywords.now) name.now)
+        (lists one keywords.now.additional_properties)) }
+{
+    let mut found = Vec::new(alloc);
+    add_properties(&mut found, &keywords.properties, name)?;
+    add_patterns(alloc, &mut found, &keywords.pattern_properties, name)?;
+    if found.is_empty() && let Some(entry) = keywords.additional_properties {
+        found.push(entry)?;
+    }
+    Ok(found)
+}
+
+fn add_properties(found: &mut Vec<u32>, list: &Option<PropertyList>, name: &Str) -> Result<(), Memory>
+    ensures { IsOk result → found.new.items ≡ found.old.items
+        ++ lists (of_named (λ n. same_word n name.now)) (option_map (λ ps. map property_view ps) list.now) }
+{
+    match list {
+        None => Ok(()),
+        Some(list) => add_named(found, list, name),
+    }
+}
+
+fn add_named(found: &mut Vec<u32>, list: &PropertyList, name: &Str) -> Result<(), Memory>
+    ensures { IsOk result → found.new.items ≡ found.old.items
+        ++ of_named (λ n. same_word n name.now) (map property_view list.now) }
+{
+    for property in list.as_slice() {
+        if is_name(&property.name, name) {
+            found.push(property.entry)?;
+        }
+    }
+    Ok(())
+}
+
+fn is_name(a: &Str, b: &Str) -> bool
+    ensures { result ≡ same_word a.now b.now }
+{
+    b.as_text() == a.as_text()
+}
+
+fn add_patterns(
+    alloc: Global,
+    found: &mut Vec<u32>,
+    list: &Option<PatternPropertyList>,
+    name: &Str,
+) -> Result<(), Memory>
+    ensures { IsOk result → found.new.items ≡ found.old.items
+        ++ lists (of_named (λ t. matches t name.now)) (option_map pattern_properties_view list.now) }
+{
+    match list {
+        None => Ok(()),
+        Some(list) => add_matching(alloc, found, list, name),
+    }
+}
+
+fn add_matching(alloc: Global, found: &mut Vec<u32>, list: &PatternPropertyList, name: &Str) -> Result<(), Memory>
+    ensures { IsOk result → found.new.items ≡ found.old.items
+        ++ of_named (λ t. matches t name.now) (pattern_properties_view list.now) }
+{
+    for property in list.as_slice() {
+        if is_found(alloc, &property.pattern, name)? {
+            found.push(property.entry)?;
+        }
+    }
+    Ok(())
+}

@@ -1,0 +1,217 @@
+//! Verdicts of some entries on a document. It goes down the document and not from entry to entry: at each part the
+//! entries that are asked of it, by whichever keyword, are decided together and once.
+
+ghost use Rattle.std.specs.Prelude.{◌≡◌, ℕ, ◌<◌, ◌&&◌, ◌||◌, not, nat_eq, nat_lt, true, IfOk, IsOk, map, length};
+ghost use Rattle.documents.specs.Document.{string, elements, entries};
+ghost use Rattle.draft06.specs.EntryValidity.{form_at};
+ghost use Rattle.js_doc.specs.View.{view, list_view, map_view};
+ghost use Rattle.js_schema.specs.SchemaView.{schema_view};
+ghost use Rattle.js_valid.specs.Matching.{matches};
+ghost use Rattle.js_valid.specs.Parts.{flag, asked_by, parts};
+ghost use Rattle.js_valid.specs.Places.{is_at};
+ghost use Rattle.js_valid.specs.Plan.{IsPlan, valid_at};
+ghost use Rattle.js_valid.specs.Requests.{FinePart, contained, parts_list, parts_members};
+ghost use Rattle.schemas.specs.Schema.{meets};
+ghost use Rattle.documents.specs.Tests.{every};
+
+use crate::ask::{Requests, contained_entry, of_contains, of_element, of_member, of_name};
+use crate::asked::close;
+use crate::settle::settle;
+use crate::tables::{holds, mark_all, marked_entries, refuse, refuse_all, refuse_none, tests_of};
+use js_doc::{Doc, DocList, DocMap, Memory, Str};
+use js_schema::Schema;
+use std::alloc::Global;
+
+/// The verdicts of the entries, in their order.
+#[cycle(decide)]
+pub(crate) fn verdicts(
+    alloc: Global,
+    schema: &Schema,
+    order: &[u32],
+    doc: &Doc,
+    entries: &[u32],
+) -> Result<Vec<bool>, Memory>
+    requires { IsPlan (schema_view schema.now) order.now }
+    ensures { IfOk result (λ vs. vs.items ≡ map (λ q. valid_at (schema_view schema.now) q (view doc.now)) entries.now) }
+{
+    let mut asked = vec![in alloc; false; schema.len() as usize]?;
+    mark_all(&mut asked, entries);
+    close(schema, order, &mut asked);
+    let owners = marked_entries(alloc, &asked)?;
+    let fine = fine_parts(alloc, schema, order, doc, &owners)?;
+    let table = settle(alloc, schema, order, doc, &asked, &fine)?;
+    tests_of(alloc, &table, entries)
+}
+
+/// Which of the owners have what they ask of the document's parts.
+#[cycle(decide)]
+fn fine_parts(
+    alloc: Global,
+    schema: &Schema,
+    order: &[u32],
+    doc: &Doc,
+    owners: &[u32],
+) -> Result<Vec<bool>, Memory>
+    requires plan { IsPlan (schema_view schema.now) order.now }
+    requires owners { every (λ o. nat_lt o (length (schema_view schema.now))) owners.now ≡ true }
+    ensures { IfOk result (λ fine. FinePart (schema_view schema.now) owners.now fine.items
+        (λ e. parts matches (valid_at (schema_view schema.now)) (form_at (schema_view schema.now) e) (view doc.now))) }
+{
+    match doc {
+        Doc::List(list) => fine_list(alloc, schema, order, list, owners),
+        Doc::Members(members) => fine_members(alloc, schema, order, members, owners),
+        _ => all_fine(alloc, schema.len()),
+    }
+}
+
+/// Every owner has what it asks for, so far.
+fn all_fine(alloc: Global, count: u32) -> Result<Vec<bool>, Memory>
+    ensures len { IfOk result (λ fine. length fine.items ≡ count) }
+    ensures all { IfOk result (λ fine. (e : ℕ) → e < count → flag fine.items e ≡ true) }
+{
+    Ok(vec![in alloc; true; count as usize]?)
+}
+
+#[cycle(decide)]
+fn fine_list(
+    alloc: Global,
+    schema: &Schema,
+    order: &[u32],
+    list: &DocList,
+    owners: &[u32],
+) -> Result<Vec<bool>, Memory>
+    requires plan { IsPlan (schema_view schema.now) order.now }
+    requires owners { every (λ o. nat_lt o (length (schema_view schema.now))) owners.now ≡ true }
+    ensures { IfOk result (λ fine. FinePart (schema_view schema.now) owners.now fine.items
+        (λ e. parts_list (valid_at (schema_view schema.now)) (form_at (schema_view schema.now) e) (elements (list_view list.now)))) }
+{
+    let mut fine = all_fine(alloc, schema.len())?;
+    let mut unmet = all_fine(alloc, schema.len())?;
+    let contains = of_contains(alloc, schema, owners)?;
+    for (place, child) in list.as_slice().iter().enumerate() {
+        let requests = of_element(alloc, schema, owners, place)?;
+        decide_element(alloc, schema, order, child, &requests, &contains, &mut fine, &mut unmet)?;
+    }
+    contain(schema, owners, &mut fine, &unmet);
+    Ok(fine)
+}
+
+/// Takes the test from each owner whose `contains` no element has met.
+fn contain(schema: &Schema, owners: &[u32], fine: &mut Vec<bool>, unmet: &[bool])
+    requires { every (λ o. nat_lt o (length (schema_view schema.now))) owners.now ≡ true }
+    ensures { (e : ℕ) → flag fine.new.items e ≡ (flag fine.old.items e && every (λ o. not (nat_eq o e)
+        || meets (λ q. not (flag unmet.now o)) (contained (form_at (schema_view schema.now) o))) owners.now) }
+{
+    for owner in owners {
+        let met = is_contained(schema, *owner, unmet);
+        refuse(fine, *owner, met);
+    }
+}
+
+fn is_contained(schema: &Schema, owner: u32, unmet: &[bool]) -> bool
+    requires { owner < length (schema_view schema.now) }
+    ensures { result ≡ meets (λ q. not (flag unmet.now owner)) (contained (form_at (schema_view schema.now) owner)) }
+{
+    match contained_entry(schema.form(owner)) {
+        None => true,
+        Some(_) => !holds(unmet, owner),
+    }
+}
+
+#[cycle(decide)]
+fn decide_element(
+    alloc: Global,
+    schema: &Schema,
+    order: &[u32],
+    doc: &Doc,
+    requests: &Requests,
+    contains: &Requests,
+    fine: &mut Vec<bool>,
+    unmet: &mut Vec<bool>,
+) -> Result<(), Memory>
+    requires plan { IsPlan (schema_view schema.now) order.now }
+    requires len { length requests.now.owners.items ≡ length requests.now.entries.items }
+    requires contains_len { length contains.now.owners.items ≡ length contains.now.entries.items }
+    ensures fine { IsOk result → (e : ℕ) → flag fine.new.items e ≡ (flag fine.old.items e
+        && asked_by e (λ q. valid_at (schema_view schema.now) q (view doc.now)) requests.now.owners.items requests.now.entries.items) }
+    ensures unmet { IsOk result → (e : ℕ) → flag unmet.new.items e ≡ (flag unmet.old.items e
+        && asked_by e (λ q. not (valid_at (schema_view schema.now) q (view doc.now))) contains.now.owners.items contains.now.entries.items) }
+{
+    let mut entries = Vec::from_slice(alloc, &requests.entries)?;
+    entries.extend_from_slice(&contains.entries)?;
+    let answers = verdicts(alloc, schema, order, doc, &entries)?;
+    let (first, second) = answers.as_slice().split_at(requests.entries.len());
+    refuse_all(fine, &requests.owners, first);
+    refuse_none(unmet, &contains.owners, second);
+    Ok(())
+}
+
+#[cycle(decide)]
+fn fine_members(
+    alloc: Global,
+    schema: &Schema,
+    order: &[u32],
+    members: &DocMap,
+    owners: &[u32],
+) -> Result<Vec<bool>, Memory>
+    requires plan { IsPlan (schema_view schema.now) order.now }
+    requires owners { every (λ o. nat_lt o (length (schema_view schema.now))) owners.now ≡ true }
+    ensures { IfOk result (λ fine. FinePart (schema_view schema.now) owners.now fine.items
+        (λ e. parts_members matches (valid_at (schema_view schema.now)) (form_at (schema_view schema.now) e)
+        (entries (map_view members.now)))) }
+{
+    let mut fine = all_fine(alloc, schema.len())?;
+    let names = of_name(alloc, schema, owners)?;
+    for member in members.as_slice() {
+        let requests = of_member(alloc, schema, owners, member.name())?;
+        decide_part(alloc, schema, order, member.value(), &requests, &mut fine)?;
+        decide_name(alloc, schema, order, member.name(), &names, &mut fine)?;
+    }
+    Ok(fine)
+}
+
+#[cycle(decide)]
+fn decide_part(
+    alloc: Global,
+    schema: &Schema,
+    order: &[u32],
+    doc: &Doc,
+    requests: &Requests,
+    fine: &mut Vec<bool>,
+) -> Result<(), Memory>
+    requires plan { IsPlan (schema_view schema.now) order.now }
+    requires len { length requests.now.owners.items ≡ length requests.now.entries.items }
+    ensures { IsOk result → (e : ℕ) → flag fine.new.items e ≡ (flag fine.old.items e
+        && asked_by e (λ q. valid_at (schema_view schema.now) q (view doc.now)) requests.now.owners.items requests.now.entries.items) }
+{
+    if requests.entries.is_empty() {
+        return Ok(());
+    }
+    let answers = verdicts(alloc, schema, order, doc, &requests.entries)?;
+    refuse_all(fine, &requests.owners, &answers);
+    Ok(())
+}
+
+/// The same of a name, as a string.
+#[cycle(decide)]
+fn decide_name(
+    alloc: Global,
+    schema: &Schema,
+    order: &[u32],
+    name: &Str,
+    requests: &Requests,
+    fine: &mut Vec<bool>,
+) -> Result<(), Memory>
+    requires plan { IsPlan (schema_view schema.now) order.now }
+    requires len { length requests.now.owners.items ≡ length requests.now.entries.items }
+    ensures { IsOk result → (e : ℕ) → flag fine.new.items e ≡ (flag fine.old.items e
+        && asked_by e (λ q. valid_at (schema_view schema.now) q (string name.now)) requests.now.owners.items requests.now.entries.items) }
+{
+    if requests.entries.is_empty() {
+        return Ok(());
+    }
+    let doc = Doc::Text(name.copy(alloc)?);
+    let answers = verdicts(alloc, schema, order, &doc, &requests.entries)?;
+    refuse_all(fine, &requests.owners, &answers);
+    Ok(())
+}

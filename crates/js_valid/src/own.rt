@@ -1,0 +1,338 @@
+//! What a form asks of a document itself, where the verdicts of the entries that it names in place are known.
+
+ghost use Rattle.std.specs.Prelude.{◌≡◌, ℕ, ◌&&◌, ◌||◌, not, nat_le, int_le, int_lt, true, false, IfOk, chars, length, map, option_map};
+ghost use Rattle.documents.specs.Tests.{every, some};
+ghost use Rattle.documents.specs.Document.{kind_of, elements, entries};
+ghost use Rattle.documents.specs.Measures.{is_multiple, has_name, exactly_one, same_document};
+ghost use Rattle.schemas.specs.Schema.{meets};
+ghost use Rattle.draft06.specs.EntryValidity.{has_type, need_asks, asks_any, asks_number, asks_string};
+ghost use Rattle.js_doc.specs.View.{view, list_view, map_view, member_view};
+ghost use Rattle.js_schema.specs.View.{form_view, keywords_view, type_view, needs_view, dependency_view};
+ghost use Rattle.js_valid.specs.Matching.{matches};
+ghost use Rattle.js_valid.specs.Parts.{flag, own, own_keywords, own_array, own_object, no_parts, no_entry};
+
+use crate::found::{is_found, letters};
+use crate::tables::{all_hold, holds, just_one_holds, one_holds};
+use js_doc::{Doc, DocList, DocMap, Memory, Str, StrList, equal};
+use js_schema::{DependencyList, EntryList, Form, Keywords, Needs, PatternText, TypeList, TypeName};
+use std::alloc::Global;
+
+pub(crate) fn meets_own(alloc: Global, form: &Form, here: &[bool], doc: &Doc) -> Result<bool, Memory>
+    ensures { IfOk result (λ b. b ≡ own matches (flag here.now) (form_view form.now) (view doc.now)) }
+{
+    match form {
+        Form::Always => Ok(true),
+        Form::Never => Ok(false),
+        Form::Ref(target) => Ok(holds(here, *target)),
+        Form::Keywords(keywords) => meets_keywords(alloc, keywords, here, doc),
+    }
+}
+
+fn meets_keywords(alloc: Global, keywords: &Keywords, here: &[bool], doc: &Doc) -> Result<bool, Memory>
+    ensures { IfOk result (λ b. b ≡ own_keywords matches (flag here.now) (keywords_view keywords.now) (view doc.now)) }
+{
+    if !meets_any(keywords, here, doc) {
+        return Ok(false);
+    }
+    match doc {
+        Doc::Null | Doc::Bool(_) => Ok(true),
+        Doc::Num(number) => Ok(meets_number(keywords, *number)),
+        Doc::Text(text) => meets_text(alloc, keywords, text),
+        Doc::List(list) => Ok(meets_list(keywords, list)),
+        Doc::Members(members) => Ok(meets_members(keywords, here, members)),
+    }
+}
+
+fn meets_any(keywords: &Keywords, here: &[bool], doc: &Doc) -> bool
+    ensures { result ≡ asks_any matches (flag here.now) no_parts (keywords_view keywords.now) (view doc.now) }
+{
+    is_listed(keywords, doc)
+        && is_constant(keywords, doc)
+        && has_types(keywords, doc)
+        && meets_all_of(&keywords.all_of, here)
+        && meets_any_of(&keywords.any_of, here)
+        && meets_one_of(&keywords.one_of, here)
+        && meets_not(keywords.not, here)
+}
+
+fn is_listed(keywords: &Keywords, doc: &Doc) -> bool
+    ensures { result ≡ meets (some (λ d. same_document d (view doc.now)))
+        (option_map (λ ds. elements (list_view ds)) keywords.now.enumeration) }
+{
+    match &keywords.enumeration {
+        None => true,
+        Some(list) => is_in_list(list, doc),
+    }
+}
+
+fn is_in_list(list: &DocList, doc: &Doc) -> bool
+    ensures { result ≡ some (λ d. same_document d (view doc.now)) (elements (list_view list.now)) }
+{
+    is_among(list.as_slice(), doc)
+}
+
+fn is_among(docs: &[Doc], doc: &Doc) -> bool
+    ensures { result ≡ some (λ d. same_document d (view doc.now)) (map view docs.now) }
+{
+    for other in docs {
+        if is_same(other, doc) {
+            return true;
+        }
+    }
+    false
+}
+
+fn is_same(a: &Doc, b: &Doc) -> bool
+    ensures { result ≡ same_document (view a.now) (view b.now) }
+{
+    equal(a, b)
+}
+
+fn is_constant(keywords: &Keywords, doc: &Doc) -> bool
+    ensures { result ≡ meets (λ d. same_document d (view doc.now)) (option_map view keywords.now.constant) }
+{
+    match &keywords.constant {
+        None => true,
+        Some(constant) => is_same(constant, doc),
+    }
+}
+
+fn has_types(keywords: &Keywords, doc: &Doc) -> bool
+    ensures { result ≡ meets (some (has_type (view doc.now))) (option_map (λ ts. map type_view ts) keywords.now.types) }
+{
+    match &keywords.types {
+        None => true,
+        Some(types) => has_one_type(types, doc),
+    }
+}
+
+fn has_one_type(types: &TypeList, doc: &Doc) -> bool
+    ensures { result ≡ some (has_type (view doc.now)) (map type_view types.now) }
+{
+    for name in types.as_slice() {
+        if is_of_type(*name, doc) {
+            return true;
+        }
+    }
+    false
+}
+
+fn is_of_type(name: TypeName, doc: &Doc) -> bool
+    ensures { result ≡ has_type (view doc.now) (type_view name) }
+{
+    match (name, doc) {
+        (TypeName::Null, Doc::Null) => true,
+        (TypeName::Boolean, Doc::Bool(_)) => true,
+        (TypeName::Number, Doc::Num(_)) => true,
+        (TypeName::Integer, Doc::Num(_)) => true,
+        (TypeName::Text, Doc::Text(_)) => true,
+        (TypeName::Array, Doc::List(_)) => true,
+        (TypeName::Object, Doc::Members(_)) => true,
+        _ => false,
+    }
+}
+
+fn meets_all_of(list: &Option<EntryList>, here: &[bool]) -> bool
+    ensures { result ≡ meets (every (flag here.now)) list.now }
+{
+    match list {
+        None => true,
+        Some(list) => all_hold(here, list.as_slice()),
+    }
+}
+
+fn meets_any_of(list: &Option<EntryList>, here: &[bool]) -> bool
+    ensures { result ≡ meets (some (flag here.now)) list.now }
+{
+    match list {
+        None => true,
+        Some(list) => one_holds(here, list.as_slice()),
+    }
+}
+
+fn meets_one_of(list: &Option<EntryList>, here: &[bool]) -> bool
+    ensures { result ≡ meets (exactly_one (flag here.now)) list.now }
+{
+    match list {
+        None => true,
+        Some(list) => just_one_holds(here, list.as_slice()),
+    }
+}
+
+fn meets_not(entry: Option<u32>, here: &[bool]) -> bool
+    ensures { result ≡ meets (λ e. not (flag here.now e)) entry }
+{
+    match entry {
+        None => true,
+        Some(entry) => !holds(here, entry),
+    }
+}
+
+fn meets_number(keywords: &Keywords, number: i128) -> bool
+    ensures { result ≡ asks_number matches no_entry no_parts (keywords_view keywords.now) number }
+{
+    is_multiple_of(keywords.multiple_of, number)
+        && is_up_to(keywords.maximum, number)
+        && is_under(keywords.exclusive_maximum, number)
+        && is_from(keywords.minimum, number)
+        && is_over(keywords.exclusive_minimum, number)
+}
+
+fn is_up_to(most: Option<i128>, number: i128) -> bool
+    ensures { result ≡ meets (λ n. int_le number n) most }
+{
+    match most {
+        None => true,
+        Some(most) => number <= most,
+    }
+}
+
+fn is_under(end: Option<i128>, number: i128) -> bool
+    ensures { result ≡ meets (λ n. int_lt number n) end }
+{
+    match end {
+        None => true,
+        Some(end) => number < end,
+    }
+}
+
+fn is_from(least: Option<i128>, number: i128) -> bool
+    ensures { result ≡ meets (λ n. int_le n number) least }
+{
+    match least {
+        None => true,
+        Some(least) => least <= number,
+    }
+}
+
+fn is_over(start: Option<i128>, number: i128) -> bool
+    ensures { result ≡ meets (λ n. int_lt n number) start }
+{
+    match start {
+        None => true,
+        Some(start) => start < number,
+    }
+}
+
+fn is_multiple_of(divisor: Option<u64>, number: i128) -> bool
+    ensures { result ≡ meets (λ m. is_multiple m number) divisor }
+{
+    match divisor {
+        None => true,
+        Some(0) => number == 0,
+        Some(divisor) => number.unsigned_abs() % divisor as u128 == 0,
+    }
+}
+
+fn meets_text(alloc: Global, keywords: &Keywords, text: &Str) -> Result<bool, Memory>
+    ensures { IfOk result (λ b. b ≡ asks_string matches no_entry no_parts (keywords_view keywords.now) text.now) }
+{
+    if !fits_length(alloc, keywords, text)? {
+        return Ok(false);
+    }
+    match &keywords.pattern {
+        None => Ok(true),
+        Some(pattern) => is_found(alloc, pattern, text),
+    }
+}
+
+fn fits_length(alloc: Global, keywords: &Keywords, text: &Str) -> Result<bool, Memory>
+    ensures { IfOk result (λ b. b ≡ (meets (λ n. nat_le (length text.now) n) keywords.now.max_length
+        && meets (λ n. nat_le n (length text.now)) keywords.now.min_length)) }
+{
+    if keywords.max_length.is_none() && keywords.min_length.is_none() {
+        return Ok(true);
+    }
+    let letters = letters(alloc, text.as_text())?;
+    Ok(at_most(letters.len(), keywords.max_length) && at_least(letters.len(), keywords.min_length))
+}
+
+fn at_most(count: usize, most: Option<u64>) -> bool
+    ensures { result ≡ meets (λ n. nat_le count n) most }
+{
+    match most {
+        None => true,
+        Some(most) => count as u64 <= most,
+    }
+}
+
+fn at_least(count: usize, least: Option<u64>) -> bool
+    ensures { result ≡ meets (λ n. nat_le n count) least }
+{
+    match least {
+        None => true,
+        Some(least) => least <= count as u64,
+    }
+}
+
+fn meets_list(keywords: &Keywords, list: &DocList) -> bool
+    ensures { result ≡ own_array matches no_entry (keywords_view keywords.now) (elements (list_view list.now)) }
+{
+    at_most(list.len(), keywords.max_items) && at_least(list.len(), keywords.min_items)
+}
+
+fn meets_members(keywords: &Keywords, here: &[bool], members: &DocMap) -> bool
+    ensures { result ≡ own_object matches (flag here.now) (keywords_view keywords.now) (entries (map_view members.now)) }
+{
+    at_most(members.len(), keywords.max_properties)
+        && at_least(members.len(), keywords.min_properties)
+        && has_required(&keywords.required, members)
+        && meets_dependencies(&keywords.dependencies, here, members)
+}
+
+fn has_required(names: &Option<StrList>, members: &DocMap) -> bool
+    ensures { result ≡ meets (every (λ w. has_name w (entries (map_view members.now)))) names.now }
+{
+    match names {
+        None => true,
+        Some(names) => has_names(names, members),
+    }
+}
+
+fn has_names(names: &StrList, members: &DocMap) -> bool
+    ensures { result ≡ every (λ w. has_name w (entries (map_view members.now))) names.now }
+{
+    for name in names.as_slice() {
+        if !has_member(members, name) {
+            return false;
+        }
+    }
+    true
+}
+
+fn has_member(members: &DocMap, name: &Str) -> bool
+    ensures { result ≡ has_name name.now (entries (map_view members.now)) }
+{
+    members.get(name.as_text()).is_some()
+}
+
+fn meets_dependencies(list: &Option<DependencyList>, here: &[bool], members: &DocMap) -> bool
+    ensures { result ≡ meets (every (λ n. not (has_name n.0 (entries (map_view members.now)))
+        || need_asks (flag here.now) n.1 (entries (map_view members.now)))) (option_map (λ ds. map dependency_view ds) list.now) }
+{
+    match list {
+        None => true,
+        Some(list) => meets_each_dependency(list, here, members),
+    }
+}
+
+fn meets_each_dependency(list: &DependencyList, here: &[bool], members: &DocMap) -> bool
+    ensures { result ≡ every (λ n. not (has_name n.0 (entries (map_view members.now)))
+        || need_asks (flag here.now) n.1 (entries (map_view members.now))) (map dependency_view list.now) }
+{
+    for dependency in list.as_slice() {
+        if has_member(members, &dependency.key) && !meets_needs(&dependency.needs, here, members) {
+            return false;
+        }
+    }
+    true
+}
+
+fn meets_needs(needs: &Needs, here: &[bool], members: &DocMap) -> bool
+    ensures { result ≡ need_asks (flag here.now) (needs_view needs.now) (entries (map_view members.now)) }
+{
+    match needs {
+        Needs::Names(names) => has_names(names, members),
+        Needs::Whole(entry) => holds(here, *entry),
+    }
+}
