@@ -5,25 +5,35 @@
 //! stand on this crate.
 #![tactic(auto)]
 
+mod children;
 mod constraints;
 mod entry;
-mod fault;
-mod keyword;
+mod fields;
+mod file;
+mod forms;
+mod holding;
+mod keywords;
+mod links;
 mod lists;
-mod member;
+mod members;
+mod numbers;
+mod object;
 mod part;
 mod pattern;
-mod shapes;
+mod place;
+mod places;
+mod read;
 mod table;
-#[cfg(test)]
-mod tests;
-mod whole;
+mod values;
+mod visit;
+mod walk;
+mod weight;
 
 pub use constraints::Keywords;
 pub use entry::Form;
-pub use fault::SchemaFault;
-pub use keyword::Keyword;
+pub use js_keywords::{Keyword, SchemaFault, TypeName};
 pub use lists::{DependencyList, EntryList, PatternPropertyList, PropertyList, TypeList};
-pub use part::{Dependency, ItemsPart, Needs, PatternProperty, Property, TypeName};
+pub use part::{Dependency, ItemsPart, Needs, PatternProperty, Property};
 pub use pattern::PatternText;
+pub use read::read_schema;
 pub use table::Schema;
