@@ -1,6 +1,9 @@
 pub mod TreeTestsLemmas
 pub mod EntriesLemmas
 pub mod Soundness
-pub mod WordsLemmas
-pub mod ShapesLemmas
-pub mod MemberLemmas
+pub mod PlaceLemmas
+pub mod PlacesLemmas
+pub mod HoldingLemmas
+pub mod MembersLemmas
+pub mod VisitLemmas
+pub mod WalkLemmas
