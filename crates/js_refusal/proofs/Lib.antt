@@ -1,1 +1,1 @@
--- No lemma is needed.
+mod Examples
