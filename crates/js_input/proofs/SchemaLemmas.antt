@@ -1,5 +1,5 @@
 -- The words of a schema's fault, and those of a cycle, one entry at a time.
-use Rattle.std.proofs.Common.{◌≡◌, ℕ, zero, suc, ◌+◌, ◌<◌, List, [], ◌∷◌, ◌++◌, length, take, map, flat_map, get_or, true, Option, Some, None, Result, Ok, Err, option_map, codes, refl, sym, ap, ◌∙◌, subst, append_assoc, arith}
+use Rattle.std.proofs.Common.{◌≡◌, ℕ, zero, suc, ◌+◌, ◌<◌, List, [], ◌∷◌, ◌++◌, length, take, map, flat_map, get_or, true, Option, Some, None, Result, Ok, Err, IfErr, option_map, codes, refl, sym, ap, ◌∙◌, subst, append_assoc, arith}
 use Rattle.std.proofs.lemmas.Grind.{flat_map-append}
 use Rattle.std.proofs.lemmas.List.{append-nil, take_more}
 use Rattle.documents.specs.Json.{Json}
@@ -18,6 +18,9 @@ use Rattle.js_keywords.specs.Reading.{rules}
 use Rattle.js_keywords.specs.declared.fault.SchemaFault.{SchemaFault}
 use Rattle.js_keywords.specs.declared.fault.SchemaFault.TheVariants as S
 use Rattle.js_refusal.specs.RefusalWords.{fault_words}
+use Rattle.js_guard.specs.Answer as G
+use Rattle.js_guard.specs.declared.fault.GuardFault.{GuardFault}
+use Rattle.js_guard.specs.declared.fault.GuardFault.TheVariants.{Cycle}
 use Rattle.js_input.specs.Reading.{Reading, Refused, Read}
 use Rattle.js_input.specs.SchemaReading.{pointer_at, cycle_words, of_result, of_value}
 
@@ -65,6 +68,10 @@ pub cycle-within : (es : List Entry) → is_table es ≡ true → (cycle : List 
 cycle-within es t [] h i d l = absurd h
 cycle-within es t (x ∷ xs) h zero d l = (within-back es t x x xs h.1).0
 cycle-within es t (x ∷ xs) h (suc i) d l = (within-back es t x x xs h.1).1 i d (omega (arith, l))
+
+pub cycle-told : {A : Type 0} (g : List (List ℕ)) (r : Result A GuardFault) (cycle : List ℕ) → IfErr r (G.Tells g)
+    → r ≡ Err (Cycle cycle) → IsLeastCycle g cycle
+cycle-told g r cycle h e = (subst (λ o. IfErr o (G.Tells g)) e h).1
 
 -- within a list it is of no matter what stands past its end
 same_at : {A : Type 0} (xs : List A) (i : ℕ) (d e : A) → i < length xs → get_or xs i d ≡ get_or xs i e
