@@ -34,11 +34,7 @@ pub enum SchemaFile {
 }
 
 /// Reads the file of that name as a schema.
-pub fn load_schema<H: Shelf>(
-    alloc: Global,
-    shelf: &mut H,
-    name: &Str,
-) -> Result<SchemaFile, Memory>
+pub fn load_schema<H: Shelf>(alloc: Global, shelf: &mut H, name: &Str) -> Result<SchemaFile, Memory>
     ensures told { H.told shelf.new ≡ H.told shelf.old }
     ensures says { IfOk result (λ r. LoadSays R.reads_schema (H.told shelf.old) (encode_utf8_all name.now)
         (H.faults shelf.old) (H.faults shelf.new) (schema_reading r)) }

@@ -17,7 +17,12 @@ pub fn fault_words(alloc: Global, fault: &SchemaFault) -> Result<String, Memory>
 {
     match fault {
         SchemaFault::NotASchema(place) => placed(alloc, "notaschema", place),
-        SchemaFault::WrongShape(keyword, place) => named(alloc, "wrongshape ", keyword.name(), place),
+        SchemaFault::WrongShape(keyword, place) => named(
+            alloc,
+            "wrongshape ",
+            keyword.name(),
+            place,
+        ),
         SchemaFault::NotWhole(place) => placed(alloc, "notwhole", place),
         SchemaFault::NotPositive(place) => placed(alloc, "notpositive", place),
         SchemaFault::Negative(place) => placed(alloc, "negative", place),

@@ -20,4 +20,4 @@ cycle_words-requires c =
     (cycle-told (edges (schema_view c.args.schema)) c.guard.result _ c.guard.ensures.cycle
     (c.in-Err-Cycle.is ∙ ap Err c.in-Err-Cycle.field-0-is)) in
     λ i d l. subst (λ xs. i < length xs → get_or xs i d < length (schema_view c.args.schema)) (sym c.as_slice.ensures)
-        (within i d) l
+    (within i d) l
