@@ -1,0 +1,31 @@
+-- Worked examples of the command words, each computed from the definition.
+use Rattle.std.specs.Prelude.{◌≡◌, [], ◌∷◌, Some, None, refl, codes}
+use Rattle.js_words.specs.Commands.{Include, Valid, command}
+
+include : command (codes "include" ∷ codes "a" ∷ codes "b" ∷ []) ≡ Some (Include (codes "a") (codes "b"))
+include = refl
+
+valid : command (codes "valid" ∷ codes "a" ∷ codes "d" ∷ []) ≡ Some (Valid (codes "a") (codes "d"))
+valid = refl
+
+-- a dash alone and the empty word are names
+dash_and_nothing : command (codes "valid" ∷ codes "-" ∷ [] ∷ []) ≡ Some (Valid (codes "-") [])
+dash_and_nothing = refl
+
+option_is_no_name : command (codes "include" ∷ codes "-x" ∷ codes "b" ∷ []) ≡ None
+option_is_no_name = refl
+
+second_is_an_option : command (codes "valid" ∷ codes "a" ∷ codes "-d" ∷ []) ≡ None
+second_is_an_option = refl
+
+one_name : command (codes "valid" ∷ codes "a" ∷ []) ≡ None
+one_name = refl
+
+three_names : command (codes "include" ∷ codes "a" ∷ codes "b" ∷ codes "c" ∷ []) ≡ None
+three_names = refl
+
+other_word : command (codes "check" ∷ codes "a" ∷ codes "b" ∷ []) ≡ None
+other_word = refl
+
+no_words : command [] ≡ None
+no_words = refl

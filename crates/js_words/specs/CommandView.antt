@@ -1,0 +1,8 @@
+-- The command that the program's value stands for.
+use Rattle.js_words.specs.Commands as C
+use Rattle.js_words.specs.declared.words.Command.{Command}
+use Rattle.js_words.specs.declared.words.Command.TheVariants as W
+
+abbrev pub command_view : Command → C.Command
+command_view (W.Include a b) = C.Include a.now b.now
+command_view (W.Valid a d) = C.Valid a.now d.now

@@ -1,0 +1,66 @@
+//! Reading the words.
+
+ghost use Rattle.std.specs.Prelude.{◌≡◌, codes, option_map};
+ghost use Rattle.documents.specs.Tests.{same_word};
+ghost use Rattle.js_words.specs.Commands as C;
+ghost use Rattle.js_words.specs.CommandView.{command_view};
+
+use js_doc::Str;
+
+/// What the words ask for, with the names of files.
+#[derive(Clone, Copy)]
+pub enum Command<'a> {
+    /// Two schemas: is the first included in the second?
+    Include(&'a Str, &'a Str),
+
+    /// A schema and a document: is it valid?
+    Valid(&'a Str, &'a Str),
+}
+
+/// The command of the words; `None` where they are none.
+pub fn read_words(words: &[Str]) -> Option<Command<'_>>
+    ensures { option_map command_view result ≡ C.command words.now }
+{
+    match words {
+        [word, first, second] => {
+            if is_name(first) && is_name(second) {
+                named(word, first, second)
+            } else {
+                None
+            }
+        }
+        _ => None,
+    }
+}
+
+fn named<'a>(word: &Str, first: &'a Str, second: &'a Str) -> Option<Command<'a>>
+    ensures { option_map command_view result ≡ C.named word.now first.now second.now }
+{
+    if is_include(word) {
+        Some(Command::Include(first, second))
+    } else if is_valid(word) {
+        Some(Command::Valid(first, second))
+    } else {
+        None
+    }
+}
+
+fn is_include(word: &Str) -> bool
+    ensures { result ≡ same_word word.now (codes "include") }
+{
+    "include" == word.as_text()
+}
+
+fn is_valid(word: &Str) -> bool
+    ensures { result ≡ same_word word.now (codes "valid") }
+{
+    "valid" == word.as_text()
+}
+
+/// A name is any word that doesn't begin with `-`, or `-` alone.
+fn is_name(word: &Str) -> bool
+    ensures { result ≡ C.is_name word.now }
+{
+    let bytes = word.as_text().as_bytes();
+    bytes.len() < 2 || bytes[0] != b'-'
+}
