@@ -65,23 +65,14 @@ fault_minimum : first_fault (one (codes "minimum") (number (pos 1))) ≡ Some (c
 unfolding places_from
 fault_minimum = refl
 
--- an unknown word; and no word at all, which no document meets
+-- an unknown word, and no word at all
 fault_frob : first_fault (one (codes "type") (word (codes "frob"))) ≡ Some (codes "type" ∷ [])
 unfolding places_from
 fault_frob = refl
 
-read_no_type : first_fault (one (codes "type") (list [])) ≡ None
+fault_no_type : first_fault (one (codes "type") (list [])) ≡ Some (codes "type" ∷ [])
 unfolding places_from
-read_no_type = refl
-
-table_no_type : table_of (one (codes "type") (list [])) ≡ All (1 ∷ []) ∷ Types [] ∷ []
-unfolding places_from
-table_no_type = refl
-
--- the name of a schema asks nothing
-read_id : first_fault (one (codes "$id") (word (codes "a"))) ≡ None
-unfolding places_from
-read_id = refl
+fault_no_type = refl
 
 -- an empty list, no list, and a list whose element is no schema, which is told at the element
 fault_empty : first_fault (one (codes "allOf") (list [])) ≡ Some (codes "allOf" ∷ [])

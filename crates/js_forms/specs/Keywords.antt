@@ -5,10 +5,10 @@ use Rattle.documents.specs.Kind.{all_kinds}
 use Rattle.documents.specs.Json.{Json, boolean, array, object, Items, no_items, item, elements}
 use Rattle.validity.specs.Validity.{word_names}
 
--- the keywords that are not read yet, with the reference
+-- the keywords that are not read yet, with the reference and the name of a schema
 abbrev pub unread_words : List (List ℕ)
 unread_words =
-    codes "$ref" ∷ codes "enum" ∷ codes "const" ∷ codes "multipleOf"
+    codes "$ref" ∷ codes "$id" ∷ codes "enum" ∷ codes "const" ∷ codes "multipleOf"
     ∷ codes "minimum" ∷ codes "maximum" ∷ codes "exclusiveMinimum" ∷ codes "exclusiveMaximum"
     ∷ codes "minLength" ∷ codes "maxLength" ∷ codes "pattern"
     ∷ codes "items" ∷ codes "additionalItems" ∷ codes "contains" ∷ codes "minItems" ∷ codes "maxItems"
@@ -36,9 +36,9 @@ is_filled_list _ = false
 abbrev pub is_type_word : Json → Bool
 is_type_word v = some (λ t. word_names t v) all_kinds
 
--- one such word, or a list of them; an empty one is a type that no document has
+-- one such word, or a non-empty list of them
 abbrev pub is_type : Json → Bool
-is_type (array vs) = every is_type_word (elements vs)
+is_type (array vs) = is_filled vs && every is_type_word (elements vs)
 is_type v = is_type_word v
 
 -- the member is a keyword that is not read yet, or one of the four in another shape than its own

@@ -15,8 +15,9 @@ use crate::kinds::is_type_word;
 use crate::words::{is_one_of, is_word, keyword};
 use js_doc::{Json, JsonList, JsonMap, Str};
 
-const UNREAD: [&str; 26] = [
+const UNREAD: [&str; 27] = [
     "$ref",
+    "$id",
     "enum",
     "const",
     "multipleOf",
@@ -71,7 +72,7 @@ fn is_type(value: &Json) -> bool
     ensures { result ≡ K.is_type (view value.now) }
 {
     match value {
-        Json::List(words) => are_type_words(words),
+        Json::List(words) => is_filled(words) && are_type_words(words),
         _ => is_type_word(value),
     }
 }
