@@ -1,0 +1,2 @@
+//! Laws about a pattern's states.
+#![tactic(auto)]
