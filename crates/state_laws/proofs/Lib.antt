@@ -1,2 +1,6 @@
 -- Worked examples.
 pub mod Examples
+-- Lists of places as sets.
+pub mod Places
+-- Matches without an end assertion, and pieces of a repeated tree.
+pub mod Pieces
