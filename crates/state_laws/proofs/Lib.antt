@@ -4,3 +4,5 @@ pub mod Examples
 pub mod Places
 -- Matches without an end assertion, and pieces of a repeated tree.
 pub mod Pieces
+-- Lists of flags, one a position.
+pub mod Flags
