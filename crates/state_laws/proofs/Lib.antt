@@ -6,3 +6,5 @@ pub mod Places
 pub mod Pieces
 -- Lists of flags, one a position.
 pub mod Flags
+-- Where a match ends.
+pub mod Ends
