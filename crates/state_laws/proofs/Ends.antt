@@ -33,7 +33,7 @@ copies_on_same f g step go more on n a b c (suc k) xs ys s =
 
 -- ---- only places before the end matter, and no end assertion does
 module _ (w : List ℕ) where
-  steps_open : (r : Tree) (xs ys : List ℕ) → Same (length w) xs ys
+  pub steps_open : (r : Tree) (xs ys : List ℕ) → Same (length w) xs ys
       → Same (length w) (flat_map (ends (without_end r) w) xs) (flat_map (ends r w) ys)
   steps_open r xs ys s =
       same_back (length w) (flat_map (ends r w) ys) (flat_map (ends (without_end r) w) xs)

@@ -8,3 +8,5 @@ pub mod Pieces
 pub mod Flags
 -- Where a match ends.
 pub mod Ends
+-- Which positions read one more character.
+pub mod Next
