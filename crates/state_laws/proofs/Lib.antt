@@ -10,3 +10,5 @@ pub mod Flags
 pub mod Ends
 -- Which positions read one more character.
 pub mod Next
+-- The state of the empty word, and after one more character.
+pub mod States

@@ -86,23 +86,23 @@ last_index : (w : List ℕ) (c : ℕ) → slice_index (w ++ c ∷ []) (length w)
 last_index [] c = refl
 last_index (d ∷ w) c = last_index w c
 
-earlier_index : (w : List ℕ) (c i : ℕ) → i < length w → slice_index (w ++ c ∷ []) i ≡ slice_index w i
+pub earlier_index : (w : List ℕ) (c i : ℕ) → i < length w → slice_index (w ++ c ∷ []) i ≡ slice_index w i
 earlier_index [] c i l = absurd (omega arith)
 earlier_index (d ∷ w) c zero l = refl
 earlier_index (d ∷ w) c (suc i) l = earlier_index w c i (omega arith)
+
+pub longer_is : (w : List ℕ) (c : ℕ) → length (w ++ c ∷ []) ≡ suc (length w)
+longer_is w c = length-append w (c ∷ []) ∙ omega arith
 
 module _ (w : List ℕ) (c : ℕ) (read : ℕ → Bool) where
   abbrev longer : List ℕ
   longer = w ++ c ∷ []
 
-  longer_is : length longer ≡ suc (length w)
-  longer_is = length-append w (c ∷ []) ∙ omega arith
-
   -- what ends no later than the shorter word
   pub steps_longer : (t : Tree) (xs ys : List ℕ) → Same (suc (length w)) xs ys
       → Same (suc (length w)) (flat_map (ends t longer) xs) (flat_map (ends (without_end t) w) ys)
   steps_longer =
-      same_ends longer w (suc (length w)) (omega (arith, longer_is)) (omega arith)
+      same_ends longer w (suc (length w)) (omega (arith, longer_is w c)) (omega arith)
       (λ i l. earlier_index w c i (omega (arith, l)))
 
   abbrev one : Tree → ℕ → Bool → Bool
@@ -122,7 +122,7 @@ module _ (w : List ℕ) (c : ℕ) (read : ℕ → Bool) where
     to h =
         let (i, a, t) = from_any (reads_end ranges longer) xs h in
         let (u, v) = and_parts (nat_eq (suc i) (length longer)) (has ranges (slice_index longer i)) t in
-        let e : i ≡ length w = omega (arith, eqb-true (suc i) (length longer) u, longer_is) in
+        let e : i ≡ length w = omega (arith, eqb-true (suc i) (length longer) u, longer_is w c) in
         and_from _ _ (in_among (length w) ys (s.0 (length w) (omega arith) (subst (λ z. IsIn z xs) e a)))
         (subst (λ z. has ranges z ≡ true) (ap (slice_index longer) e ∙ last_index w c) v)
 
@@ -130,7 +130,7 @@ module _ (w : List ℕ) (c : ℕ) (read : ℕ → Bool) where
     from h =
         let (u, v) = and_parts (is_among ys (length w)) (has ranges c) h in
         in_any (reads_end ranges longer) (length w) xs (s.1 (length w) (omega arith) (from_among (length w) ys u))
-        (and_from _ _ (eq-eqb (suc (length w)) (length longer) (sym longer_is))
+        (and_from _ _ (eq-eqb (suc (length w)) (length longer) (sym (longer_is w c)))
         (subst (λ z. has ranges z ≡ true) (sym (last_index w c)) v))
 
   abbrev Next : Tree → Type 0

@@ -38,7 +38,7 @@ mutual
   rises_of_one (tree r rs) w i j (inr m) = rises_of_one rs w i j m
 
 -- the same steps, up to a place below n
-repeats_same : (R Q : ℕ → ℕ → Type 0) (n : ℕ) → Rises R → ((i j : ℕ) → j < n → R i j → Q i j) → (k i j : ℕ) → j < n
+pub repeats_same : (R Q : ℕ → ℕ → Type 0) (n : ℕ) → Rises R → ((i j : ℕ) → j < n → R i j → Q i j) → (k i j : ℕ) → j < n
     → Repeats R k i j → Repeats Q k i j
 repeats_same R Q n f g zero i j l e = e
 repeats_same R Q n f g (suc k) i j l (h, r, t) =
