@@ -1,6 +1,6 @@
 -- Where a match ends, by the flags of the positions that are read last.
-use Rattle.std.proofs.lemmas.Bool.{and_parts, and_from, false≢true, ltb-false, eqb-true, eq-eqb, lt-ltb, ltb-true}
-use Rattle.std.proofs.Common.{◌≡◌, ℕ, zero, suc, ◌+◌, ◌-◌, ◌<◌, ◌≤◌, Bool, true, false, ◌&&◌, ◌||◌, nat_lt, nat_eq, List, [], ◌∷◌, ◌++◌, length, slice_index, flat_map, if◌then◌else◌, Option, Some, None, refl, sym, ◌∙◌, ap, subst, arith, append-nil}
+use Rattle.std.proofs.lemmas.Bool.{and_parts, and_from, false≢true, ltb-false, eqb-true, eq-eqb}
+use Rattle.std.proofs.Common.{◌≡◌, ℕ, zero, suc, ◌+◌, ◌-◌, ◌<◌, Bool, true, false, ◌&&◌, ◌||◌, nat_lt, nat_eq, List, [], ◌∷◌, ◌++◌, length, slice_index, flat_map, if◌then◌else◌, Some, None, refl, sym, ◌∙◌, ap, subst, arith, append-nil}
 use Rattle.std.specs.List.{list_any}
 use Rattle.patterns.specs.CharSet.{has}
 use Rattle.patterns.specs.Tree.{Tree, Trees, empty, one_of, at_start, at_end, in_turn, either, repeated, no_trees, tree}
@@ -10,7 +10,7 @@ use Rattle.words.specs.Position.{count_of}
 use Rattle.words.specs.LastRead.{reads_end, in_copies, in_copies_on, last_read, last_read_in_turn, last_read_of_one}
 use Rattle.words.specs.PatternState.{without_end, all_without_end}
 use Rattle.state_laws.specs.Flow.{is_among, through_some, through_copies, through_copies_on, ends_here, ends_here_in_turn, ends_here_of_one}
-use Rattle.state_laws.proofs.Places.{same_truth, in_any, from_any, in_among, from_among, same_among, Same, same_self, same_back, any_same, below, below_same, below_lacks, flat_flat, flat_same, flat_single, among_append, among_both}
+use Rattle.state_laws.proofs.Places.{same_truth, in_any, from_any, in_among, from_among, Same, same_self, same_back, any_same, below, below_same, below_lacks, flat_flat, flat_same, flat_single, among_append, among_both}
 use Rattle.state_laws.proofs.Pieces.{same_ends, pieces, piece, pieces_end, piece_pieces}
 use Rattle.state_laws.proofs.Flags.{Agrees, agrees_left, agrees_right, length_read}
 
@@ -175,24 +175,24 @@ module _ (w : List ℕ) (read : ℕ → Bool) where
   start_ends [] xs =
       same_truth _ _
       (λ h. in_among 0 _ (in_flat_map (ends at_start []) 0 0 xs (from_among 0 xs (and_parts (is_among xs 0) true h).0)
-          (complete at_start [] 0 0 (omega arith) (refl, refl))))
+      (complete at_start [] 0 0 (omega arith) (refl, refl))))
       (λ h. let (i, a, k) = from_flat_map (ends at_start []) 0 xs (from_among 0 _ h) in
-          let (e, f) = sound at_start [] i 0 k in
-          and_from _ _ (in_among 0 xs (subst (λ z. IsIn z xs) e a)) refl)
+      let (e, f) = sound at_start [] i 0 k in
+      and_from _ _ (in_among 0 xs (subst (λ z. IsIn z xs) e a)) refl)
   start_ends (c ∷ v) xs =
       same_truth _ _ (λ h. absurd (false≢true (and_parts (is_among xs (length (c ∷ v))) false h).1))
       (λ h. let (i, a, k) = from_flat_map (ends at_start (c ∷ v)) (length (c ∷ v)) xs (from_among (length (c ∷ v)) _ h) in
-          let (e, f) = sound at_start (c ∷ v) i (length (c ∷ v)) k in absurd (omega (arith, f)))
+      let (e, f) = sound at_start (c ∷ v) i (length (c ∷ v)) k in absurd (omega (arith, f)))
 
   end_ends : (xs : List ℕ) → is_among xs (length w) && true ≡ is_among (flat_map (ends at_end w) xs) (length w)
   end_ends xs =
       same_truth _ _
       (λ h. in_among (length w) _ (in_flat_map (ends at_end w) (length w) (length w) xs
-          (from_among (length w) xs (and_parts (is_among xs (length w)) true h).0)
-          (complete at_end w (length w) (length w) (omega arith) (refl, refl))))
+      (from_among (length w) xs (and_parts (is_among xs (length w)) true h).0)
+      (complete at_end w (length w) (length w) (omega arith) (refl, refl))))
       (λ h. let (i, a, k) = from_flat_map (ends at_end w) (length w) xs (from_among (length w) _ h) in
-          let (e, f) = sound at_end w i (length w) k in
-          and_from _ _ (in_among (length w) xs (subst (λ z. IsIn z xs) e a)) refl)
+      let (e, f) = sound at_end w i (length w) k in
+      and_from _ _ (in_among (length w) xs (subst (λ z. IsIn z xs) e a)) refl)
 
   abbrev one : Tree → ℕ → Bool → Bool
   one t base begins = ends_here t (is_empty w) true read base begins

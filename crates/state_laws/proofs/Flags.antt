@@ -1,6 +1,6 @@
 -- Lists of flags, one a position: how many they are, and what agrees with them.
 use Rattle.std.proofs.lemmas.Bool.{ne_eqb, eq-eqb}
-use Rattle.std.proofs.Common.{◌≡◌, ℕ, zero, suc, ◌+◌, ◌-◌, ◌*◌, ◌<◌, ◌≤◌, max, Bool, true, false, ◌||◌, nat_eq, List, [], ◌∷◌, ◌++◌, length, flat_map, Option, Some, None, refl, sym, ◌∙◌, ap, subst, arith, length-append}
+use Rattle.std.proofs.Common.{◌≡◌, ℕ, zero, suc, ◌+◌, ◌-◌, ◌*◌, ◌<◌, Bool, true, false, ◌||◌, List, [], ◌∷◌, ◌++◌, length, flat_map, Some, None, refl, ◌∙◌, ap, subst, arith, length-append}
 use Rattle.patterns.specs.Tree.{Tree, Trees, empty, one_of, at_start, at_end, in_turn, either, repeated, no_trees, tree}
 use Rattle.patterns.specs.Decision.{ends}
 use Rattle.words.specs.Position.{count_of, count_in, copies}
@@ -26,11 +26,10 @@ agrees_right read base (b ∷ bs) cs (e, a) =
 pub agrees_flags : (read : ℕ → Bool) (base : ℕ) (bs : List Bool) → ((p : ℕ) → read (base + p) ≡ flag_at bs p)
     → Agrees read base bs
 agrees_flags read base [] f = tt
-agrees_flags read base (b ∷ bs) f =
-    (
-      subst (λ k. read k ≡ b) (omega arith) (f 0),
-      agrees_flags read (suc base) bs (λ p. subst (λ k. read k ≡ flag_at bs p) (omega arith) (f (suc p))),
-    )
+agrees_flags read base (b ∷ bs) f = (
+  subst (λ k. read k ≡ b) (omega arith) (f 0),
+  agrees_flags read (suc base) bs (λ p. subst (λ k. read k ≡ flag_at bs p) (omega arith) (f (suc p))),
+)
 
 numbers_later : (k p : ℕ) (bs : List Bool) → p < k → is_among (numbers_from k bs) p ≡ false
 numbers_later k p [] l = refl

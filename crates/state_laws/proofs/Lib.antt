@@ -12,3 +12,5 @@ pub mod Ends
 pub mod Next
 -- The state of the empty word, and after one more character.
 pub mod States
+-- Characters that no position's set tells apart.
+pub mod Alike

@@ -1,14 +1,14 @@
 -- Matches without an end assertion, and pieces of a repeated tree.
 use Rattle.std.proofs.lemmas.Bool.{cases_eq}
-use Rattle.std.proofs.Common.{◌≡◌, ℕ, zero, suc, ◌<◌, ◌≤◌, ◌⊎◌, inl, inr, ⊎_elim, true, IsTrue, List, ◌++◌, length, slice_index, flat_map, Option, Some, None, IfSome, refl, sym, subst, arith}
+use Rattle.std.proofs.Common.{◌≡◌, ℕ, zero, suc, ◌<◌, ◌≤◌, ◌⊎◌, inl, inr, IsTrue, List, ◌++◌, length, slice_index, flat_map, None, refl, sym, subst, arith}
 use Rattle.patterns.specs.CharSet.{has}
 use Rattle.patterns.specs.Tree.{Tree, Trees, empty, one_of, at_start, at_end, in_turn, either, repeated, no_trees, tree}
 use Rattle.patterns.specs.Match.{Repeats, Matches, MatchesInTurn, MatchesOne}
-use Rattle.patterns.specs.Decision.{ends, ends_in_turn}
+use Rattle.patterns.specs.Decision.{ends}
 use Rattle.pattern_laws.proofs.Decides.{IsIn, in_left, in_right, in_append, in_flat_map, from_flat_map, sound, complete}
 use Rattle.words.specs.PatternState.{without_end, all_without_end}
 use Rattle.state_laws.specs.Flow.{is_among}
-use Rattle.state_laws.proofs.Places.{Fits, Same, same_among, below, in_below, from_below, below_same}
+use Rattle.state_laws.proofs.Places.{Fits, Same, same_among, below, in_below, from_below}
 
 -- a step that goes nowhere back
 abbrev Rises : (ℕ → ℕ → Type 0) → Type 0
@@ -80,13 +80,12 @@ module _ (v w : List ℕ) (n : ℕ) (ends_late : n ≤ length v) (is_long : n �
     closed at_end i j l m = absurd m
     closed (in_turn rs) i j l m = closed_in_turn rs i j l m
     closed (either rs) i j l m = closed_of_one rs i j l m
-    closed (repeated r low high) i j l (k, a, b, t) =
-        (
-          k,
-          a,
-          b,
-          repeats_same (Matches (without_end r) w) (Matches r v) n (rises (without_end r) w) (closed r) k i j l t,
-        )
+    closed (repeated r low high) i j l (k, a, b, t) = (
+      k,
+      a,
+      b,
+      repeats_same (Matches (without_end r) w) (Matches r v) n (rises (without_end r) w) (closed r) k i j l t,
+    )
 
     closed_in_turn : (rs : Trees) (i j : ℕ) → j < n → MatchesInTurn (all_without_end rs) w i j
         → MatchesInTurn rs v i j

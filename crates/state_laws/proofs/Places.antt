@@ -1,6 +1,6 @@
 -- Lists of places as sets: what is among them, what of them lies below a number, and what comes of them all.
-use Rattle.std.proofs.lemmas.Bool.{or_cases, or_left, or_right, false_from_ne_true, false≢true, true_from_ne_false, eqb-true, eq-eqb, ltb-true, ltb-false, lt-ltb}
-use Rattle.std.proofs.Common.{◌≡◌, ℕ, ◌<◌, ◌≤◌, ◌⊎◌, inl, inr, ⊎_elim, Bool, true, false, ◌||◌, nat_lt, nat_eq, List, [], ◌∷◌, ◌++◌, flat_map, if◌then◌else◌, refl, sym, ◌∙◌, ap, subst, arith, append_assoc}
+use Rattle.std.proofs.lemmas.Bool.{or_cases, or_left, or_right, false_from_ne_true, false≢true, eqb-true, eq-eqb, ltb-true, ltb-false}
+use Rattle.std.proofs.Common.{◌≡◌, ℕ, ◌<◌, inl, inr, ⊎_elim, Bool, true, false, ◌||◌, nat_lt, nat_eq, List, [], ◌∷◌, ◌++◌, flat_map, if◌then◌else◌, refl, sym, ◌∙◌, ap, subst, arith}
 use Rattle.std.proofs.lemmas.Grind.{flat_map-append}
 use Rattle.std.specs.List.{list_any}
 use Rattle.pattern_laws.proofs.Decides.{IsIn, in_left, in_right, in_append, in_flat_map, from_flat_map}
@@ -111,9 +111,9 @@ pub among_append : (j : ℕ) (xs ys : List ℕ) → is_among (xs ++ ys) j ≡ is
 among_append j xs ys =
     same_truth _ _
     (λ h. ⊎_elim (λ a. or_left _ _ (in_among j xs a)) (λ b. or_right _ _ (in_among j ys b))
-        (in_append j xs ys (from_among j (xs ++ ys) h)))
+    (in_append j xs ys (from_among j (xs ++ ys) h)))
     (λ h. in_among j (xs ++ ys) (⊎_elim (λ a. in_left j xs ys (from_among j xs a)) (λ b. in_right j xs ys (from_among j ys b))
-        (or_cases (is_among xs j) (is_among ys j) h)))
+    (or_cases (is_among xs j) (is_among ys j) h)))
 
 -- what comes of two functions at each place
 pub among_both : (f g : ℕ → List ℕ) (j : ℕ) (xs : List ℕ)
@@ -126,13 +126,14 @@ among_both f g j xs = same_truth _ _ to from where
       ⊎_elim (λ a. or_left _ _ (in_among j (flat_map f xs) (in_flat_map f j x xs i a)))
       (λ b. or_right _ _ (in_among j (flat_map g xs) (in_flat_map g j x xs i b)))
       (in_append j (f x) (g x) k)
+
   from : (is_among (flat_map f xs) j || is_among (flat_map g xs) j) ≡ true
       → is_among (flat_map (λ i. f i ++ g i) xs) j ≡ true
   from h =
       in_among j (flat_map (λ i. f i ++ g i) xs)
       (⊎_elim
       (λ a. let (x, i, k) = from_flat_map f j xs (from_among j (flat_map f xs) a) in
-          in_flat_map (λ i. f i ++ g i) j x xs i (in_left j (f x) (g x) k))
+      in_flat_map (λ i. f i ++ g i) j x xs i (in_left j (f x) (g x) k))
       (λ b. let (x, i, k) = from_flat_map g j xs (from_among j (flat_map g xs) b) in
-          in_flat_map (λ i. f i ++ g i) j x xs i (in_right j (f x) (g x) k))
+      in_flat_map (λ i. f i ++ g i) j x xs i (in_right j (f x) (g x) k))
       (or_cases (is_among (flat_map f xs) j) (is_among (flat_map g xs) j) h))

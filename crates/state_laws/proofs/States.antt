@@ -1,15 +1,15 @@
 -- The state of the empty word, the state after one more character, and what a state says of matching.
-use Rattle.std.proofs.lemmas.Bool.{and_parts, or_cases, or_left, or_right, cases_lt, false≢true, eqb-true, or_from, true_from_ne_false}
-use Rattle.std.proofs.Common.{◌≡◌, ℕ, zero, suc, ◌+◌, ◌-◌, ◌<◌, ◌≤◌, ◌⊎◌, inl, inr, ⊎_elim, Bool, true, false, ◌&&◌, ◌||◌, nat_eq, List, [], ◌∷◌, ◌++◌, length, slice_index, flat_map, if◌then◌else◌, Some, None, IsTrue, refl, sym, ◌∙◌, ap, subst, arith, length-append}
+use Rattle.std.proofs.lemmas.Bool.{and_parts, or_cases, or_left, or_right, cases_lt, false≢true, eqb-true}
+use Rattle.std.proofs.Common.{◌≡◌, ℕ, zero, suc, ◌+◌, ◌-◌, ◌≤◌, inl, inr, Bool, true, false, ◌||◌, nat_eq, List, [], ◌∷◌, ◌++◌, length, slice_index, flat_map, if◌then◌else◌, Some, None, refl, sym, ◌∙◌, ap, subst, arith}
 use Rattle.std.specs.List.{list_any}
 use Rattle.patterns.specs.CharSet.{has}
 use Rattle.patterns.specs.Tree.{Tree, Trees, empty, one_of, at_start, at_end, in_turn, either, repeated, no_trees, tree}
-use Rattle.patterns.specs.Match.{Repeats, Matches, MatchesInTurn, MatchesOne, IsFoundIn}
+use Rattle.patterns.specs.Match.{Matches, MatchesInTurn, MatchesOne, IsFoundIn}
 use Rattle.patterns.specs.Decision.{ends, is_empty, finds}
 use Rattle.pattern_laws.proofs.Decides.{IsIn, in_left, in_right, in_append, in_flat_map, from_flat_map, sound, complete, finds-decides}
 use Rattle.words.specs.LastRead.{reads_end, in_copies, in_copies_on, last_read, last_read_in_turn, last_read_of_one}
-use Rattle.words.specs.PatternState.{PatternState, done, reading, without_end, all_without_end, places_to, numbers_from, is_done, read_flags, pattern_state, accepts}
-use Rattle.state_laws.specs.Flow.{flag_at, is_among, ends_here, reads_next, state_with, first_state, next_state, is_accepted}
+use Rattle.words.specs.PatternState.{done, reading, without_end, all_without_end, places_to, numbers_from, is_done, read_flags, pattern_state}
+use Rattle.state_laws.specs.Flow.{flag_at, is_among, ends_here, reads_next, state_with, next_state, is_accepted}
 use Rattle.state_laws.specs.Laws.{BeginsWith, GoesOn, Decides}
 use Rattle.state_laws.proofs.Places.{same_truth, from_any, in_among, from_among, Same, same_self}
 use Rattle.state_laws.proofs.Pieces.{rises, repeats_same, opened, closed}
@@ -40,11 +40,10 @@ all_places : (n : ℕ) → is_among (places_to n) n ≡ true
 all_places n = in_among n (places_to n) (in_places n n (omega arith))
 
 more_places : (n : ℕ) → Same (suc n) (places_to (suc n)) (places_to n)
-more_places n =
-    (
-      λ j l h. in_places n j (omega (arith, l)),
-      λ j l h. in_places (suc n) j (omega (arith, l)),
-    )
+more_places n = (
+  λ j l h. in_places n j (omega (arith, l)),
+  λ j l h. in_places (suc n) j (omega (arith, l)),
+)
 
 -- ---- a match that uses no end assertion is a match
 mutual
@@ -55,14 +54,13 @@ mutual
   unopened at_end w i j m = absurd m
   unopened (in_turn ts) w i j m = unopened_in_turn ts w i j m
   unopened (either ts) w i j m = unopened_of_one ts w i j m
-  unopened (repeated t low high) w i j (k, a, b, r) =
-      (
-        k,
-        a,
-        b,
-        repeats_same (Matches (without_end t) w) (Matches t w) (suc j) (rises (without_end t) w)
-            (λ g h l m. unopened t w g h m) k i j (omega arith) r,
-      )
+  unopened (repeated t low high) w i j (k, a, b, r) = (
+    k,
+    a,
+    b,
+    repeats_same (Matches (without_end t) w) (Matches t w) (suc j) (rises (without_end t) w)
+        (λ g h l m. unopened t w g h m) k i j (omega arith) r,
+  )
 
   unopened_in_turn : (ts : Trees) (w : List ℕ) (i j : ℕ) → MatchesInTurn (all_without_end ts) w i j
       → MatchesInTurn ts w i j
@@ -165,8 +163,7 @@ done_longer t w c = same_truth _ _ to from where
       elim (cases_lt j (suc (length w))) [
         | inl l ↦
             or_left _ _
-            ((finds-decides (without_end t) w).1
-            (
+            ((finds-decides (without_end t) w).1 (
               i,
               j,
               omega (arith, rises (without_end t) (w ++ c ∷ []) i j m, l),
@@ -188,8 +185,7 @@ done_longer t w c = same_truth _ _ to from where
       elim (or_cases (is_done t w) _ h) [
         | inl d ↦
             let (i, j, a, b, m) = (finds-decides (without_end t) w).0 d in
-            (finds-decides (without_end t) (w ++ c ∷ [])).1
-            (
+            (finds-decides (without_end t) (w ++ c ∷ [])).1 (
               i,
               j,
               omega (arith, a, longer_is w c),
@@ -279,9 +275,9 @@ none_at_end : (ranges : List (ℕ × ℕ)) (xs : List ℕ) → false ≡ list_an
 none_at_end ranges xs =
     same_truth _ _ (λ h. absurd (false≢true h))
     (λ h. let (i, a, t) = from_any (reads_end ranges []) xs h in
-        let (u, v) = and_parts (nat_eq (suc i) 0) (has ranges (slice_index [] i)) t in
-        let e : suc i ≡ 0 = eqb-true (suc i) 0 u in
-        absurd (omega (arith, e)))
+    let (u, v) = and_parts (nat_eq (suc i) 0) (has ranges (slice_index [] i)) t in
+    let e : suc i ≡ 0 = eqb-true (suc i) 0 u in
+    absurd (omega (arith, e)))
 
 mutual
   none_read : (t : Tree) (base : ℕ) (xs : List ℕ) → Agrees never base (last_read t [] xs)
@@ -319,7 +315,7 @@ found_in_none : (t : Tree) → is_done t [] ≡ is_among (flat_map (ends (withou
 found_in_none t =
     same_truth _ _
     (λ h. let (i, j, a, b, m) = (finds-decides (without_end t) []).0 h in
-        at_end_ends (without_end t) [] i (subst (λ z. Matches (without_end t) [] i z) (omega arith) m))
+    at_end_ends (without_end t) [] i (subst (λ z. Matches (without_end t) [] i z) (omega arith) m))
     (λ h. (finds-decides (without_end t) []).1 (ends_at_end (without_end t) [] h))
 
 pub state_begins : BeginsWith
