@@ -1,0 +1,6 @@
+-- What a signal does in the moves of a tree.
+pub mod Rises
+-- How many positions moves have.
+pub mod Counted
+-- What a signal does in the moves of a tree.
+pub mod Through

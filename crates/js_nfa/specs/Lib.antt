@@ -1,0 +1,4 @@
+-- A pattern as a list of moves.
+pub mod Moves
+-- How a signal passes through them.
+pub mod Signal
