@@ -3,3 +3,7 @@
 pub mod Position
 pub mod LastRead
 pub mod PatternState
+-- And what can be asked of a word, which characters no atom tells apart, and lists in order of first mention.
+pub mod Atom
+pub mod Mention
+pub mod Classes

@@ -1,4 +1,5 @@
-//! What is kept of a word that patterns read: the positions of a pattern, and its state after a word.
+//! What is kept of a word: the positions of a pattern and its state after a word, what can be asked of a word, which
+//! characters are alike, and the rows that the states of all words make.
 //!
 //! `specs/Lib.antt` lists the definitions, which contracts of the crates above cite. There is no code here, and the
 //! laws about them stand in `word_laws`. None of them knows an automaton.
