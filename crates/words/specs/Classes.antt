@@ -1,48 +1,33 @@
--- Classes of characters: the coarsest division that no leaf of a pattern and no letter of a listed word divides.
-use Rattle.std.specs.Prelude.{ℕ, zero, suc, List, [], ◌∷◌, ◌++◌, length, map, flat_map, filter, Some, None, Bool, true, ◌&&◌, nat_eq, get_or}
+-- Classes of characters: the coarsest division such that no position's set and no letter of a listed word divides one.
+use Rattle.std.specs.Prelude.{ℕ, List, [], ◌∷◌, length, map, flat_map, filter, Some, None, Bool, true, ◌&&◌, nat_eq, get_or}
 use Rattle.std.specs.Bool.{beq}
 use Rattle.std.specs.List.{range_with_len, position_or_len}
 use Rattle.patterns.specs.CharSet.{has, is_scalar, group_of}
-use Rattle.patterns.specs.Tree.{Tree, Trees, empty, one_of, at_start, at_end, in_turn, either, repeated, no_trees, tree}
+use Rattle.words.specs.Position.{sets_of}
 use Rattle.words.specs.Atom.{Atom, Match, Words, LengthMin}
 use Rattle.words.specs.Mention.{mention_all}
 
--- the sets of a pattern's leaves after copying; a tree that is repeated no times has no copy
-abbrev mutual
-  pub leaf_sets : Tree → List (List (ℕ × ℕ))
-  leaf_sets empty = []
-  leaf_sets (one_of ranges) = ranges ∷ []
-  leaf_sets at_start = []
-  leaf_sets at_end = []
-  leaf_sets (in_turn ts) = leaf_sets_of ts
-  leaf_sets (either ts) = leaf_sets_of ts
-  leaf_sets (repeated t low None) = leaf_sets t
-  leaf_sets (repeated t low (Some zero)) = []
-  leaf_sets (repeated t low (Some (suc n))) = leaf_sets t
-
-  pub leaf_sets_of : Trees → List (List (ℕ × ℕ))
-  leaf_sets_of no_trees = []
-  leaf_sets_of (tree t ts) = leaf_sets t ++ leaf_sets_of ts
-
--- the sets that an atom tells from the rest: its pattern's leaves, or each letter of its words
-abbrev pub sets_of : Atom → List (List (ℕ × ℕ))
-sets_of (Match t) = leaf_sets t
-sets_of (Words ws) = flat_map (map (λ c. (c, c) ∷ [])) ws
-sets_of (LengthMin n) = []
+-- the sets that an atom tells from the rest: of each position of its pattern, or of each letter of its words
+abbrev pub divider_sets : Atom → List (List (ℕ × ℕ))
+divider_sets (Match t) = sets_of t
+divider_sets (Words ws) = flat_map (map (λ c. (c, c) ∷ [])) ws
+divider_sets (LengthMin n) = []
 
 abbrev pub dividers : List Atom → List (List (ℕ × ℕ))
-dividers = flat_map sets_of
+dividers = flat_map divider_sets
 
 -- no set has one of the characters and lacks the other
 abbrev pub are_alike : List (List (ℕ × ℕ)) → ℕ → ℕ → Bool
 are_alike [] c d = true
 are_alike (s ∷ ss) c d = beq (has s c) (has s d) && are_alike ss c d
 
--- all characters in the order in which words are made: by group, and within a group by number
-unfoldable pub characters : List ℕ
-characters =
-    flat_map (λ g. filter (λ c. is_scalar c && nat_eq (group_of c) g) (range_with_len 0 0x110000))
-    (0 ∷ 1 ∷ 2 ∷ 3 ∷ 4 ∷ [])
+-- the characters below n in the order in which words are made: by group, and within a group by number
+unfoldable pub ordered_below : ℕ → List ℕ
+ordered_below n =
+    flat_map (λ g. filter (λ c. is_scalar c && nat_eq (group_of c) g) (range_with_len 0 n)) (0 ∷ 1 ∷ 2 ∷ 3 ∷ 4 ∷ [])
+
+abbrev pub characters : List ℕ
+characters = ordered_below 0x110000
 
 -- the characters that are like none before them: the first of each class, and so the classes in their order
 abbrev pub firsts_among : List ℕ → List (List (ℕ × ℕ)) → List ℕ

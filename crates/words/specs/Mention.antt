@@ -10,8 +10,3 @@ mention same L x = if list_any (same x) L then L else L ++ x ∷ []
 abbrev pub mention_all : {A : Type 0} → (A → A → Bool) → List A → List A → List A
 mention_all same L [] = L
 mention_all same L (x ∷ xs) = mention_all same (mention same L x) xs
-
--- no two of the list are the same
-abbrev pub are_apart : {A : Type 0} → (A → A → Bool) → List A → Bool
-are_apart same [] = true
-are_apart same (x ∷ xs) = not (list_any (same x) xs) && are_apart same xs

@@ -1,0 +1,6 @@
+pub mod Lists
+pub mod Mentions
+pub mod Rows
+pub mod Classes
+pub mod States
+pub mod StateSteps

@@ -1,0 +1,2 @@
+//! Laws about words.
+#![tactic(auto)]
