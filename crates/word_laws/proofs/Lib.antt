@@ -4,3 +4,4 @@ pub mod Rows
 pub mod Classes
 pub mod States
 pub mod StateSteps
+mod WordExamples
