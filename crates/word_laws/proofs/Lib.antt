@@ -4,4 +4,5 @@ pub mod Rows
 pub mod Classes
 pub mod States
 pub mod StateSteps
+pub mod RowLaws
 mod WordExamples

@@ -106,3 +106,13 @@ pub map_in : {A B : Type 0} (f : A → B) (x : A) (xs : List A) → IsIn x xs �
 map_in f x [] i = absurd i
 map_in f x (y ∷ xs) (inl e) = inl (ap f e)
 map_in f x (y ∷ xs) (inr i) = inr (map_in f x xs i)
+
+pub in_map : {A B : Type 0} (f : A → B) (y : B) (xs : List A) → IsIn y (map f xs) → (x : A) × IsIn x xs × (y ≡ f x)
+in_map f y [] i = absurd i
+in_map f y (x ∷ xs) (inl e) = (x, inl refl, e)
+in_map f y (x ∷ xs) (inr i) = let (z, j, e) = in_map f y xs i in (z, inr j, e)
+
+pub get_map : {A B : Type 0} (f : A → B) (xs : List A) (i : ℕ) (d : A) (e : B) → i < length xs → get_or (map f xs) i e ≡ f (get_or xs i d)
+get_map f [] i d e l = absurd (omega (arith, l))
+get_map f (x ∷ xs) zero d e l = refl
+get_map f (x ∷ xs) (suc i) d e l = get_map f xs i d e (omega (arith, l))
