@@ -8,7 +8,7 @@ use Rattle.patterns.specs.CharSet.{has, is_within, is_scalar, group_of}
 use Rattle.words.specs.Atom.{Atom}
 use Rattle.words.specs.Classes.{are_alike, dividers, ordered_below, characters, class_firsts}
 use Rattle.word_laws.proofs.Mentions as M
-use Rattle.word_laws.proofs.Lists.{IsIn, in_flat_map, flat_map_in, in_filter, filter_in}
+use Rattle.word_laws.proofs.Lists.{IsIn, in_flat_map, from_flat_map, in_filter, filter_in}
 
 same_bool : (x y : Bool) → beq x y ≡ true → x ≡ y
 same_bool true true e = refl
@@ -67,7 +67,7 @@ range_in a (suc n) c l m = elim (cases_eq c a) [
   | inr d ↦ inr (range_in (a + 1) n c (omega (arith, l, d)) (omega (arith, m)))
 ]
 
-in_range : (a n c : ℕ) → IsIn c (range_with_len a n) → (a ≤ c) × (c < a + n)
+pub in_range : (a n c : ℕ) → IsIn c (range_with_len a n) → (a ≤ c) × (c < a + n)
 in_range a zero c i = absurd i
 in_range a (suc n) c (inl e) = (omega (arith, e), omega (arith, e))
 in_range a (suc n) c (inr i) = let (l, m) = in_range (a + 1) n c i in (omega (arith, l), omega (arith, m))
@@ -81,7 +81,7 @@ group_is c = go (is_within (97, 122) c) (is_within (65, 90) c) (is_within (48, 5
   go false false false true = inr (inr (inr (inl refl)))
   go false false false false = inr (inr (inr (inr (inl refl))))
 
-scalar_below : (c : ℕ) → is_scalar c ≡ true → c < 0x110000
+pub scalar_below : (c : ℕ) → is_scalar c ≡ true → c < 0x110000
 scalar_below c e = elim (or_cases (nat_lt c 0xd800) (nat_lt 0xdfff c && nat_lt c 0x110000) e) [
   | inl l ↦ let m : c < 0xd800 = ltb-true c 0xd800 l in omega arith
   | inr r ↦ let (a, b) = and_parts (nat_lt 0xdfff c) (nat_lt c 0x110000) r in ltb-true c 0x110000 b
@@ -91,7 +91,7 @@ scalar_below c e = elim (or_cases (nat_lt c 0xd800) (nat_lt 0xdfff c && nat_lt c
 pub ordered_has : (n c : ℕ) → is_scalar c ≡ true → c < n → IsIn c (ordered_below n)
 unfolding ordered_below
 ordered_has n c e l =
-    flat_map_in (λ g. filter (λ c. is_scalar c && nat_eq (group_of c) g) (range_with_len 0 n)) (group_of c) c (0 ∷ 1 ∷ 2 ∷ 3 ∷ 4 ∷ [])
+    in_flat_map (λ g. filter (λ c. is_scalar c && nat_eq (group_of c) g) (range_with_len 0 n)) c (group_of c) (0 ∷ 1 ∷ 2 ∷ 3 ∷ 4 ∷ [])
     (group_is c)
     (filter_in (λ d. is_scalar d && nat_eq (group_of d) (group_of c)) (range_with_len 0 n) c (range_in 0 n c (omega arith) (omega (arith, l)))
     (and_from (is_scalar c) (nat_eq (group_of c) (group_of c)) e (eq-eqb (group_of c) (group_of c) refl)))
@@ -100,7 +100,7 @@ ordered_has n c e l =
 pub ordered_only : (n c : ℕ) → IsIn c (ordered_below n) → is_scalar c ≡ true
 unfolding ordered_below
 ordered_only n c i =
-    let (g, j, k) = in_flat_map (λ g. filter (λ c. is_scalar c && nat_eq (group_of c) g) (range_with_len 0 n)) c (0 ∷ 1 ∷ 2 ∷ 3 ∷ 4 ∷ []) i in
+    let (g, j, k) = from_flat_map (λ g. filter (λ c. is_scalar c && nat_eq (group_of c) g) (range_with_len 0 n)) c (0 ∷ 1 ∷ 2 ∷ 3 ∷ 4 ∷ []) i in
     let (t, m) = in_filter (λ d. is_scalar d && nat_eq (group_of d) g) (range_with_len 0 n) c k in
     (and_parts (is_scalar c) (nat_eq (group_of c) g) t).0
 

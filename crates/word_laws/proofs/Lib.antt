@@ -3,6 +3,7 @@ pub mod Mentions
 pub mod Rows
 pub mod Classes
 pub mod States
+pub mod Firsts
 pub mod StateSteps
 pub mod RowLaws
 mod WordExamples

@@ -1,26 +1,8 @@
 -- Members of lists.
 use Rattle.std.proofs.Common.{◌≡◌, ℕ, zero, suc, ◌<◌, ◌⊎◌, inl, inr, ⊎_elim, List, [], ◌∷◌, ◌++◌, Bool, true, false, cond, take, get_or, map, filter, flat_map, length, refl, ap, ap₂, sym, ◌∙◌, subst, arith}
-
--- x stands in the list itself
-abbrev pub IsIn : {A : Type 0} → A → List A → Type 0
-IsIn x [] = ⊥
-IsIn x (y ∷ ys) = (x ≡ y) ⊎ IsIn x ys
+pub use Rattle.pattern_laws.proofs.Decides.{IsIn, in_left, in_right, in_append, in_flat_map, from_flat_map}
 
 module _ {A : Type 0} where
-  pub in_left : (x : A) (xs ys : List A) → IsIn x xs → IsIn x (xs ++ ys)
-  in_left x [] ys h = absurd h
-  in_left x (a ∷ xs) ys (inl e) = inl e
-  in_left x (a ∷ xs) ys (inr h) = inr (in_left x xs ys h)
-
-  pub in_right : (x : A) (xs ys : List A) → IsIn x ys → IsIn x (xs ++ ys)
-  in_right x [] ys h = h
-  in_right x (a ∷ xs) ys h = inr (in_right x xs ys h)
-
-  pub in_append : (x : A) (xs ys : List A) → IsIn x (xs ++ ys) → IsIn x xs ⊎ IsIn x ys
-  in_append x [] ys h = inr h
-  in_append x (a ∷ xs) ys (inl e) = inl (inl e)
-  in_append x (a ∷ xs) ys (inr h) = ⊎_elim (λ l. inl (inr l)) (λ r. inr r) (in_append x xs ys h)
-
   -- two beginnings of one list: the second goes on past the first, or the first has the second at its head
   pub prefixes : (a b c d : List A) → a ++ b ≡ c ++ d
       → ((z : A) × (e : List A) × (c ≡ a ++ z ∷ e) × (b ≡ z ∷ e ++ d)) ⊎ ((e : List A) × (a ≡ c ++ e))
@@ -33,20 +15,6 @@ module _ {A : Type 0} where
         | inl (z, r, p, s) ↦ inl (z, r, ap₂ (λ u v. u ∷ v) (sym e) p, s)
         | inr (r, p) ↦ inr (r, ap₂ (λ u v. u ∷ v) e p)
       ]
-
-  pub in_flat_map : {B : Type 0} (f : B → List A) (y : A) (xs : List B) → IsIn y (flat_map f xs)
-      → (x : B) × IsIn x xs × IsIn y (f x)
-  in_flat_map f y [] i = absurd i
-  in_flat_map f y (x ∷ xs) i = ⊎_elim
-      (λ l. (x, inl refl, l))
-      (λ r. let (z, j, k) = in_flat_map f y xs r in (z, inr j, k))
-      (in_append y (f x) (flat_map f xs) i)
-
-  pub flat_map_in : {B : Type 0} (f : B → List A) (x : B) (y : A) (xs : List B) → IsIn x xs → IsIn y (f x)
-      → IsIn y (flat_map f xs)
-  flat_map_in f x y [] i j = absurd i
-  flat_map_in f x y (z ∷ xs) (inl e) j = in_left y (f z) (flat_map f xs) (subst (λ u. IsIn y (f u)) e j)
-  flat_map_in f x y (z ∷ xs) (inr i) j = in_right y (f z) (flat_map f xs) (flat_map_in f x y xs i j)
 
   pub in_get : (L : List A) (i : ℕ) (d : A) → i < length L → IsIn (get_or L i d) L
   in_get [] i d l = absurd (omega (arith, l))

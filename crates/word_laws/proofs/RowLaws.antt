@@ -48,7 +48,7 @@ module _ {A : Type 0} (same : A → A → Bool) (laws : IsEquivalence same) wher
 
 module _ (atoms : List Atom)
     (next : (v w : List ℕ) (c d : ℕ) → word_state atoms v ≡ word_state atoms w → are_alike (dividers atoms) c d ≡ true
-      → word_state atoms (v ++ c ∷ []) ≡ word_state atoms (w ++ d ∷ []))
+    → word_state atoms (v ++ c ∷ []) ≡ word_state atoms (w ++ d ∷ []))
     (truth : (v w : List ℕ) → word_state atoms v ≡ word_state atoms w → signature_of atoms v ≡ signature_of atoms w) where
   abbrev same : List ℕ → List ℕ → Bool
   same = have_same_state atoms
@@ -69,10 +69,11 @@ module _ (atoms : List Atom)
 
   follows : (v w u : List ℕ) → same v w ≡ true → IsIn u (extend v) → (z : List ℕ) × IsIn z (extend w) × (same u z ≡ true)
   follows v w u e i =
-      let (c, j, q) = in_map (λ c. v ++ c ∷ []) u (class_firsts atoms) i in
-      ( w ++ c ∷ []
-      , map_in (λ c. w ++ c ∷ []) c (class_firsts atoms) j
-      , subst (λ z. same z (w ++ c ∷ []) ≡ true) (sym q) (same_next v w c c e ((alike_laws (dividers atoms)).refl c)))
+      let (c, j, q) = in_map (λ c. v ++ c ∷ []) u (class_firsts atoms) i in (
+        w ++ c ∷ [],
+        map_in (λ c. w ++ c ∷ []) c (class_firsts atoms) j,
+        subst (λ z. same z (w ++ c ∷ []) ≡ true) (sym q) (same_next v w c c e ((alike_laws (dividers atoms)).refl c)),
+      )
 
   -- there is one list of rows
   pub rows_one : (L K : List (List ℕ)) → AreRows atoms L → AreRows atoms K → L ≡ K
@@ -91,6 +92,7 @@ module _ (atoms : List Atom)
       all_end (d ∷ w) c e f =
           let (g, h) = and_parts (is_scalar d) (list_all is_scalar w) e in
           and_from (is_scalar d) (list_all is_scalar (w ++ c ∷ [])) g (all_end w c h f)
+
       more : (v w : List ℕ) → list_all is_scalar v ≡ true → IsIn w (extend v) → list_all is_scalar w ≡ true
       more v w e i =
           let (c, j, q) = in_map (λ c. v ++ c ∷ []) w (class_firsts atoms) i in
@@ -103,7 +105,7 @@ module _ (atoms : List Atom)
         M.has_same same (same_laws atoms) (w ++ c ∷ []) (w ++ d ∷ []) L
         (same_next w w c d ((same_laws atoms).refl w) k)
         (R.rows_next same (same_laws atoms) extend [] (λ w. length w) longer follows L rows w (w ++ d ∷ []) h
-          (map_in (λ c. w ++ c ∷ []) d (class_firsts atoms) i))
+        (map_in (λ c. w ++ c ∷ []) d (class_firsts atoms) i))
 
     from_row : (v w : List ℕ) → list_any (same v) L ≡ true → list_all is_scalar w ≡ true → list_any (same (v ++ w)) L ≡ true
     from_row v [] h s = subst (λ z. list_any (same z) L ≡ true) (sym (append-nil v)) h
@@ -124,6 +126,7 @@ module _ (atoms : List Atom)
       each [] v s i = absurd i
       each (w ∷ ws) v s (inl q) = subst (λ z. list_all is_scalar z ≡ true) (sym q) (and_parts (list_all is_scalar w) (list_all (list_all is_scalar) ws) s).0
       each (w ∷ ws) v s (inr i) = each ws v (and_parts (list_all is_scalar w) (list_all (list_all is_scalar) ws) s).1 i
+
       has : (w : List ℕ) → list_any (same w) ws ≡ true → list_any (same w) L ≡ true
       has w h =
           let (v, i, q) = M.in_has same (same_laws atoms) w ws h in
@@ -149,6 +152,6 @@ module _ (atoms : List Atom)
         let f = get_or (class_firsts atoms) (class_of atoms c) 0 in
         let h : list_any (alike c) (class_firsts atoms) ≡ true = firsts_have atoms c k in
         let e : same (w ++ c ∷ []) (r ++ f ∷ []) ≡ true =
-            same_next w r c f (place_same same (same_laws atoms) w [] L (rows_all w s)) (place_same alike laws c 0 (class_firsts atoms) h) in
+        same_next w r c f (place_same same (same_laws atoms) w [] L (rows_all w s)) (place_same alike laws c 0 (class_firsts atoms) h) in
         get_map (λ c. row_of atoms L (r ++ c ∷ [])) (class_firsts atoms) (class_of atoms c) 0 0 (place_below alike laws c (class_firsts atoms) h)
         ∙ sym (place_like same (same_laws atoms) (w ++ c ∷ []) (r ++ f ∷ []) L e)

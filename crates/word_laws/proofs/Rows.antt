@@ -6,7 +6,7 @@ use Rattle.std.specs.List.{list_any, IsDistinct}
 use Rattle.std.proofs.lemmas.List.Concat.{flat_map-append}
 use Rattle.words.specs.Mention.{mention, mention_all}
 use Rattle.word_laws.proofs.Mentions as M
-use Rattle.word_laws.proofs.Lists.{IsIn, in_right, prefixes, in_flat_map, flat_map_in, take_left, get_left, take_next, take_whole}
+use Rattle.word_laws.proofs.Lists.{IsIn, in_right, prefixes, in_flat_map, from_flat_map, take_left, get_left, take_next, take_whole}
 
 -- `extend` gives what an element mentions, each larger than the element, and the same of elements that are the same
 module _ {A : Type 0} (same : A → A → Bool) (laws : IsEquivalence same) (extend : A → List A) (start : A) where
@@ -40,7 +40,7 @@ module _ {A : Type 0} (same : A → A → Bool) (laws : IsEquivalence same) (ext
     has_next K x z h i =
         let (y, j, s) = M.in_has same laws x K h in
         let (u, k, t) = follows x y z s i in
-        M.mentions_have same laws [] (start ∷ flat_map extend K) z u (inr (flat_map_in extend y u K j k)) t
+        M.mentions_have same laws [] (start ∷ flat_map extend K) z u (inr (in_flat_map extend u y K j k)) t
 
     module _ (L : List A) (rows : L ≡ mentioned L) where
       pub rows_start : list_any (same start) L ≡ true
@@ -59,7 +59,7 @@ module _ {A : Type 0} (same : A → A → Bool) (laws : IsEquivalence same) (ext
           from (inl j) less = absurd j
           from (inr (inl e)) less = subst P (sym e) base
           from (inr (inr j)) less =
-              let (x, k, m) = in_flat_map extend y L j in
+              let (x, k, m) = from_flat_map extend y L j in
               more x y (less x (let q = larger x y m in omega (arith, q, l)) k) m
 
       -- a closed list has each

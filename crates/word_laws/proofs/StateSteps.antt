@@ -13,7 +13,7 @@ use Rattle.words.specs.PatternState.{pattern_state}
 use Rattle.words.specs.WordState.{is_prefix, matching, begun, atom_state, least_length, greatest_least, word_state}
 use Rattle.words.specs.Rows.{signature_of}
 use Rattle.word_laws.proofs.Mentions as M
-use Rattle.word_laws.proofs.Lists.{IsIn, flat_map_in, map_in, filter_head, filter_none}
+use Rattle.word_laws.proofs.Lists.{IsIn, in_flat_map, map_in, filter_head, filter_none}
 use Rattle.word_laws.proofs.Classes.{alike_at, alike_parts, alike_laws}
 use Rattle.word_laws.proofs.States.{word_decides, word_laws, whole_state}
 
@@ -89,7 +89,7 @@ one_letter c d e = elim (or_cases (nat_le c d && nat_le d c) false e) [
 alike_letter : (ws : List (List ℕ)) (x : List ℕ) (c d : ℕ) → IsIn x ws → IsIn c x → are_alike (divider_sets (Words ws)) c d ≡ true → c ≡ d
 alike_letter ws x c d i j e =
     let s : IsIn ((c, c) ∷ []) (divider_sets (Words ws)) =
-    flat_map_in (map (λ c. (c, c) ∷ [])) x ((c, c) ∷ []) ws i (map_in (λ c. (c, c) ∷ []) c x j) in
+    in_flat_map (map (λ c. (c, c) ∷ [])) ((c, c) ∷ []) x ws i (map_in (λ c. (c, c) ∷ []) c x j) in
     let h : has ((c, c) ∷ []) c ≡ has ((c, c) ∷ []) d = alike_at (divider_sets (Words ws)) c d ((c, c) ∷ []) e s in
     one_letter c d (sym h ∙ own_letter c)
 
