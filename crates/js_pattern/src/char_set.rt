@@ -120,7 +120,7 @@ impl CharSet {
     }
 
     /// The set that has these ranges.
-    pub(crate) fn from_slice(alloc: Global, ranges: &[(u32, u32)]) -> Result<Self, Memory>
+    pub fn from_slice(alloc: Global, ranges: &[(u32, u32)]) -> Result<Self, Memory>
         requires { are_ranges 0 ranges.now ≡ true }
         ensures { IfOk result (λ set. set ≡ ranges.now) }
     {

@@ -1,24 +1,18 @@
 -- The rows of a list of atoms: there is one such list, every word leads to a row, and by classes from row to row.
-use Rattle.std.proofs.Common.{◌≡◌, ℕ, zero, suc, ◌+◌, ◌<◌, ◌≤◌, ◌⊎◌, inl, inr, ⊎_elim, List, [], ◌∷◌, ◌++◌, Bool, true, false, ◌&&◌, ◌||◌, not, cond, if◌then◌else◌, map, get_or, flat_map, length, refl, ap, ap₂, sym, ◌∙◌, subst, append-nil, append_assoc, length-append, arith}
+use Rattle.std.proofs.Common.{◌≡◌, ℕ, suc, ◌+◌, ◌<◌, ◌≤◌, inl, inr, List, [], ◌∷◌, ◌++◌, Bool, true, false, ◌||◌, not, cond, map, get_or, length, refl, ap, ap₂, sym, ◌∙◌, subst, append-nil, append_assoc, length-append, arith}
 use Rattle.std.specs.Cmp.{IsEquivalence}
 use Rattle.std.specs.List.{list_any, list_all, IsDistinct, position_or_len}
 use Rattle.std.proofs.lemmas.Bool.{and_parts, and_from}
 use Rattle.patterns.specs.CharSet.{is_scalar}
-use Rattle.patterns.specs.Decision.{is_empty, finds}
-use Rattle.patterns.specs.Tree.{Tree}
 use Rattle.words.specs.Atom.{Atom}
-use Rattle.words.specs.Mention.{mention_all}
-use Rattle.words.specs.Position.{sets_of}
-use Rattle.words.specs.PatternState.{pattern_state}
 use Rattle.words.specs.Classes.{are_alike, dividers, class_firsts, class_of}
 use Rattle.words.specs.WordState.{word_state, have_same_state}
-use Rattle.words.specs.Rows.{longer_by_one, AreRows, row_of, targets_of, signature_of, HaveStates}
+use Rattle.words.specs.Rows.{AreRows, row_of, targets_of, signature_of, HaveStates}
 use Rattle.word_laws.proofs.Mentions as M
 use Rattle.word_laws.proofs.Rows as R
 use Rattle.word_laws.proofs.Lists.{IsIn, in_map, map_in, get_map}
 use Rattle.word_laws.proofs.Classes.{alike_laws, firsts_scalar, firsts_have}
 use Rattle.word_laws.proofs.States.{state_decides, same_laws}
-use Rattle.word_laws.proofs.StateSteps as S
 
 -- ---- the place of the first that is the same
 module _ {A : Type 0} (same : A → A → Bool) (laws : IsEquivalence same) where

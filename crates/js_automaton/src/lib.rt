@@ -1,0 +1,8 @@
+//! Automata of atoms: the rows that words reach.
+#![tactic(auto)]
+
+mod edges;
+mod fault;
+mod parts;
+
+pub use fault::AutoFault;
