@@ -2,6 +2,7 @@
 use Rattle.std.specs.Prelude.{◌≡◌, ℕ, List, [], ◌∷◌, true, false, refl, codes, pos, Some, None}
 use Rattle.documents.specs.Document.{Document, Members, null, number, string, array, object, no_items, item}
 use Rattle.documents.specs.Document.{no_members, member, is_document, depth, lookup}
+use Rattle.documents.specs.Document as D
 use Rattle.documents.specs.Json as J
 use Rattle.documents.specs.Tests.{comes_before}
 
@@ -33,6 +34,18 @@ late_name_out_of_order = refl
 -- an object has each name once
 name_twice : is_document (object (names (codes "a" ∷ codes "a" ∷ []))) ≡ false
 name_twice = refl
+
+-- that the names rise is said of names alone
+names_rise_alone : D.names_rise (names (codes "a" ∷ (55296 ∷ []) ∷ [])) ≡ true
+names_rise_alone = refl
+
+-- each name is compared with the next one
+names_fall_late : D.names_rise (names (codes "a" ∷ codes "c" ∷ codes "b" ∷ [])) ≡ false
+names_fall_late = refl
+
+-- an object has each name once, and rising names say so
+name_twice_does_not_rise : D.names_rise (names (codes "a" ∷ codes "a" ∷ [])) ≡ false
+name_twice_does_not_rise = refl
 
 -- names are compared by scalar value: U+FFFF comes before U+10000, which UTF-16 would put first
 names_by_scalar_value : comes_before (65535 ∷ []) (65536 ∷ []) ≡ true

@@ -1,1 +1,4 @@
 mod Examples
+pub mod NameOrder
+pub mod Parts
+pub mod Rising

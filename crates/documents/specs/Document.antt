@@ -73,6 +73,11 @@ abbrev pub is_before : List ℕ → Members → Bool
 is_before k no_members = true
 is_before k (member l e ms) = comes_before k l
 
+-- each name comes before the next one
+abbrev pub names_rise : Members → Bool
+names_rise no_members = true
+names_rise (member k d ms) = is_before k ms && names_rise ms
+
 -- strings and names are scalar values, and an object has each name once. An object has no order of its own:
 -- its members are listed by name, so that equal documents are the same value
 abbrev mutual

@@ -12,7 +12,7 @@ use Rattle.js_doc.specs.View as V
 use Rattle.js_doc.specs.JsonView as W
 
 -- the two tests of lists agree
-same_word-bytes_eq : (xs ys : List ℕ) → same_word xs ys ≡ bytes_eq xs ys
+pub same_word-bytes_eq : (xs ys : List ℕ) → same_word xs ys ≡ bytes_eq xs ys
 same_word-bytes_eq [] [] = refl
 same_word-bytes_eq [] (y ∷ ys) = refl
 same_word-bytes_eq (x ∷ xs) [] = refl

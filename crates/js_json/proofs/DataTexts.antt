@@ -12,8 +12,8 @@ use Rattle.serde_json.specs.Data.{Num as AnyNum, Data, null, boolean, number, st
 use Rattle.serde_json.specs.Read.{number_of, of_json, of_items, of_members}
 use Rattle.documents.specs.Tests.{every, is_scalar}
 use Rattle.js_json.specs.Value.{json_of, json_items, json_members, json_number}
-use Rattle.js_json.specs.WellFormed.{is_json, are_items, are_members, is_before}
-use Rattle.js_json.proofs.WordOrder.{comes_before-chars}
+use Rattle.documents.specs.WellFormed.{is_json, are_items, are_members, is_before}
+use Rattle.js_doc.proofs.WordOrder.{comes_before-chars}
 
 -- what there is, if anything, is so
 abbrev pub Given : {A : Type 0} → (A → Type 0) → Option A → Type 0

@@ -10,7 +10,7 @@ use Rattle.js_doc.specs.declared.json.Json.{Json}
 use Rattle.js_doc.specs.declared.json.JsonMember.{JsonMember}
 use Rattle.js_doc.specs.View as V
 use Rattle.js_doc.specs.JsonView as W
-use Rattle.js_json.specs.WellFormed as F
+use Rattle.documents.specs.WellFormed as F
 use Rattle.js_json.specs.declared.fault.JsonFault.{JsonFault}
 use Rattle.js_json.specs.Making.{MakesOrTells}
 use Rattle.js_json.specs.Documents.{json_of_document, json_of_items, json_of_members, unwhole_places, places_in_items, places_in_members}

@@ -7,7 +7,7 @@ use Rattle.documents.specs.Document as D
 use Rattle.js_json.specs.Documents.{json_of_document, unwhole_places}
 use Rattle.js_json.specs.Pointer.{quoted, pointer_text}
 use Rattle.js_json.specs.declared.fault.RefFault.TheVariants.{Remote, BadPointer, Missing, NotASchema}
-use Rattle.js_json.specs.Place.{value_at}
+use Rattle.documents.specs.Place.{value_at}
 use Rattle.js_json.specs.Reference.{decoded, tokens_of, target_of}
 use Rattle.js_json.specs.Value.{value_of}
 use Rattle.js_json.proofs.OnTexts.{json_on_texts}

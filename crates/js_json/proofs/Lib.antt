@@ -1,6 +1,5 @@
 pub mod OnTexts
 mod Examples
-pub mod WordOrder
 pub mod StringTexts
 pub mod TokenTexts
 pub mod TreeTexts

@@ -1,5 +1,5 @@
 -- Elements by their index, and the steps of a pointer.
-use Rattle.std.proofs.Common.{◌≡◌, ℕ, ◌<◌, ◌≤◌, ◌^◌, List, [], ◌∷◌, map, length, get_or, Bool, true, false, ltb, Option, Some, None, option_map, Result, Ok, Err, IsUtf8, IsAscii, chars, arith, rules, refl, sym, ap, ◌∙◌}
+use Rattle.std.proofs.Common.{◌≡◌, ℕ, ◌+◌, ◌<◌, ◌≤◌, ◌^◌, List, [], ◌∷◌, map, length, get_or, drop, drop-cons, add-one, Bool, true, false, ltb, Option, Some, None, option_map, Result, Ok, Err, IsUtf8, IsAscii, chars, arith, rules, refl, sym, ap, ◌∙◌}
 use Rattle.std.specs.Char.{is_ascii_digit}
 use Rattle.std.specs.List.{list_all}
 use Rattle.std.specs.Borrow.{Bor}
@@ -16,7 +16,7 @@ use Rattle.documents.specs.Json as J
 use Rattle.js_doc.specs.declared.json.Json.{Json}
 use Rattle.js_doc.specs.JsonView.{view}
 use Rattle.js_doc.proofs.Levels.{json_elements-of}
-use Rattle.js_json.specs.Place.{is_index, index_of, child}
+use Rattle.documents.specs.Place.{is_index, index_of, child_at, value_at}
 
 abbrev AreDigits : List ℕ → Type 0
 AreDigits ds = list_all is_ascii_digit ds ≡ true
@@ -71,7 +71,7 @@ pub element_got : (items : List Json) (l : J.Items) (token : List ℕ) (i : ℕ)
     → J.items_of (map view items) ≡ l → index_of token ≡ Some i
     → IfSome r (λ x. x.now ≡ get_or items i x.now)
     → is_some r ≡ ltb i (length items)
-    → option_map (λ j. view j.now) r ≡ child token (J.array l)
+    → option_map (λ j. view j.now) r ≡ child_at token (J.array l)
 element_got items l token i None made is got within =
     let past : length items ≤ i = grind (arith, nat_tests) in
     rw (is, json_elements-of _ _ made, slice_get-map, slice_get_past items i past) refl
@@ -82,9 +82,18 @@ element_got items l token i (Some x) made is got within =
 -- no element is past the end
 pub element_absent : (items : List Json) (l : J.Items) (token : List ℕ)
     → J.items_of (map view items) ≡ l → ((i : ℕ) → index_of token ≡ Some i → length items ≤ i)
-    → child token (J.array l) ≡ None
+    → child_at token (J.array l) ≡ None
 element_absent items l token made past = go (index_of token) refl
   where
-    go : (o : Option ℕ) → index_of token ≡ o → child token (J.array l) ≡ None
+    go : (o : Option ℕ) → index_of token ≡ o → child_at token (J.array l) ≡ None
     go None is = rw is refl
     go (Some i) is = rw (is, json_elements-of _ _ made, slice_get-map, slice_get_past items i (past i is)) refl
+
+-- one token further
+pub value_at-step : (tokens : List (List ℕ)) (i : ℕ) (token : List ℕ) (here next : J.Json) → i < length tokens
+    → token ≡ get_or tokens i token → child_at token here ≡ Some next
+    → value_at (drop (i + 1) tokens) next ≡ value_at (drop i tokens) here
+value_at-step tokens i token here next within is step =
+    let cut : drop i tokens ≡ token ∷ drop (i + 1) tokens =
+    rw (add-one, drop-cons tokens i token, ← is) refl in
+    rw (cut, step) refl

@@ -10,7 +10,7 @@ use Rattle.std.proofs.lemmas.Str.{encode_ascii, encodes-append, encodes-chars, e
 use Rattle.std.proofs.lemmas.Str.Pattern.{IsSplitOnceResult, drop_at_char}
 use Rattle.documents.specs.Json.{Json, null, boolean, number, not_whole, string, array, object}
 use Rattle.documents.specs.Tests.{same_word}
-use Rattle.js_json.specs.Place.{value_at}
+use Rattle.documents.specs.Place.{value_at}
 use Rattle.js_doc.proofs.Lookups.{same_word-named}
 use Rattle.percent_encoding.specs.Percent.{percent_decode}
 use Rattle.js_json.specs.Reference.{before_hash, after_hash, without_last_hash, is_own, decoded, tokens_between, tokens_of, found, pointed, target_of}

@@ -7,7 +7,7 @@ use Rattle.json.specs.Lex.{tokens}
 use Rattle.serde_json.specs.Read.{read, of_json, max_depth}
 use Rattle.documents.specs.Json.{Json}
 use Rattle.js_json.specs.Value.{json_of, value_of}
-use Rattle.js_json.specs.WellFormed.{is_json}
+use Rattle.documents.specs.WellFormed.{is_json}
 use Rattle.js_json.proofs.DataTexts.{Given, Given-and_then, TextsOf, IsRead, IsRead-of_json, is_json-json_of}
 use Rattle.js_json.proofs.TreeTexts.{TextsOf-value}
 use Rattle.js_json.proofs.TokenTexts.{TextsOfTokens-tokens}

@@ -1,11 +1,9 @@
--- What a reader must believe: which JSON value a text stands for, what is well formed, which values are documents,
--- how a place in a value is written, which value stands there, and what a reference names. `Making` and `Steps` are
--- of the steps within.
+-- What a reader must believe: which JSON value a text stands for, which values are documents, how a place in a value is
+-- written, and what a reference names; what is well formed and which value stands at a place is in `documents`.
+-- `Making` and `Steps` are of the steps within.
 pub mod Value
-pub mod WellFormed
 pub mod Documents
 pub mod Pointer
-pub mod Place
 pub mod Reference
 pub mod Making
 pub mod Steps

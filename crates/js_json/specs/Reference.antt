@@ -7,7 +7,7 @@ use Rattle.documents.specs.Json.{Json, null, boolean, number, not_whole, string,
 use Rattle.documents.specs.Tests.{every, same_word}
 use Rattle.js_json.specs.declared.fault.RefFault.{RefFault}
 use Rattle.js_json.specs.declared.fault.RefFault.TheVariants.{Remote, BadPointer, Missing, NotASchema, Memory}
-use Rattle.js_json.specs.Place.{value_at}
+use Rattle.documents.specs.Place.{value_at}
 
 -- what stands before the first `#`, or all where there is none
 abbrev pub before_hash : List ℕ → List ℕ

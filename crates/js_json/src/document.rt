@@ -7,7 +7,7 @@ ghost use Rattle.std.specs.Prelude.{◌≡◌, ◌≢◌, ◌∷◌, ◌++◌, [
 ghost use Rattle.documents.specs.Document.{is_document};
 ghost use Rattle.js_doc.specs.View as doc;
 ghost use Rattle.js_doc.specs.JsonView.{view, list_view, map_view};
-ghost use Rattle.js_json.specs.WellFormed.{is_json};
+ghost use Rattle.documents.specs.WellFormed.{is_json};
 ghost use Rattle.js_json.specs.Documents.{json_of_document, unwhole_places};
 ghost use Rattle.js_json.specs.Making.{TellsFirst, MakesOrTells, MakesItemsOrTells, MakesMembersOrTells};
 

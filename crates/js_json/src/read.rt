@@ -6,7 +6,7 @@
 ghost use Rattle.std.specs.Prelude.{◌≡◌, ◌≢◌, ℕ, List, true, Some, None, IfOk, Err};
 ghost use Rattle.js_doc.specs.JsonView.{view};
 ghost use Rattle.js_json.specs.Value.{value_of};
-ghost use Rattle.js_json.specs.WellFormed.{is_json};
+ghost use Rattle.documents.specs.WellFormed.{is_json};
 
 use crate::convert::convert;
 use crate::fault::JsonFault;

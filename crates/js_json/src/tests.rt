@@ -101,7 +101,8 @@ const SAMPLE: &str =
 #[test]
 fn resolves_references(rt: HostRuntime) -> Result<(), Fail> {
     let alloc = rt.alloc();
-    let json = read_json(alloc, SAMPLE.as_bytes())?;
+    let read = read_json(alloc, SAMPLE.as_bytes())?;
+    let json = &read;
     let cases = [
         ("", Ok("\"\"")),
         ("#", Ok("\"\"")),
@@ -147,10 +148,10 @@ fn resolves_references(rt: HostRuntime) -> Result<(), Fail> {
     ];
     for (text, expected) in cases {
         for id in ["s.json", "s.json#"] {
-            match target(alloc, &json, text, Some(id)) {
+            match target(alloc, json, text, Some(id)) {
                 Ok(place) => {
                     assert_eq!(rt; Ok(place.text(alloc)?.as_str()), expected, "{text}");
-                    assert!(rt; at_pointer(&json, &place).is_some(), "{text}");
+                    assert!(rt; at_pointer(json, &place).is_some(), "{text}");
                 }
                 Err(fault) => assert_eq!(rt; Err(fault), expected, "{text}"),
             }

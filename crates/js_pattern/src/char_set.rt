@@ -10,7 +10,7 @@ ghost use Rattle.pattern_laws.specs.Laws.{every_range};
 
 use crate::fault::Memory;
 use crate::range_list::RangeList;
-use crate::ranges::{first_within, gaps, join, width, with_range};
+use crate::ranges::{first_within, gaps, is_range, join, width, with_range};
 use std::alloc::Global;
 use std::marker::Model;
 
@@ -50,6 +50,44 @@ impl CharSet {
         ensures { result.now ≡ self.now }
     {
         &self.ranges
+    }
+
+    /// The set that has these ranges; `is_set` tests what they must be.
+    pub fn from_slice(alloc: Global, ranges: &[(u32, u32)]) -> Result<Self, Memory>
+        requires { are_ranges 0 ranges.now ≡ true }
+        ensures { IfOk result (λ set. set ≡ ranges.now) }
+    {
+        let ranges = Vec::from_slice(alloc, ranges)?;
+        Ok(CharSet { ranges })
+    }
+
+    /// Whether these are the ranges of a set: each has its first and its last character, they rise, no two meet, and no
+    /// surrogate lies in one.
+    pub fn is_set(ranges: &[(u32, u32)]) -> bool
+        ensures { result ≡ are_ranges 0 ranges.now }
+    {
+        let mut low = 0;
+        for range in ranges {
+            if range.0 < low || !is_range(*range) {
+                return false;
+            }
+            low = range.1 + 2;
+        }
+        true
+    }
+
+    /// A copy, which takes memory of its own.
+    pub fn copy(&self, alloc: Global) -> Result<Self, Memory>
+        ensures { IfOk result (λ set. set ≡ self.now) }
+    {
+        Self::from_slice(alloc, &self.ranges)
+    }
+
+    /// Whether the sets have the same members: a set has one list of ranges.
+    pub fn same(&self, other: &Self) -> bool
+        ensures { IsTrue result ↔ (self.now ≡ other.now) }
+    {
+        self.ranges == other.ranges
     }
 
     /// The characters that the set lacks.
@@ -117,15 +155,6 @@ impl CharSet {
     {
         let RangeList { ranges } = list;
         Self::from_ranges(alloc, ranges)
-    }
-
-    /// The set that has these ranges.
-    pub fn from_slice(alloc: Global, ranges: &[(u32, u32)]) -> Result<Self, Memory>
-        requires { are_ranges 0 ranges.now ≡ true }
-        ensures { IfOk result (λ set. set ≡ ranges.now) }
-    {
-        let ranges = Vec::from_slice(alloc, ranges)?;
-        Ok(CharSet { ranges })
     }
 
     /// The set of one character.

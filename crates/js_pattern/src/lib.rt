@@ -17,6 +17,7 @@ mod re;
 mod reader;
 mod scan;
 mod term;
+mod trees;
 
 pub use char_set::CharSet;
 pub use fault::{Memory, PatternFault, PatternForm};

@@ -2,12 +2,19 @@
 //! list, and the sort n log n.
 
 ghost use Rattle.std.specs.Prelude.{◌≡◌, ℕ, ◌+◌, ◌-◌, ◌<◌, ◌≤◌, true, List, [], ◌∷◌, ◌++◌, IfOk, length, vec_len};
-ghost use Rattle.patterns.specs.CharSet.{are_ranges, has, with_range, set_of, gaps_from};
+ghost use Rattle.patterns.specs.CharSet.{are_ranges, is_range, has, with_range, set_of, gaps_from};
 ghost use Rattle.pattern_laws.specs.Laws.{width_of};
 ghost use Rattle.js_pattern.specs.Ranges.{are_up, joined, FirstWithin};
 
 use crate::fault::Memory;
 use std::alloc::Global;
+
+/// Both ends are characters, in order, and no surrogate lies between them.
+pub(crate) fn is_range(range: (u32, u32)) -> bool
+    ensures { result ≡ is_range range }
+{
+    range.0 <= range.1 && (range.1 < 0xd800 || 0xdfff < range.0 && range.1 < 0x110000)
+}
 
 /// The ranges of a set with one more.
 pub(crate) fn with_range(

@@ -15,9 +15,8 @@ ghost use Rattle.js_doc.specs.JsonView.{view, list_view, map_view};
 ghost use Rattle.js_schema.specs.Failing.{failing};
 ghost use Rattle.js_schema.specs.Names.{keyword_name};
 ghost use Rattle.js_schema.specs.FaultView.{Tells, ChecksOrTells};
-ghost use Rattle.js_schema.specs.Reading.{fault_of, rules};
+ghost use Rattle.js_schema.specs.Reading.{rules};
 ghost use Rattle.js_schema.specs.Words.{shape_by, value_place};
-ghost use Rattle.js_pattern.specs.Grammar.{pattern};
 
 use crate::fault::SchemaFault;
 use crate::keyword::Keyword;
@@ -409,7 +408,7 @@ fn check_name(
     name: &Str,
 ) -> Result<(), SchemaFault>
     ensures { ChecksOrTells (option_map (λ f. F.BadPattern f ((value_place place.now keyword) ++ name.now ∷ []))
-        (fault_of (pattern name.now))) result }
+        (F.pattern_fault rules name.now)) result }
 {
     match read_pattern(alloc, name.as_text()) {
         Ok(_) => Ok(()),

@@ -1,7 +1,8 @@
 -- Whatever a place of a file leads to is a value of the file, at its place.
 use Rattle.std.proofs.Common.{◌≡◌, ℕ, suc, List, [], ◌∷◌, ◌++◌, ◌⊎◌, inl, inr, ⊎_elim, Option, Some, None, Result, Ok, Err, codes, refl, sym, subst}
 use Rattle.documents.specs.Json.{Json, null, boolean, number, not_whole, string, array, object, Items, no_items, item, Members, no_members, member, lookup}
-use Rattle.schemas.specs.Places.{Pointer, Place, index_token, value_at, elements_under}
+use Rattle.documents.specs.Place.{value_at}
+use Rattle.schemas.specs.Places.{Pointer, Place, index_token, elements_under}
 use Rattle.schemas.specs.Keyword.{Shape, TypeWords, AnyValues, AnyValue, WholeNumber, PositiveNumber, Count, PatternWord, Words, Schema, SchemaOrList, SchemaList, SchemaMap, PatternMap, NeedMap, Flag, read_shape}
 use Rattle.schemas.specs.SubSchemas.{in_list, in_list_or_one, members_under, in_map, unless_list, needs_under, in_needs, in_value, in_member, in_members}
 use Rattle.schemas.specs.Fault.{Rules}

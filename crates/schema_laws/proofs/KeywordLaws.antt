@@ -4,7 +4,8 @@ use Rattle.std.proofs.Common.{◌≡◌, ℕ, List, [], ◌∷◌, ◌++◌, Boo
 use Rattle.std.proofs.lemmas.Option.{none-some, same_Some}
 use Rattle.documents.specs.Tests.{same_word}
 use Rattle.documents.specs.Json.{Json, string, object, Members, no_members, member, lookup}
-use Rattle.schemas.specs.Places.{Pointer, Place, value_at}
+use Rattle.documents.specs.Place.{value_at}
+use Rattle.schemas.specs.Places.{Pointer, Place}
 use Rattle.schemas.specs.Keyword.{read_shape}
 use Rattle.schemas.specs.SubSchemas.{in_member, in_members}
 use Rattle.schemas.specs.Fault.{Rules}

@@ -5,6 +5,7 @@ use Rattle.std.proofs.Math.ListN.{length-map}
 use Rattle.std.proofs.lemmas.Bool.{and_from}
 use Rattle.documents.specs.Tests.{every}
 use Rattle.documents.specs.Json.{Json, boolean, string, object, Members, lookup}
+use Rattle.documents.specs.WellFormed.{is_json, are_members}
 use Rattle.schemas.specs.Places.{Pointer, Place}
 use Rattle.schemas.specs.Fault.{Rules}
 use Rattle.schemas.specs.Walk.{root_id, places}
@@ -14,7 +15,6 @@ use Rattle.schemas.specs.Entry.{Entry}
 use Rattle.schemas.specs.Entries.{number_of, referred_form, reference_form, object_form, form_at, entry_at, entries_at}
 use Rattle.schemas.specs.Schema.{names_below, form_in_range, total_size, is_table}
 use Rattle.schema_laws.specs.Values.{IsIn}
-use Rattle.schema_laws.specs.WellFormed.{is_well_formed, are_members}
 use Rattle.schema_laws.specs.Sound.{IsSound}
 use Rattle.schema_laws.proofs.WellFormedLaws.{values_well_formed}
 use Rattle.schema_laws.proofs.Walks.{all_places}
@@ -49,7 +49,7 @@ module _ {P R : Type 0} (rules : Rules P R) (root : Json) (sound : IsSound rules
   object_in_range (Some v) p ms well faultless h = reference_in_range v
   object_in_range None p ms well faultless h = keywords_in_range rules root entry_of p ms well faultless h
 
-  place_in_range : (c : Place) → is_well_formed c.1 ≡ true → fault_at rules root c ≡ None
+  place_in_range : (c : Place) → is_json c.1 ≡ true → fault_at rules root c ≡ None
       → form_in_range (form_at rules root entry_of c) ≡ true
   place_in_range (p, object ms) well faultless =
       object_in_range (lookup (codes "$ref") ms) p ms well faultless refl

@@ -5,6 +5,8 @@ use Rattle.std.proofs.lemmas.Option.{none-some}
 use Rattle.documents.specs.Tests.{every}
 use Rattle.documents.specs.Document.{is_document}
 use Rattle.documents.specs.Json.{Json, number, array, object, no_items, item, Members, no_members, member, lookup, entries}
+use Rattle.documents.specs.WellFormed.{is_json, are_members}
+use Rattle.documents.proofs.Parts.{member_parts, lookup_well_formed}
 use Rattle.schemas.specs.Places.{Pointer}
 use Rattle.schemas.specs.Keyword.{Shape, WholeNumber, PositiveNumber, Count, SchemaList, is_held, shape_of, read_shape}
 use Rattle.schemas.specs.Fault.{Rules, unless, whole_fault, positive_fault, count_fault, schema_list_fault, keyword_fault}
@@ -12,8 +14,7 @@ use Rattle.schemas.specs.Reading.{id_fault, shape_fault, fault_at}
 use Rattle.schemas.specs.Entry.{Needs}
 use Rattle.schemas.specs.Entries.{document_of, listed, word, whole, natural, field, list_numbers, items_part, named_numbers, needs_of, all_needs, rest_number, keywords_of}
 use Rattle.schemas.specs.Schema.{meets, is_count, is_multiple, is_filled, is_word, are_keys, need_words, are_needs, fits_items, is_in_range}
-use Rattle.schema_laws.specs.WellFormed.{is_well_formed, are_members}
-use Rattle.schema_laws.proofs.WellFormedLaws.{member_parts, lookup_well_formed, is_document-document_of, documents_listed, is_word-word, words_of, words_listed, are_keys-named}
+use Rattle.schema_laws.proofs.WellFormedLaws.{is_document-document_of, documents_listed, is_word-word, words_of, words_listed, are_keys-named}
 use Rattle.schema_laws.proofs.Shapes.{IsShaped, is_shaped, read_shape-of}
 use Rattle.schema_laws.proofs.Faultless.{neither, member_faultless}
 
@@ -69,11 +70,11 @@ module _ {P R : Type 0} (rules : Rules P R) (k : List ℕ) (q : Pointer) where
 -- ---- names
 
 module _ (entry_of : Pointer → ℕ) (p : Pointer) (k : List ℕ) where
-  names_are_keys : (v : Json) → is_well_formed v ≡ true → are_keys (named_numbers entry_of p k v) ≡ true
+  names_are_keys : (v : Json) → is_json v ≡ true → are_keys (named_numbers entry_of p k v) ≡ true
   names_are_keys (object ms) h = are_keys-named (λ m. entry_of ((p ++ k ∷ []) ++ m.0 ∷ [])) ms h
   names_are_keys _ h = refl
 
-  need_is_words : (w : List ℕ) (v : Json) → is_well_formed v ≡ true → need_words (needs_of entry_of p k (w, v)) ≡ true
+  need_is_words : (w : List ℕ) (v : Json) → is_json v ≡ true → need_words (needs_of entry_of p k (w, v)) ≡ true
   need_is_words w (array vs) h = words_of vs h
   need_is_words w _ h = refl
 
@@ -83,7 +84,7 @@ module _ (entry_of : Pointer → ℕ) (p : Pointer) (k : List ℕ) where
   needs_are_words (member w v ms) h =
       let parts = member_parts w v ms h in both (need_is_words w v parts.value) (needs_are_words ms parts.others)
 
-  needs_are_needs : (v : Json) → is_well_formed v ≡ true → are_needs (all_needs entry_of p k v) ≡ true
+  needs_are_needs : (v : Json) → is_json v ≡ true → are_needs (all_needs entry_of p k v) ≡ true
   needs_are_needs (object ms) h = both (are_keys-named (needs_of entry_of p k) ms h) (needs_are_words ms h)
   needs_are_needs _ h = refl
 
@@ -120,7 +121,7 @@ module _ {P R : Type 0} (rules : Rules P R) (root : Json) (entry_of : Pointer �
 
   -- by what is well formed
   well_in : {A : Type 0} (test : A → Bool) (make : List ℕ → Json → A) (k : List ℕ)
-      → ((v : Json) → is_well_formed v ≡ true → test (make k v) ≡ true) → meets test (field ms k make) ≡ true
+      → ((v : Json) → is_json v ≡ true → test (make k v) ≡ true) → meets test (field ms k make) ≡ true
   well_in test make k h = field_in test make k (λ v e. h v (lookup_well_formed k ms v well e))
 
   -- by what has no fault

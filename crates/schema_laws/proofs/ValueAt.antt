@@ -4,7 +4,8 @@ use Rattle.std.proofs.lemmas.Bool.{and_parts}
 use Rattle.std.proofs.lemmas.Option.{same_Some}
 use Rattle.documents.specs.Tests.{same_word}
 use Rattle.documents.specs.Json.{Json, null, boolean, number, not_whole, string, array, object, Items, no_items, item, Members, no_members, member, lookup, elements}
-use Rattle.schemas.specs.Places.{Pointer, Place, index_token, index_of, child_at, value_at}
+use Rattle.documents.specs.Place.{index_of, child_at, value_at}
+use Rattle.schemas.specs.Places.{Pointer, Place, index_token}
 use Rattle.schema_laws.specs.Values.{IsIn, inside, of_items, of_members, values_from, names_differ, names_differ_in, members_differ}
 use Rattle.schema_laws.proofs.Pointers.{same_word-refl, same_word-eq}
 use Rattle.schema_laws.proofs.Tokens.{index_of-token}

@@ -3,7 +3,8 @@ use Rattle.std.proofs.Common.{◌≡◌, ℕ, zero, suc, ◌+◌, List, [], ◌�
 use Rattle.std.proofs.lemmas.Option.{none-some, same_Some}
 use Rattle.documents.specs.Tests.{same_word}
 use Rattle.documents.specs.Json.{Json, null, boolean, number, not_whole, string, array, object, Items, no_items, item, Members, no_members, member, lookup, elements, count, items_count, members_count}
-use Rattle.schemas.specs.Places.{Pointer, Place, index_token, index_of, child_at, value_at}
+use Rattle.documents.specs.Place.{index_of, child_at, value_at}
+use Rattle.schemas.specs.Places.{Pointer, Place, index_token}
 use Rattle.schema_laws.specs.Values.{IsIn, inside, of_items, of_members, values_from}
 use Rattle.schema_laws.proofs.Pointers.{same_word-eq}
 use Rattle.schema_laws.proofs.Tokens.{index_token-of}

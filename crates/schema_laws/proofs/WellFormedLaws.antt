@@ -1,77 +1,50 @@
 -- Each value in a value that is well formed is so too, and what is made of it is what documents, words and names are.
-use Rattle.std.proofs.Common.{◌≡◌, ℕ, suc, List, [], ◌∷◌, ◌++◌, map, inl, inr, ⊎_elim, Bool, true, false, ◌&&◌, cond, Some, refl, sym, ap, ◌∙◌}
+use Rattle.std.proofs.Common.{◌≡◌, ℕ, suc, List, [], ◌∷◌, ◌++◌, map, inl, inr, ⊎_elim, true, ◌&&◌, refl, ap, ◌∙◌}
 use Rattle.std.proofs.lemmas.Bool.{and_parts, and_from}
-use Rattle.std.proofs.lemmas.Option.{none-some, same_Some}
-use Rattle.documents.specs.Tests.{every, is_scalar, comes_before, same_word}
+use Rattle.documents.specs.Tests.{every, is_scalar, comes_before}
 use Rattle.documents.specs.Document as D
-use Rattle.documents.specs.Json.{Json, string, array, object, Items, no_items, item, Members, no_members, member, lookup, elements, entries}
+use Rattle.documents.specs.Json.{Json, string, array, object, Items, no_items, item, Members, no_members, member, elements, entries}
+use Rattle.documents.specs.WellFormed.{is_before, is_json, are_items, are_members}
+use Rattle.documents.proofs.Parts.{member_parts}
 use Rattle.schemas.specs.Places.{Pointer, Place, index_token}
 use Rattle.schemas.specs.Entries.{document_of, items_of, members_of, word, listed}
 use Rattle.schemas.specs.Schema.{is_word, is_ascending, are_keys}
 use Rattle.schema_laws.specs.Values.{IsIn, inside, of_items, of_members, values_from}
-use Rattle.schema_laws.specs.WellFormed.{is_before, is_well_formed, are_items, are_members}
 use Rattle.schema_laws.proofs.Members.{in_append}
 
--- the parts of members that are well formed
-pub record IsMember (k : List ℕ) (v : Json) (ms : Members) : Type 0 where
-  pub name : every is_scalar k ≡ true
-  pub value : is_well_formed v ≡ true
-  pub before : is_before k ms ≡ true
-  pub others : are_members ms ≡ true
-
-pub member_parts : (k : List ℕ) (v : Json) (ms : Members) → are_members (member k v ms) ≡ true → IsMember k v ms
-member_parts k v ms h =
-    let last = and_parts (every is_scalar k && is_well_formed v && is_before k ms) (are_members ms) h in
-    let third = and_parts (every is_scalar k && is_well_formed v) (is_before k ms) last.0 in
-    let first = and_parts (every is_scalar k) (is_well_formed v) third.0 in
-    record { name = first.0; value = first.1; before = third.1; others = last.1 }
-
 mutual
-  inside_well_formed : (p : Pointer) (v : Json) (c : Place) → is_well_formed v ≡ true → IsIn c (inside p v)
-      → is_well_formed c.1 ≡ true
+  inside_well_formed : (p : Pointer) (v : Json) (c : Place) → is_json v ≡ true → IsIn c (inside p v)
+      → is_json c.1 ≡ true
   inside_well_formed p (array vs) c h i = items_well_formed p 0 vs c h i
   inside_well_formed p (object ms) c h i = members_well_formed p ms c h i
   inside_well_formed p _ c h i = absurd i
 
   items_well_formed : (p : Pointer) (n : ℕ) (vs : Items) (c : Place) → are_items vs ≡ true → IsIn c (of_items p n vs)
-      → is_well_formed c.1 ≡ true
+      → is_json c.1 ≡ true
   items_well_formed p n no_items c h i = absurd i
   items_well_formed p n (item v vs) c h (inl e) =
-      let both = and_parts (is_well_formed v) (are_items vs) h in ap (λ z. is_well_formed z.1) e ∙ both.0
+      let both = and_parts (is_json v) (are_items vs) h in ap (λ z. is_json z.1) e ∙ both.0
   items_well_formed p n (item v vs) c h (inr i) =
-      let both = and_parts (is_well_formed v) (are_items vs) h in ⊎_elim
+      let both = and_parts (is_json v) (are_items vs) h in ⊎_elim
       (λ l. inside_well_formed (p ++ index_token n ∷ []) v c both.0 l)
       (λ r. items_well_formed p (suc n) vs c both.1 r)
       (in_append c (inside (p ++ index_token n ∷ []) v) (of_items p (suc n) vs) i)
 
   members_well_formed : (p : Pointer) (ms : Members) (c : Place) → are_members ms ≡ true → IsIn c (of_members p ms)
-      → is_well_formed c.1 ≡ true
+      → is_json c.1 ≡ true
   members_well_formed p no_members c h i = absurd i
   members_well_formed p (member k v ms) c h (inl e) =
-      let parts = member_parts k v ms h in ap (λ z. is_well_formed z.1) e ∙ parts.value
+      let parts = member_parts k v ms h in ap (λ z. is_json z.1) e ∙ parts.value
   members_well_formed p (member k v ms) c h (inr i) =
       let parts = member_parts k v ms h in ⊎_elim
       (λ l. inside_well_formed (p ++ k ∷ []) v c parts.value l)
       (λ r. members_well_formed p ms c parts.others r)
       (in_append c (inside (p ++ k ∷ []) v) (of_members p ms) i)
 
-pub values_well_formed : (p : Pointer) (v : Json) (c : Place) → is_well_formed v ≡ true → IsIn c (values_from p v)
-    → is_well_formed c.1 ≡ true
-values_well_formed p v c h (inl e) = ap (λ z. is_well_formed z.1) e ∙ h
+pub values_well_formed : (p : Pointer) (v : Json) (c : Place) → is_json v ≡ true → IsIn c (values_from p v)
+    → is_json c.1 ≡ true
+values_well_formed p v c h (inl e) = ap (λ z. is_json z.1) e ∙ h
 values_well_formed p v c h (inr i) = inside_well_formed p v c h i
-
-found_well_formed : (k n : List ℕ) (v w : Json) (ms : Members) (test : Bool) → is_well_formed w ≡ true
-    → cond test (Some w) (lookup k ms) ≡ Some v
-    → (lookup k ms ≡ Some v → is_well_formed v ≡ true) → is_well_formed v ≡ true
-found_well_formed k n v w ms true h e later = ap is_well_formed (sym (same_Some w v e)) ∙ h
-found_well_formed k n v w ms false h e later = later e
-
-pub lookup_well_formed : (k : List ℕ) (ms : Members) (v : Json) → are_members ms ≡ true → lookup k ms ≡ Some v
-    → is_well_formed v ≡ true
-lookup_well_formed k no_members v h e = absurd (none-some v e)
-lookup_well_formed k (member n w ms) v h e =
-    let parts = member_parts n w ms h in
-    found_well_formed k n v w ms (same_word k n) parts.value e (lookup_well_formed k ms v parts.others)
 
 -- ---- documents and words
 
@@ -80,7 +53,7 @@ is_before-members_of k no_members h = refl
 is_before-members_of k (member l v ms) h = h
 
 mutual
-  pub is_document-document_of : (v : Json) → is_well_formed v ≡ true → D.is_document (document_of v) ≡ true
+  pub is_document-document_of : (v : Json) → is_json v ≡ true → D.is_document (document_of v) ≡ true
   is_document-document_of (string s) h = h
   is_document-document_of (array vs) h = are_documents-items_of vs h
   is_document-document_of (object ms) h = are_members-members_of ms h
@@ -89,7 +62,7 @@ mutual
   are_documents-items_of : (vs : Items) → are_items vs ≡ true → D.are_documents (items_of vs) ≡ true
   are_documents-items_of no_items h = refl
   are_documents-items_of (item v vs) h =
-      let both = and_parts (is_well_formed v) (are_items vs) h in
+      let both = and_parts (is_json v) (are_items vs) h in
       and_from (D.is_document (document_of v)) (D.are_documents (items_of vs)) (is_document-document_of v both.0)
       (are_documents-items_of vs both.1)
 
@@ -107,25 +80,25 @@ mutual
 documents_of : (vs : Items) → are_items vs ≡ true → every D.is_document (map document_of (elements vs)) ≡ true
 documents_of no_items h = refl
 documents_of (item v vs) h =
-    let both = and_parts (is_well_formed v) (are_items vs) h in
+    let both = and_parts (is_json v) (are_items vs) h in
     and_from (D.is_document (document_of v)) (every D.is_document (map document_of (elements vs)))
     (is_document-document_of v both.0) (documents_of vs both.1)
 
-pub documents_listed : (v : Json) → is_well_formed v ≡ true → every D.is_document (map document_of (listed v)) ≡ true
+pub documents_listed : (v : Json) → is_json v ≡ true → every D.is_document (map document_of (listed v)) ≡ true
 documents_listed (array vs) h = documents_of vs h
 documents_listed _ h = refl
 
-pub is_word-word : (v : Json) → is_well_formed v ≡ true → is_word (word v) ≡ true
+pub is_word-word : (v : Json) → is_json v ≡ true → is_word (word v) ≡ true
 is_word-word (string s) h = h
 is_word-word _ h = refl
 
 pub words_of : (vs : Items) → are_items vs ≡ true → every is_word (map word (elements vs)) ≡ true
 words_of no_items h = refl
 words_of (item v vs) h =
-    let both = and_parts (is_well_formed v) (are_items vs) h in
+    let both = and_parts (is_json v) (are_items vs) h in
     and_from (is_word (word v)) (every is_word (map word (elements vs))) (is_word-word v both.0) (words_of vs both.1)
 
-pub words_listed : (v : Json) → is_well_formed v ≡ true → every is_word (map word (listed v)) ≡ true
+pub words_listed : (v : Json) → is_json v ≡ true → every is_word (map word (listed v)) ≡ true
 words_listed (array vs) h = words_of vs h
 words_listed _ h = refl
 

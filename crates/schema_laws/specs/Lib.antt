@@ -1,5 +1,4 @@
--- What the laws speak of: the values in a value, which of them a text has, and a walk that is under way.
+-- What the laws speak of: the values in a value, and a walk that is under way.
 pub mod Values
-pub mod WellFormed
 pub mod Walking
 pub mod Sound

@@ -4,7 +4,9 @@ use Prim.Native.String.{String}
 use Rattle.documents.specs.Tests.{same_word}
 use Rattle.documents.specs.Json as J
 use Rattle.documents.specs.Json.{Json}
-use Rattle.schemas.specs.Places.{Pointer, value_at}
+use Rattle.documents.specs.Place.{value_at}
+use Rattle.patterns.specs.Tree.{Tree, empty}
+use Rattle.schemas.specs.Places.{Pointer}
 use Rattle.schemas.specs.Keyword.{is_object_or_boolean}
 use Rattle.schemas.specs.Fault.{Fault, Rules}
 use Rattle.schemas.specs.Entry.{Entry}
@@ -31,10 +33,10 @@ below n = J.number (negsuc n)
 abbrev pub path : List String → Pointer
 path ts = map codes ts
 
--- an unfinished group is no pattern, and its fault says where
-abbrev pub group_fault : ℕ → List ℕ → Option ℕ
-group_fault at [] = None
-group_fault at (c ∷ w) = cond (nat_eq c 40) (Some at) (group_fault (at + 1) w)
+-- an unfinished group is no pattern, and its fault says where; what a pattern matches is of no account here
+abbrev pub read_to_group : ℕ → List ℕ → Result Tree ℕ
+read_to_group at [] = Ok empty
+read_to_group at (c ∷ w) = cond (nat_eq c 40) (Err at) (read_to_group (at + 1) w)
 
 -- what can be wrong with a reference
 pub data Bad : Type 0 where
@@ -73,7 +75,7 @@ abbrev pub target : Json → List ℕ → Option (List ℕ) → Result Pointer B
 target root w id = cond (is_own (cut w).0 id) (at_fragment root (tokens (cut w).1)) (Err Remote)
 
 abbrev pub rules_up_to : ℕ → Rules ℕ Bad
-rules_up_to most = record { pattern_fault = group_fault 0; target = target; most_weight = most }
+rules_up_to most = record { pattern = read_to_group 0; target = target; most_weight = most }
 
 -- the first fault, the pointers of the places, and what is read
 abbrev pub fault_up_to : ℕ → Json → Option (Fault ℕ Bad)

@@ -1,6 +1,8 @@
 -- What can be wrong in a schema, and the first thing that is wrong in the value of a keyword, in pre-order.
 use Rattle.std.specs.Prelude.{ℕ, suc, ℤ, List, [], ◌∷◌, ◌++◌, Bool, true, false, pos, int_le, int_lt, Option, Some, None, option_map, Result, cond}
+use Rattle.std.specs.Result.{result_err}
 use Rattle.documents.specs.Json.{Json, boolean, number, not_whole, string, array, object, Items, no_items, item, Members, no_members, member}
+use Rattle.patterns.specs.Tree.{Tree}
 use Rattle.schemas.specs.Places.{Pointer, index_token}
 use Rattle.schemas.specs.Keyword.{Shape, TypeWords, AnyValues, AnyValue, WholeNumber, PositiveNumber, Count, PatternWord, Words, Schema, SchemaOrList, SchemaList, SchemaMap, PatternMap, NeedMap, Flag, is_held, is_type_word, is_string, is_object_or_boolean}
 
@@ -27,10 +29,10 @@ pub data Fault (P R : Type 0) : Type 0 where
   -- with this place the schema weighs more than is read
   TooLarge : Pointer → Fault P R
 
--- what reading rests on: the fault of a text that is no pattern; the place to which a reference leads in the value of
+-- what reading rests on: the tree of a pattern, or the fault of a text that is none; the place to which a reference leads in the value of
 -- the whole file, whose identifier is given where it has one; and the greatest weight of a schema
 pub record Rules (P R : Type 0) : Type 0 where
-  pub pattern_fault : List ℕ → Option P
+  pub pattern : List ℕ → Result Tree P
   pub target : Json → List ℕ → Option (List ℕ) → Result Pointer R
   pub most_weight : ℕ
 
@@ -66,6 +68,10 @@ first_failing test p i no_items = None
 first_failing test p i (item v vs) = cond (test v) (first_failing test p (suc i) vs) (Some (p ++ index_token i ∷ []))
 
 module _ {P R : Type 0} (rules : Rules P R) where
+  -- what is wrong with a text that should be a pattern
+  abbrev pub pattern_fault : List ℕ → Option P
+  pattern_fault w = result_err (rules.pattern w)
+
   -- the value of the keyword k, which stands at p, by the shape that is asked for
   abbrev pub types_fault : List ℕ → Pointer → Json → Option (Fault P R)
   types_fault k p (array vs) = option_map (WrongShape k) (first_failing is_type_word p 0 vs)
@@ -100,7 +106,7 @@ module _ {P R : Type 0} (rules : Rules P R) where
   count_fault k p v = whole_fault k p v
 
   abbrev pub pattern_word_fault : List ℕ → Pointer → Json → Option (Fault P R)
-  pattern_word_fault k p (string w) = option_map (λ f. BadPattern f p) (rules.pattern_fault w)
+  pattern_word_fault k p (string w) = option_map (λ f. BadPattern f p) (pattern_fault w)
   pattern_word_fault k p v = Some (WrongShape k p)
 
   -- a list element or a member in the place of a schema is looked at when its place is walked
@@ -124,7 +130,7 @@ module _ {P R : Type 0} (rules : Rules P R) where
   abbrev pub names_fault : Pointer → Members → Option (Fault P R)
   names_fault p no_members = None
   names_fault p (member w v ms) =
-      or_else (option_map (λ f. BadPattern f (p ++ w ∷ [])) (rules.pattern_fault w)) (names_fault p ms)
+      or_else (option_map (λ f. BadPattern f (p ++ w ∷ [])) (pattern_fault w)) (names_fault p ms)
 
   abbrev pub pattern_map_fault : List ℕ → Pointer → Json → Option (Fault P R)
   pattern_map_fault k p (object ms) = names_fault p ms

@@ -1,7 +1,8 @@
 -- The walk from schema to schema: which places it comes to, in their order.
 use Rattle.std.specs.Prelude.{ℕ, zero, suc, List, [], ◌∷◌, ◌++◌, Option, Some, None, Result, Ok, Err, cond, codes}
 use Rattle.documents.specs.Json.{Json, string, object, Members, lookup, count}
-use Rattle.schemas.specs.Places.{Pointer, Place, has_place, value_at}
+use Rattle.documents.specs.Place.{value_at}
+use Rattle.schemas.specs.Places.{Pointer, Place, has_place}
 use Rattle.schemas.specs.SubSchemas.{sub_schemas}
 use Rattle.schemas.specs.Fault.{Rules}
 

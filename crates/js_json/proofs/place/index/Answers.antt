@@ -1,6 +1,6 @@
 use Rattle.std.proofs.Common.{sym, ap, ◌∙◌}
 use Rattle.std.proofs.lemmas.Bool.{cond-false}
-use Rattle.js_json.specs.Place.{is_index}
+use Rattle.documents.specs.Place.{is_index}
 use Rattle.js_json.proofs.PlaceLemmas.{index_of-parsed, index_of-chars}
 use Rattle.js_json.proofs.place.index.Goals as goal
 

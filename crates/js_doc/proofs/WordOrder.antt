@@ -1,6 +1,6 @@
 -- Texts in the order of their bytes are in the order of their characters.
-use Rattle.std.proofs.Common.{◌≡◌, ◌⊎◌, inl, inr, ℕ, ◌+◌, ◌/◌, ◌%◌, ◌<◌, ◌≤◌, List, [], ◌∷◌, ◌++◌, true, Ordering, Less, Equal, nat_cmp, chars, IsUtf8, refl, sym, ap, ◌∙◌, arith}
-use Rattle.std.proofs.lemmas.Bool.{cases_lt, cases_order, lt-ltb, le-ltb, eq-eqb, ne_eqb}
+use Rattle.std.proofs.Common.{◌≡◌, ◌⊎◌, inl, inr, ℕ, ◌+◌, ◌/◌, ◌%◌, ◌<◌, ◌≤◌, List, [], ◌∷◌, ◌++◌, true, Ordering, Less, Equal, Greater, nat_cmp, chars, IsUtf8, refl, sym, ap, ap₂, ◌∙◌, arith}
+use Rattle.std.proofs.lemmas.Bool.{cases_lt, cases_order, lt-ltb, le-ltb}
 use Rattle.std.proofs.lemmas.Bool.Decides.{nat_tests}
 use Rattle.std.proofs.lemmas.Cmp.{nat_list_cmp_total}
 use Rattle.std.specs.Cmp.Lexicographic.{slice_cmp}
@@ -9,6 +9,7 @@ use Rattle.std.proofs.lemmas.Str.{encode_ascii, encodes-chars}
 use Rattle.std.specs.Char.{encode_utf8}
 use Rattle.std.specs.Str.{encode_utf8_all}
 use Rattle.documents.specs.Tests.{comes_before}
+use Rattle.documents.proofs.NameOrder.{smaller_first, same_first}
 
 abbrev order : List ℕ → List ℕ → Ordering
 order xs ys = slice_cmp nat_cmp xs ys
@@ -24,6 +25,12 @@ less_here x y xs ys h = rw (nat_cmp_less x y h) refl
 
 less_later : (x y : ℕ) (xs ys : List ℕ) → x ≡ y → order xs ys ≡ Less → order (x ∷ xs) (y ∷ ys) ≡ Less
 less_later x y xs ys same h = rw (same, nat_cmp_same) h
+
+same_later : (x y : ℕ) (xs ys : List ℕ) → x ≡ y → order (x ∷ xs) (y ∷ ys) ≡ order xs ys
+same_later x y xs ys same = rw (same, nat_cmp_same) refl
+
+greater_here : (x y : ℕ) (xs ys : List ℕ) → y < x → order (x ∷ xs) (y ∷ ys) ≡ Greater
+greater_here x y xs ys h = let greater : nat_cmp x y ≡ Greater = grind (arith, nat_tests) in rw greater refl
 
 -- the first bytes that differ are in order
 abbrev Lower : List ℕ → List ℕ → Type 0
@@ -187,13 +194,6 @@ not_before_nothing : (xs : List ℕ) → order xs [] ≡ Less → ⊥
 not_before_nothing [] e = cc
 not_before_nothing (x ∷ xs) e = cc
 
-same_first : (c d : ℕ) (cs ds : List ℕ) → c ≡ d → comes_before cs ds ≡ true
-    → comes_before (c ∷ cs) (d ∷ ds) ≡ true
-same_first c d cs ds e h = rw (eq-eqb c d e) h
-
-smaller_first : (c d : ℕ) (cs ds : List ℕ) → c < d → comes_before (c ∷ cs) (d ∷ ds) ≡ true
-smaller_first c d cs ds h = let other : c ≡ d → ⊥ = λ e. omega arith in rw (ne_eqb c d other) (lt-ltb c d h)
-
 -- in the order of the bytes, so in the order of the characters
 pub comes_before-encodes : (cs ds : List ℕ) → order (encode_utf8_all cs) (encode_utf8_all ds) ≡ Less
     → comes_before cs ds ≡ true
@@ -221,3 +221,22 @@ pub comes_before-chars : (a b : List ℕ) → IsUtf8 a → IsUtf8 b → order a 
     → comes_before (chars a) (chars b) ≡ true
 comes_before-chars a b u v e =
     comes_before-encodes (chars a) (chars b) (rw (encodes-chars a u, encodes-chars b v) e)
+
+-- texts of which the second comes first
+pub comes_after-chars : (a b : List ℕ) → IsUtf8 a → IsUtf8 b → order a b ≡ Greater
+    → comes_before (chars b) (chars a) ≡ true
+comes_after-chars a b u v e =
+    comes_before-chars b a v u (nat_list_cmp_total.antisymm b a ∙ ap ordering_reverse e)
+
+-- texts of which neither comes first
+pub same_text : (a b : List ℕ) → order a b ≡ Equal → a ≡ b
+same_text [] [] e = refl
+same_text [] (y ∷ ys) e = cc
+same_text (x ∷ xs) [] e = cc
+same_text (x ∷ xs) (y ∷ ys) e = elim (cases_order x y) [
+  | inl same ↦
+      let rest : order xs ys ≡ Equal = sym (same_later x y xs ys same) ∙ e in
+      ap₂ (λ c cs. c ∷ cs) same (same_text xs ys rest)
+  | inr (inl less) ↦ let first = less_here x y xs ys less in cc
+  | inr (inr greater) ↦ let first = greater_here x y xs ys greater in cc
+]

@@ -16,16 +16,16 @@ abbrev pub index_of : List ℕ → Option ℕ
 index_of token = if is_index token then Some (digits_value 10 token) else None
 
 -- the element at that index, or the member of that name
-abbrev pub child : List ℕ → Json → Option Json
-child token null = None
-child token (boolean b) = None
-child token (number n) = None
-child token not_whole = None
-child token (string s) = None
-child token (array ds) = option_and_then (slice_get (elements ds)) (index_of token)
-child token (object ms) = lookup token ms
+abbrev pub child_at : List ℕ → Json → Option Json
+child_at token null = None
+child_at token (boolean b) = None
+child_at token (number n) = None
+child_at token not_whole = None
+child_at token (string s) = None
+child_at token (array ds) = option_and_then (slice_get (elements ds)) (index_of token)
+child_at token (object ms) = lookup token ms
 
 -- the value that the tokens lead to, outermost first
 abbrev pub value_at : List (List ℕ) → Json → Option Json
 value_at [] j = Some j
-value_at (token ∷ tokens) j = option_and_then (value_at tokens) (child token j)
+value_at (token ∷ tokens) j = option_and_then (value_at tokens) (child_at token j)

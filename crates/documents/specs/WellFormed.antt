@@ -8,6 +8,11 @@ abbrev pub is_before : List ℕ → Members → Bool
 is_before k no_members = true
 is_before k (member l e ms) = comes_before k l
 
+-- each name comes before the next one
+abbrev pub names_rise : Members → Bool
+names_rise no_members = true
+names_rise (member k d ms) = is_before k ms && names_rise ms
+
 -- strings and names are scalar values, and an object has each name once, in ascending order
 abbrev mutual
   pub is_json : Json → Bool
