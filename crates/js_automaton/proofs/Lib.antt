@@ -4,3 +4,4 @@ pub mod Extends
 pub mod Places
 pub mod Adding
 pub mod Crossings
+pub mod ClassOrder

@@ -1,6 +1,7 @@
 //! Automata of atoms: the rows that words reach.
 #![tactic(auto)]
 
+mod classes;
 mod edges;
 mod fault;
 mod parts;
