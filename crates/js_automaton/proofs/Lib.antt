@@ -5,3 +5,5 @@ pub mod Places
 pub mod Adding
 pub mod Crossings
 pub mod ClassOrder
+pub mod Tries
+pub mod BeginningKeys

@@ -3,3 +3,4 @@ pub mod Division
 pub mod Classed
 -- How a division is made.
 pub mod Flags
+pub mod Beginnings

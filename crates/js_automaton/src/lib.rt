@@ -5,5 +5,6 @@ mod classes;
 mod edges;
 mod fault;
 mod parts;
+mod trie;
 
 pub use fault::AutoFault;

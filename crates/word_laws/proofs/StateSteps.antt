@@ -19,7 +19,7 @@ use Rattle.word_laws.proofs.Classes.{alike_at, alike_parts, alike_laws}
 use Rattle.word_laws.proofs.States.{word_decides, word_laws, whole_state}
 
 -- ---- listed words that a word begins
-shorter_prefix : (v : List ℕ) (c : ℕ) (x : List ℕ) → is_prefix (v ++ c ∷ []) x ≡ true → is_prefix v x ≡ true
+pub shorter_prefix : (v : List ℕ) (c : ℕ) (x : List ℕ) → is_prefix (v ++ c ∷ []) x ≡ true → is_prefix v x ≡ true
 shorter_prefix [] c x e = refl
 shorter_prefix (a ∷ v) c [] e = cc e
 shorter_prefix (a ∷ v) c (b ∷ x) e =
@@ -43,12 +43,12 @@ same_prefix (a ∷ v) (b ∷ w) (y ∷ x) e f l =
     let (i, j) = and_parts (nat_eq b y) (is_prefix w x) f in
     ap₂ (λ c u. c ∷ u) (eqb-true a y g ∙ sym (eqb-true b y i)) (same_prefix v w x h j (let q : suc (length v) ≡ suc (length w) = l in omega (arith, q)))
 
-whole_prefix : (v : List ℕ) → is_prefix v v ≡ true
+pub whole_prefix : (v : List ℕ) → is_prefix v v ≡ true
 whole_prefix [] = refl
 whole_prefix (a ∷ v) = and_from (nat_eq a a) (is_prefix v v) (eq-eqb a a refl) (whole_prefix v)
 
 -- where the parts of two words are equal, no listed word begins with either, or the words are equal
-begun_cases : (ws : List (List ℕ)) (v w : List ℕ) → atom_state v (Words ws) ≡ atom_state w (Words ws)
+pub begun_cases : (ws : List (List ℕ)) (v w : List ℕ) → atom_state v (Words ws) ≡ atom_state w (Words ws)
     → ((filter (is_prefix v) ws ≡ []) × (filter (is_prefix w) ws ≡ [])) ⊎ (v ≡ w)
 begun_cases ws v w e = go (filter (is_prefix v) ws) (filter (is_prefix w) ws) refl refl e where
   go : (xs ys : List (List ℕ)) → filter (is_prefix v) ws ≡ xs → filter (is_prefix w) ws ≡ ys → begun xs v ≡ begun ys w
