@@ -4,3 +4,5 @@ pub mod Rises
 pub mod Counted
 -- What a signal does in the moves of a tree.
 pub mod Through
+-- Copies of what reads nothing.
+pub mod Few

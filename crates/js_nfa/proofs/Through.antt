@@ -13,20 +13,20 @@ use Rattle.js_nfa.proofs.Counted.{reads_code, loops_append, loops_times, loops_o
 
 -- ---- what comes to the ends of loops
 -- after some copies
-abbrev chain : (one : ℕ → Bool → Bool) (count n : ℕ) → ℕ → Bool → Bool
+abbrev pub chain : (one : ℕ → Bool → Bool) (count n : ℕ) → ℕ → Bool → Bool
 chain one count zero base x = x
 chain one count (suc n) base x = chain one count n (base + count) (one base x)
 
-abbrev chain_echo : (echoes : ℕ → Bool → List Bool) (one : ℕ → Bool → Bool) (count n : ℕ) → ℕ → Bool → List Bool
+abbrev pub chain_echo : (echoes : ℕ → Bool → List Bool) (one : ℕ → Bool → Bool) (count n : ℕ) → ℕ → Bool → List Bool
 chain_echo echoes one count zero base x = []
 chain_echo echoes one count (suc n) base x = echoes base x ++ chain_echo echoes one count n (base + count) (one base x)
 
-abbrev echo_both : (echoes : ℕ → Bool → List Bool) (one : ℕ → Bool → Bool) (count m n : ℕ) → ℕ → Bool → List Bool
+abbrev pub echo_both : (echoes : ℕ → Bool → List Bool) (one : ℕ → Bool → Bool) (count m n : ℕ) → ℕ → Bool → List Bool
 echo_both echoes one count m n base x =
     chain_echo echoes one count m base x
     ++ chain_echo echoes one count n (base + m * count) (chain one count m base x)
 
-abbrev echo_on : (echoes : ℕ → Bool → List Bool) (one : ℕ → Bool → Bool) (count n : ℕ) → ℕ → Bool → List Bool
+abbrev pub echo_on : (echoes : ℕ → Bool → List Bool) (one : ℕ → Bool → Bool) (count n : ℕ) → ℕ → Bool → List Bool
 echo_on echoes one count n base x =
     chain_echo echoes one count n base x
     ++ one (base + n * count) (chain one count n base x) ∷ echoes (base + n * count) (chain one count n base x)
@@ -73,11 +73,11 @@ set_after xs b ys n e =
       all : length (xs ++ false ∷ ys) ≡ length xs + suc (length ys)
       all = length-append xs (false ∷ ys)
 
-or_false : (b : Bool) → b || false ≡ b
+pub or_false : (b : Bool) → b || false ≡ b
 or_false true = refl
 or_false false = refl
 
-or_assoc : (a b c : Bool) → (a || b) || c ≡ a || (b || c)
+pub or_assoc : (a b c : Bool) → (a || b) || c ≡ a || (b || c)
 or_assoc true b c = refl
 or_assoc false b c = refl
 
@@ -95,15 +95,15 @@ marks_append s c (x ∷ xs) ys p =
 
 module _ (s : Setting) (c : ℕ) where
   -- what is heard from a number on came to its end
-  abbrev Within : ℕ → List Bool → Type 0
+  abbrev pub Within : ℕ → List Bool → Type 0
   Within k [] = Unit {0}
   Within k (e ∷ es) = Implies (hears s k) e × Within (suc k) es
 
-  within_left : (k : ℕ) (xs ys : List Bool) → Within k (xs ++ ys) → Within k xs
+  pub within_left : (k : ℕ) (xs ys : List Bool) → Within k (xs ++ ys) → Within k xs
   within_left k [] ys w = tt
   within_left k (x ∷ xs) ys (i, w) = (i, within_left (suc k) xs ys w)
 
-  within_right : (k : ℕ) (xs ys : List Bool) → Within k (xs ++ ys) → Within (k + length xs) ys
+  pub within_right : (k : ℕ) (xs ys : List Bool) → Within k (xs ++ ys) → Within (k + length xs) ys
   within_right k [] ys w = subst (λ z. Within z ys) (omega arith) w
   within_right k (x ∷ xs) ys (i, w) = subst (λ z. Within z ys) (omega arith) (within_right (suc k) xs ys w)
 
@@ -118,7 +118,7 @@ module _ (s : Setting) (c : ℕ) where
 
   -- what a list of moves does to a point, where no more is heard than would come to the ends of the loops if the
   -- signal were x
-  abbrev Went : (moves : List Move) (out : ℕ → Bool → Bool) (echoes nexts : ℕ → Bool → List Bool) (width loops : ℕ)
+  abbrev pub Went : (moves : List Move) (out : ℕ → Bool → Bool) (echoes nexts : ℕ → Bool → List Bool) (width loops : ℕ)
       → Point → Bool → Type 0
   Went moves out echoes nexts width loops p x =
       (later : List Bool)
@@ -128,7 +128,7 @@ module _ (s : Setting) (c : ℕ) where
       × (s.last ≡ false → Agrees (hears s) (length p.echoes) (echoes p.base x)
       → marks s c moves p ≡ nexts p.base p.on)
 
-  record Fine (moves : List Move) (out : ℕ → Bool → Bool) (echoes nexts : ℕ → Bool → List Bool) (width loops : ℕ)
+  pub record Fine (moves : List Move) (out : ℕ → Bool → Bool) (echoes nexts : ℕ → Bool → List Bool) (width loops : ℕ)
       : Type 0 where
     pub rise : (base : ℕ) (x y : Bool) → Implies x y → Implies (out base x) (out base y)
     pub long : (base : ℕ) (x : Bool) → length (echoes base x) ≡ loops
@@ -136,7 +136,7 @@ module _ (s : Setting) (c : ℕ) where
         → Went moves out echoes nexts width loops p x
 
   module _ (xs ys : List Move) (f g : ℕ → Bool → Bool) (d e m n : ℕ → Bool → List Bool) (u v k l : ℕ) where
-    fine_then : Fine xs f d m u k → Fine ys g e n v l
+    pub fine_then : Fine xs f d m u k → Fine ys g e n v l
         → Fine (xs ++ ys) (λ base x. g (base + u) (f base x)) (λ base x. d base x ++ e (base + u) (f base x))
         (λ base x. m base x ++ n (base + u) (f base x)) (u + v) (k + l)
     fine_then a b = record {
@@ -168,7 +168,7 @@ module _ (s : Setting) (c : ℕ) where
 
   -- the same said otherwise
   module _ (xs : List Move) (f g : ℕ → Bool → Bool) (d e m n : ℕ → Bool → List Bool) (u v k l : ℕ) where
-    fine_same : Fine xs f d m u k → ((base : ℕ) (x : Bool) → f base x ≡ g base x)
+    pub fine_same : Fine xs f d m u k → ((base : ℕ) (x : Bool) → f base x ≡ g base x)
         → ((base : ℕ) (x : Bool) → d base x ≡ e base x)
         → (s.last ≡ false → (base : ℕ) (x : Bool) → m base x ≡ n base x) → u ≡ v → k ≡ l → Fine xs g e n v l
     fine_same a fg de mn uv kl = record {
@@ -187,7 +187,7 @@ module _ (s : Setting) (c : ℕ) where
     }
 
   -- no echo, at most one mark, and no frame
-  fine_step : (mv : Move) (f : ℕ → Bool → Bool) (m : ℕ → Bool → List Bool) (u : ℕ)
+  pub fine_step : (mv : Move) (f : ℕ → Bool → Bool) (m : ℕ → Bool → List Bool) (u : ℕ)
       → ((base : ℕ) (x y : Bool) → Implies x y → Implies (f base x) (f base y))
       → ((p : Point) → pass s mv p ≡ point (f p.base p.on) p.frames (p.base + u) p.echoes)
       → ((p : Point) → mark c mv p.on ≡ m p.base p.on) → Fine (mv ∷ []) f (λ base x. []) m u 0
@@ -204,7 +204,7 @@ module _ (s : Setting) (c : ℕ) where
       );
   }
 
-  fine_nothing : Fine [] (λ base x. x) (λ base x. []) (λ base x. []) 0 0
+  pub fine_nothing : Fine [] (λ base x. x) (λ base x. []) (λ base x. []) 0 0
   fine_nothing = record {
     rise = λ base x y i. i;
     long = λ base x. refl;
@@ -222,7 +222,7 @@ module _ (s : Setting) (c : ℕ) where
   module _ (body : List Move) (one : ℕ → Bool → Bool) (each nexts : ℕ → Bool → List Bool) (count loops : ℕ)
       (fine : Fine body one each nexts count loops) where
     -- copies, one after another
-    fine_copies : (n : ℕ) → Fine (times n body) (chain one count n) (chain_echo each one count n)
+    pub fine_copies : (n : ℕ) → Fine (times n body) (chain one count n) (chain_echo each one count n)
         (next_copies nexts one count n) (n * count) (n * loops)
     fine_copies zero =
         fine_same [] (λ base x. x) (chain one count 0) (λ base x. []) (chain_echo each one count 0) (λ base x. [])
@@ -244,7 +244,7 @@ module _ (s : Setting) (c : ℕ) where
     same_end base false true f = fine.rise base false true (λ h. refl) (f refl) ∙ sym (f refl)
     same_end base false false f = refl
 
-    end_again : (base : ℕ) (x : Bool) → one base (x || one base false) ≡ one base x
+    pub end_again : (base : ℕ) (x : Bool) → one base (x || one base false) ≡ one base x
     end_again base x = same_end base x (one base false) (fine.rise base false x (λ h. absurd (false≢true h)))
 
     -- from where it is heard the loop is entered as from its ends that begin in it
@@ -285,7 +285,7 @@ module _ (s : Setting) (c : ℕ) where
             ∙ ap (nexts p.base) (same_entry p.base x p.on h i a),
         )
 
-    fine_loop : Fine (again ∷ body ++ echo loops ∷ []) (λ base x. one base (x || one base false))
+    pub fine_loop : Fine (again ∷ body ++ echo loops ∷ []) (λ base x. one base (x || one base false))
         (λ base x. one base x ∷ each base x) (λ base x. nexts base (x || one base false)) count (suc loops)
     fine_loop = record {
       rise = λ base x y i. fine.rise base (x || one base false) (y || one base false) (or_implies x (one base false) y (one base false) i (λ h. h));
@@ -308,7 +308,7 @@ module _ (s : Setting) (c : ℕ) where
             marks_append s c body (offer ∷ settle ∷ []) q ∙ append-nil (marks s c body q) ∙ mk z agree,
         )
 
-    fine_option : Fine (keep ∷ body ++ offer ∷ settle ∷ []) (λ base x. x || one base x) each nexts count loops
+    pub fine_option : Fine (keep ∷ body ++ offer ∷ settle ∷ []) (λ base x. x || one base x) each nexts count loops
     fine_option = record {
       rise = λ base x y i. or_implies x (one base x) y (one base y) i (fine.rise base x y i);
       long = fine.long;
@@ -419,7 +419,7 @@ module _ (s : Setting) (c : ℕ) where
             ∙ mk z agree,
         )
 
-    fine_options : (n : ℕ) → Fine (options n body) (through_some one count n) (chain_echo each one count n)
+    pub fine_options : (n : ℕ) → Fine (options n body) (through_some one count n) (chain_echo each one count n)
         (next_copies nexts one count n) (n * count) (n * loops)
     fine_options zero = fine_copies zero
     fine_options (suc n) = record { rise = chain_rises (suc n); long = chain_long (suc n); went = options_went n }
