@@ -6,3 +6,5 @@ pub mod Counted
 pub mod Through
 -- Copies of what reads nothing.
 pub mod Few
+-- A signal in the moves of a tree.
+pub mod Signals

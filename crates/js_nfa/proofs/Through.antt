@@ -52,13 +52,13 @@ abbrev mutual
       else echo_both (λ at some. echoes_of t first last read at some) (λ at some. ends_here t first last read at some)
       (count_of t) (few (reads_in (code t)) low) (few (reads_in (code t)) (suc high - low)) base begins
 
-  echoes_in_turn : Trees → (first last : Bool) → (read : ℕ → Bool) → (base : ℕ) → (begins : Bool) → List Bool
+  pub echoes_in_turn : Trees → (first last : Bool) → (read : ℕ → Bool) → (base : ℕ) → (begins : Bool) → List Bool
   echoes_in_turn no_trees first last read base begins = []
   echoes_in_turn (tree t ts) first last read base begins =
       echoes_of t first last read base begins
       ++ echoes_in_turn ts first last read (base + count_of t) (ends_here t first last read base begins)
 
-  echoes_of_one : Trees → (first last : Bool) → (read : ℕ → Bool) → (base : ℕ) → (begins : Bool) → List Bool
+  pub echoes_of_one : Trees → (first last : Bool) → (read : ℕ → Bool) → (base : ℕ) → (begins : Bool) → List Bool
   echoes_of_one no_trees first last read base begins = []
   echoes_of_one (tree t ts) first last read base begins =
       echoes_of t first last read base begins ++ echoes_of_one ts first last read (base + count_of t) begins
