@@ -8,3 +8,7 @@ pub mod Through
 pub mod Few
 -- A signal in the moves of a tree.
 pub mod Signals
+-- Steps as moves.
+pub mod WrittenLemmas
+-- Moves that are written again.
+pub mod CopyLemmas
