@@ -1,5 +1,6 @@
 -- How many positions and loops moves have.
-use Rattle.std.proofs.Common.{◌≡◌, ℕ, zero, suc, ◌+◌, ◌-◌, ◌*◌, ◌≤◌, min, max, Bool, true, false, nat_lt, nat_eq, if◌then◌else◌, List, [], ◌∷◌, ◌++◌, Some, None, refl, sym, ◌∙◌, ap, subst, arith}
+use Rattle.std.proofs.Common.{◌≡◌, ℕ, zero, suc, ◌+◌, ◌-◌, ◌*◌, ◌≤◌, min, max, Bool, true, false, nat_lt, nat_eq, if◌then◌else◌, List, [], ◌∷◌, ◌++◌, take, drop, Some, None, refl, sym, ◌∙◌, ap, subst, arith}
+use Rattle.std.proofs.lemmas.List.{take-append-drop}
 use Rattle.std.proofs.lemmas.Bool.{ltb-false, lt-ltb, eq-eqb}
 use Rattle.patterns.specs.Tree.{Tree, Trees, empty, one_of, at_start, at_end, in_turn, either, repeated, no_trees, tree}
 use Rattle.words.specs.Position.{count_of, count_in, times}
@@ -131,3 +132,10 @@ mutual
   reads_of_one no_trees = refl
   reads_of_one (tree t ts) =
       reads_append (code t) (next ∷ code_of_one ts) ∙ omega (arith, reads_code t, reads_of_one ts)
+
+-- before a place and after it
+pub reads_parts : (n : ℕ) (ms : List Move) → reads_in (take n ms) + reads_in (drop n ms) ≡ reads_in ms
+reads_parts n ms = sym (reads_append (take n ms) (drop n ms)) ∙ ap reads_in (take-append-drop n ms)
+
+pub loops_parts : (n : ℕ) (ms : List Move) → loops_in (take n ms) + loops_in (drop n ms) ≡ loops_in ms
+loops_parts n ms = sym (loops_append (take n ms) (drop n ms)) ∙ ap loops_in (take-append-drop n ms)

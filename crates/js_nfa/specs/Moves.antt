@@ -64,6 +64,18 @@ abbrev pub copies_on_code : ℕ → List Move → List Move
 copies_on_code zero body = keep ∷ loop_code body ++ offer ∷ settle ∷ []
 copies_on_code (suc low) body = times (few (reads_in body) low) body ++ loop_code body
 
+-- what is written after the first copy of a repeated tree with a greatest number, which isn't 0, where a `keep` stands
+-- before that copy if it may be left out
+abbrev pub copies_tail : (low high : ℕ) → List Move → List Move
+copies_tail low high body =
+    if nat_lt high low then times (few (reads_in body) high - 1) body ++ never ∷ []
+    else (if nat_eq low 0 then offer ∷ offers (few (reads_in body) high - 1) body ++ settle ∷ []
+    else times (few (reads_in body) low - 1) body ++ options (few (reads_in body) (high - low)) body)
+
+-- and after the first copy of one with no greatest number, which has two copies at least
+abbrev pub copies_on_tail : ℕ → List Move → List Move
+copies_on_tail low body = times (few (reads_in body) (low - 1) - 1) body ++ loop_code body
+
 -- the moves of a tree
 abbrev mutual
   pub code : Tree → List Move

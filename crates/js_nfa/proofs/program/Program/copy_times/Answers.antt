@@ -1,0 +1,27 @@
+use Rattle.std.proofs.Common.{◌≡◌, ◌++◌, [], ap, ◌∙◌, sym, arith, append-nil}
+use Rattle.words.specs.Position.{times}
+use Rattle.js_nfa.specs.ProgramView.{moves, between}
+use Rattle.js_nfa.proofs.CopyLemmas.{copied_more, longer}
+use Rattle.js_nfa.proofs.program.Program.copy_times.Goals as goal
+
+pub loop-init : goal.loop-init
+loop-init c = sym (append-nil (moves c.args.self.now))
+
+pub copy-requires-clause-within : goal.copy-requires-clause-within
+copy-requires-clause-within c =
+    longer c.args.to (moves c.args.self.now) (moves c.loop.self) _ c.requires.within c.loop.invariant
+
+pub loop-preserved : goal.loop-preserved
+loop-preserved c =
+    c.in_ok-copy.ensures
+    ∙ ap (λ z. moves c.loop.self ++ z) (sym (append-nil (between c.args.from c.args.to (moves c.loop.self))))
+    ∙ copied_more c.args.from c.args.to c.loop.counter (moves c.args.self.now) (moves c.loop.self) [] c.requires.order
+    c.requires.within c.loop.invariant
+
+pub returns : goal.returns
+returns c =
+    let e : c.loop.counter ≡ c.args.n = omega (arith, c.loop-test.false, c.loop.auto.counter-end) in
+    c.loop.invariant
+    ∙ ap (λ body. moves c.args.self.now ++ times c.loop.counter body)
+    (append-nil (between c.args.from c.args.to (moves c.args.self.now)))
+    ∙ ap (λ n. moves c.args.self.now ++ times n (between c.args.from c.args.to (moves c.args.self.now))) e
