@@ -1,8 +1,8 @@
 -- The characters that begin a class, in order: there is one list of them.
-use Rattle.std.proofs.Common.{◌≡◌, ℕ, zero, suc, ◌+◌, ◌<◌, ◌≤◌, ◌⊎◌, inl, inr, ⊎_elim, List, [], ◌∷◌, ◌++◌, Bool, true, false, ◌&&◌, ◌||◌, cond, if◌then◌else◌, nat_eq, nat_lt, nat_le, filter, flat_map, refl, ap, ap₂, sym, ◌∙◌, subst, eqb-true, eq-eqb, append-nil, append_assoc, arith}
+use Rattle.std.proofs.Common.{◌≡◌, ℕ, zero, suc, ◌+◌, ◌<◌, ◌≤◌, ◌⊎◌, inl, inr, ⊎_elim, List, [], ◌∷◌, ◌++◌, Bool, true, false, ◌&&◌, cond, if◌then◌else◌, nat_eq, nat_lt, nat_le, filter, flat_map, refl, ap₂, sym, ◌∙◌, subst, eqb-true, append-nil, append_assoc, arith}
 use Rattle.std.specs.Cmp.{IsEquivalence}
 use Rattle.std.specs.List.{list_any, range_with_len, IsDistinct, AllByRecursion}
-use Rattle.std.proofs.lemmas.Bool.{and_parts, and_from, or_cases, or_left, or_right, cases_Bool, lt-ltb, ltb-true, le-leb, leb-true}
+use Rattle.std.proofs.lemmas.Bool.{and_parts, or_cases, ltb-true, leb-true}
 use Rattle.patterns.specs.CharSet.{is_scalar, group_of, comes_no_later}
 use Rattle.words.specs.Mention.{mention, mention_all}
 use Rattle.words.specs.Classes.{are_alike, ordered_below, characters, firsts_among}

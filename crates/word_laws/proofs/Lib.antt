@@ -5,5 +5,7 @@ pub mod Classes
 pub mod States
 pub mod Firsts
 pub mod StateSteps
+pub mod Places
+pub mod ClassLaws
 pub mod RowLaws
 mod WordExamples

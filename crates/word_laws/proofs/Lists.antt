@@ -1,5 +1,5 @@
 -- Members of lists.
-use Rattle.std.proofs.Common.{◌≡◌, ℕ, zero, suc, ◌<◌, ◌⊎◌, inl, inr, ⊎_elim, List, [], ◌∷◌, ◌++◌, Bool, true, false, cond, take, get_or, map, filter, flat_map, length, refl, ap, ap₂, sym, ◌∙◌, subst, arith}
+use Rattle.std.proofs.Common.{◌≡◌, ℕ, zero, suc, ◌<◌, ◌⊎◌, inl, inr, List, [], ◌∷◌, ◌++◌, Bool, true, false, cond, take, get_or, map, filter, length, refl, ap, ap₂, sym, ◌∙◌, subst, arith}
 pub use Rattle.pattern_laws.proofs.Decides.{IsIn, in_left, in_right, in_append, in_flat_map, from_flat_map}
 
 module _ {A : Type 0} where
@@ -30,6 +30,15 @@ module _ {A : Type 0} where
   get_left i [] X d l = absurd (omega (arith, l))
   get_left zero (x ∷ L) X d l = refl
   get_left (suc i) (x ∷ L) X d l = get_left i L X d (omega (arith, l))
+
+  pub get_end : (L : List A) (x d : A) → get_or (L ++ x ∷ []) (length L) d ≡ x
+  get_end [] x d = refl
+  get_end (y ∷ L) x d = get_end L x d
+
+  pub in_at : (L : List A) (x d : A) → IsIn x L → (k : ℕ) × (k < length L) × (x ≡ get_or L k d)
+  in_at [] x d i = absurd i
+  in_at (y ∷ L) x d (inl e) = (0, omega arith, e)
+  in_at (y ∷ L) x d (inr i) = let (k, l, e) = in_at L x d i in (suc k, omega (arith, l), e)
 
   pub take_next : (i : ℕ) (L : List A) (d : A) → i < length L → take (suc i) L ≡ take i L ++ get_or L i d ∷ []
   take_next i [] d l = absurd (omega (arith, l))

@@ -5,7 +5,7 @@ use Rattle.std.specs.Cmp.{IsEquivalence}
 use Rattle.std.specs.List.{list_any, IsDistinct, AllByRecursion}
 use Rattle.std.specs.Map.{lookup}
 use Rattle.std.proofs.lemmas.List.{length-map}
-use Rattle.std.proofs.lemmas.Bool.{or_cases, or_left, or_right, cases_Bool}
+use Rattle.std.proofs.lemmas.Bool.{or_cases, or_from, or_left, or_right, cases_Bool}
 use Rattle.std.proofs.lemmas.List.Folds.{list_any-append}
 use Rattle.std.proofs.lemmas.Map.Keys.{IsDistinct-push}
 use Rattle.std.proofs.lemmas.Map.Steps.{list_any_congr, length-le_from_keys}
@@ -34,6 +34,10 @@ module _ {A : Type 0} (same : A → A → Bool) (laws : IsEquivalence same) wher
       (λ s. (z, inl refl, s))
       (λ r. let (y, i, s) = in_has x L r in (y, inr i, s))
       (or_cases (same x z) (list_any (same x) L) h)
+
+  pub none_has : (x : A) (L : List A) → ((y : A) → IsIn y L → same x y ≡ false) → list_any (same x) L ≡ false
+  none_has x [] h = refl
+  none_has x (y ∷ L) h = or_from (same x y) (list_any (same x) L) (h y (inl refl)) (none_has x L (λ z i. h z (inr i)))
 
   pub has_same : (x y : A) (L : List A) → same x y ≡ true → Has L y → Has L x
   has_same x y L s h = list_any_congr laws x y L s ∙ h

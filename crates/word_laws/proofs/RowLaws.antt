@@ -1,55 +1,22 @@
 -- The rows of a list of atoms: there is one such list, every word leads to a row, and by classes from row to row.
-use Rattle.std.proofs.Common.{◌≡◌, ℕ, zero, suc, ◌+◌, ◌<◌, ◌≤◌, ◌⊎◌, inl, inr, ⊎_elim, List, [], ◌∷◌, ◌++◌, Bool, true, false, ◌&&◌, ◌||◌, not, cond, if◌then◌else◌, map, get_or, flat_map, length, refl, ap, ap₂, sym, ◌∙◌, subst, append-nil, append_assoc, length-append, arith}
-use Rattle.std.specs.Cmp.{IsEquivalence}
-use Rattle.std.specs.List.{list_any, list_all, IsDistinct, position_or_len}
+use Rattle.std.proofs.Common.{◌≡◌, ℕ, ◌+◌, ◌<◌, ◌≤◌, inl, inr, List, [], ◌∷◌, ◌++◌, Bool, true, map, get_or, length, refl, ap, sym, ◌∙◌, subst, append-nil, append_assoc, length-append, arith}
+use Rattle.std.specs.List.{list_any, list_all, IsDistinct}
 use Rattle.std.proofs.lemmas.Bool.{and_parts, and_from}
 use Rattle.patterns.specs.CharSet.{is_scalar}
-use Rattle.patterns.specs.Decision.{is_empty, finds}
-use Rattle.patterns.specs.Tree.{Tree}
 use Rattle.words.specs.Atom.{Atom}
-use Rattle.words.specs.Mention.{mention_all}
-use Rattle.words.specs.Position.{sets_of}
-use Rattle.words.specs.PatternState.{pattern_state}
 use Rattle.words.specs.Classes.{are_alike, dividers, class_firsts, class_of}
 use Rattle.words.specs.WordState.{word_state, have_same_state}
-use Rattle.words.specs.Rows.{longer_by_one, AreRows, row_of, targets_of, signature_of, HaveStates}
+use Rattle.words.specs.Rows.{AreRows, row_of, targets_of, signature_of, HaveStates}
+use Rattle.word_laws.specs.Laws.{RowsHaveAll, RowsGoOn}
 use Rattle.word_laws.proofs.Mentions as M
 use Rattle.word_laws.proofs.Rows as R
 use Rattle.word_laws.proofs.Lists.{IsIn, in_map, map_in, get_map}
+use Rattle.word_laws.proofs.Places.{place_below, place_same, place_like}
 use Rattle.word_laws.proofs.Classes.{alike_laws, firsts_scalar, firsts_have}
 use Rattle.word_laws.proofs.States.{state_decides, same_laws}
-use Rattle.word_laws.proofs.StateSteps as S
+use Rattle.word_laws.proofs.StateSteps.{state_next, state_truth}
 
--- ---- the place of the first that is the same
-module _ {A : Type 0} (same : A → A → Bool) (laws : IsEquivalence same) where
-  pub place_below : (x : A) (L : List A) → list_any (same x) L ≡ true → position_or_len (same x) L < length L
-  place_below x [] h = cc h
-  place_below x (y ∷ L) h = go (same x y) refl h (place_below x L) where
-    go : (b : Bool) → same x y ≡ b → (b || list_any (same x) L) ≡ true → (list_any (same x) L ≡ true → position_or_len (same x) L < length L)
-        → cond (not b) (1 + position_or_len (same x) L) 0 < suc (length L)
-    go true e k more = omega arith
-    go false e k more = let m = more k in omega (arith, m)
-
-  pub place_same : (x d : A) (L : List A) → list_any (same x) L ≡ true → same x (get_or L (position_or_len (same x) L) d) ≡ true
-  place_same x d [] h = cc h
-  place_same x d (y ∷ L) h = go (same x y) refl h (place_same x d L) where
-    go : (b : Bool) → same x y ≡ b → (b || list_any (same x) L) ≡ true
-        → (list_any (same x) L ≡ true → same x (get_or L (position_or_len (same x) L) d) ≡ true)
-        → same x (get_or (y ∷ L) (cond (not b) (1 + position_or_len (same x) L) 0) d) ≡ true
-    go true e k more = e
-    go false e k more = rw (place_more (position_or_len (same x) L)) (more k) where
-      place_more : (n : ℕ) → get_or (y ∷ L) (1 + n) d ≡ get_or L n d
-      place_more n = let q : 1 + n ≡ suc n = omega arith in ap (λ z. get_or (y ∷ L) z d) q
-
-  -- the same has the same place
-  pub place_like : (x z : A) (L : List A) → same x z ≡ true → position_or_len (same x) L ≡ position_or_len (same z) L
-  place_like x z [] e = refl
-  place_like x z (y ∷ L) e = ap₂ (λ b n. cond (not b) (1 + n) 0) (laws.congr x z y e) (place_like x z L e)
-
-module _ (atoms : List Atom)
-    (next : (v w : List ℕ) (c d : ℕ) → word_state atoms v ≡ word_state atoms w → are_alike (dividers atoms) c d ≡ true
-    → word_state atoms (v ++ c ∷ []) ≡ word_state atoms (w ++ d ∷ []))
-    (truth : (v w : List ℕ) → word_state atoms v ≡ word_state atoms w → signature_of atoms v ≡ signature_of atoms w) where
+module _ (atoms : List Atom) where
   abbrev same : List ℕ → List ℕ → Bool
   same = have_same_state atoms
 
@@ -65,7 +32,7 @@ module _ (atoms : List Atom)
   same_next : (v w : List ℕ) (c d : ℕ) → same v w ≡ true → are_alike (dividers atoms) c d ≡ true → same (v ++ c ∷ []) (w ++ d ∷ []) ≡ true
   same_next v w c d e k =
       (state_decides (word_state atoms (v ++ c ∷ [])) (word_state atoms (w ++ d ∷ []))).1
-      (next v w c d ((state_decides (word_state atoms v) (word_state atoms w)).0 e) k)
+      (state_next atoms v w c d ((state_decides (word_state atoms v) (word_state atoms w)).0 e) k)
 
   follows : (v w u : List ℕ) → same v w ≡ true → IsIn u (extend v) → (z : List ℕ) × IsIn z (extend w) × (same u z ≡ true)
   follows v w u e i =
@@ -140,7 +107,7 @@ module _ (atoms : List Atom)
     pub row_truth : (w : List ℕ) → list_all is_scalar w ≡ true → signature_of atoms (get_or L (row_of atoms L w) []) ≡ signature_of atoms w
     row_truth w s =
         let r = get_or L (row_of atoms L w) [] in
-        sym (truth w r ((state_decides (word_state atoms w) (word_state atoms r)).0 (place_same same (same_laws atoms) w [] L (rows_all w s))))
+        sym (state_truth atoms w r ((state_decides (word_state atoms w) (word_state atoms r)).0 (place_same same (same_laws atoms) w [] L (rows_all w s))))
 
     -- and its target by a character's class is the row of the word with that character
     pub row_next : (w : List ℕ) (c : ℕ) → list_all is_scalar w ≡ true → is_scalar c ≡ true
@@ -155,3 +122,17 @@ module _ (atoms : List Atom)
         same_next w r c f (place_same same (same_laws atoms) w [] L (rows_all w s)) (place_same alike laws c 0 (class_firsts atoms) h) in
         get_map (λ c. row_of atoms L (r ++ c ∷ [])) (class_firsts atoms) (class_of atoms c) 0 0 (place_below alike laws c (class_firsts atoms) h)
         ∙ sym (place_like same (same_laws atoms) (w ++ c ∷ []) (r ++ f ∷ []) L e)
+
+-- each row is a word
+rows_each_word : (atoms : List Atom) (L K : List (List ℕ)) → ((w : List ℕ) → IsIn w K → list_all is_scalar w ≡ true) → list_all (list_all is_scalar) K ≡ true
+rows_each_word atoms L [] h = refl
+rows_each_word atoms L (w ∷ K) h = and_from (list_all is_scalar w) (list_all (list_all is_scalar) K) (h w (inl refl)) (rows_each_word atoms L K (λ v i. h v (inr i)))
+
+pub rows_have : RowsHaveAll
+rows_have atoms L rows =
+    ( (L, refl, rows_each_word atoms L L (rows_words atoms L rows), rows_apart atoms L rows)
+    , rows_bound atoms L rows
+    , rows_all atoms L rows)
+
+pub rows_go_on : RowsGoOn
+rows_go_on atoms L rows w s = (row_below atoms L rows w s, row_truth atoms L rows w s, (λ c e. row_next atoms L rows w c s e))

@@ -4,7 +4,7 @@ use Rattle.std.proofs.Common.{◌≡◌, ℕ, suc, ◌+◌, ◌≤◌, ◌⊎◌
 use Rattle.std.specs.List.{list_any}
 use Rattle.std.proofs.lemmas.Bool.{and_parts, and_from, or_cases, or_left, le-leb, leb-true}
 use Rattle.patterns.specs.CharSet.{has}
-use Rattle.patterns.specs.Decision.{is_empty, finds}
+use Rattle.patterns.specs.Decision.{is_empty}
 use Rattle.patterns.specs.Tree.{Tree}
 use Rattle.words.specs.Atom.{Atom, Match, Words, LengthMin, same_word, is_true}
 use Rattle.words.specs.Classes.{are_alike, divider_sets, dividers}
@@ -12,13 +12,14 @@ use Rattle.words.specs.Position.{sets_of}
 use Rattle.words.specs.PatternState.{pattern_state}
 use Rattle.words.specs.WordState.{is_prefix, matching, begun, atom_state, least_length, greatest_least, word_state}
 use Rattle.words.specs.Rows.{signature_of}
+use Rattle.state_laws.proofs.Alike.{same_state_of_same, same_truth_of_same}
 use Rattle.word_laws.proofs.Mentions as M
 use Rattle.word_laws.proofs.Lists.{IsIn, in_flat_map, map_in, filter_head, filter_none}
 use Rattle.word_laws.proofs.Classes.{alike_at, alike_parts, alike_laws}
 use Rattle.word_laws.proofs.States.{word_decides, word_laws, whole_state}
 
 -- ---- listed words that a word begins
-shorter_prefix : (v : List ℕ) (c : ℕ) (x : List ℕ) → is_prefix (v ++ c ∷ []) x ≡ true → is_prefix v x ≡ true
+pub shorter_prefix : (v : List ℕ) (c : ℕ) (x : List ℕ) → is_prefix (v ++ c ∷ []) x ≡ true → is_prefix v x ≡ true
 shorter_prefix [] c x e = refl
 shorter_prefix (a ∷ v) c [] e = cc e
 shorter_prefix (a ∷ v) c (b ∷ x) e =
@@ -42,12 +43,12 @@ same_prefix (a ∷ v) (b ∷ w) (y ∷ x) e f l =
     let (i, j) = and_parts (nat_eq b y) (is_prefix w x) f in
     ap₂ (λ c u. c ∷ u) (eqb-true a y g ∙ sym (eqb-true b y i)) (same_prefix v w x h j (let q : suc (length v) ≡ suc (length w) = l in omega (arith, q)))
 
-whole_prefix : (v : List ℕ) → is_prefix v v ≡ true
+pub whole_prefix : (v : List ℕ) → is_prefix v v ≡ true
 whole_prefix [] = refl
 whole_prefix (a ∷ v) = and_from (nat_eq a a) (is_prefix v v) (eq-eqb a a refl) (whole_prefix v)
 
 -- where the parts of two words are equal, no listed word begins with either, or the words are equal
-begun_cases : (ws : List (List ℕ)) (v w : List ℕ) → atom_state v (Words ws) ≡ atom_state w (Words ws)
+pub begun_cases : (ws : List (List ℕ)) (v w : List ℕ) → atom_state v (Words ws) ≡ atom_state w (Words ws)
     → ((filter (is_prefix v) ws ≡ []) × (filter (is_prefix w) ws ≡ [])) ⊎ (v ≡ w)
 begun_cases ws v w e = go (filter (is_prefix v) ws) (filter (is_prefix w) ws) refl refl e where
   go : (xs ys : List (List ℕ)) → filter (is_prefix v) ws ≡ xs → filter (is_prefix w) ws ≡ ys → begun xs v ≡ begun ys w
@@ -144,44 +145,45 @@ never_empty : (v : List ℕ) (c : ℕ) → is_empty (v ++ c ∷ []) ≡ false
 never_empty [] c = refl
 never_empty (a ∷ v) c = refl
 
--- ---- all atoms at once, over what holds of patterns
-module _ (pattern_next : (t : Tree) (v w : List ℕ) (c d : ℕ) → is_empty v ≡ is_empty w → pattern_state t v ≡ pattern_state t w
-    → are_alike (sets_of t) c d ≡ true → pattern_state t (v ++ c ∷ []) ≡ pattern_state t (w ++ d ∷ []))
-    (pattern_truth : (t : Tree) (v w : List ℕ) → is_empty v ≡ is_empty w → pattern_state t v ≡ pattern_state t w → finds t v ≡ finds t w) where
-  atom_next : (a : Atom) (v w : List ℕ) (c d : ℕ) → is_empty v ≡ is_empty w → atom_state v a ≡ atom_state w a
-      → are_alike (divider_sets a) c d ≡ true → atom_state (v ++ c ∷ []) a ≡ atom_state (w ++ d ∷ []) a
-  atom_next (Match t) v w c d n e k = ap matching (pattern_next t v w c d n (cc e) k)
-  atom_next (Words ws) v w c d n e k = words_next ws v w c d e k
-  atom_next (LengthMin m) v w c d n e k = refl
+-- ---- all atoms at once
+pattern_next : (t : Tree) (v w : List ℕ) (c d : ℕ) → is_empty v ≡ is_empty w → pattern_state t v ≡ pattern_state t w
+    → are_alike (sets_of t) c d ≡ true → pattern_state t (v ++ c ∷ []) ≡ pattern_state t (w ++ d ∷ [])
+pattern_next t v w c d n e k = same_state_of_same t v w c d n e (λ s i. alike_at (sets_of t) c d s k i)
 
-  atoms_next : (atoms : List Atom) (v w : List ℕ) (c d : ℕ) → is_empty v ≡ is_empty w → map (atom_state v) atoms ≡ map (atom_state w) atoms
-      → are_alike (dividers atoms) c d ≡ true → map (atom_state (v ++ c ∷ [])) atoms ≡ map (atom_state (w ++ d ∷ [])) atoms
-  atoms_next [] v w c d n e k = refl
-  atoms_next (a ∷ atoms) v w c d n e k =
-      let (f, g) = alike_parts (divider_sets a) (dividers atoms) c d k in
-      ap₂ (λ x xs. x ∷ xs) (atom_next a v w c d n (cc e) f) (atoms_next atoms v w c d n (cc e) g)
+atom_next : (a : Atom) (v w : List ℕ) (c d : ℕ) → is_empty v ≡ is_empty w → atom_state v a ≡ atom_state w a
+    → are_alike (divider_sets a) c d ≡ true → atom_state (v ++ c ∷ []) a ≡ atom_state (w ++ d ∷ []) a
+atom_next (Match t) v w c d n e k = ap matching (pattern_next t v w c d n (cc e) k)
+atom_next (Words ws) v w c d n e k = words_next ws v w c d e k
+atom_next (LengthMin m) v w c d n e k = refl
 
-  -- the state after one more character is known of the state and the character's class
-  pub state_next : (atoms : List Atom) (v w : List ℕ) (c d : ℕ) → word_state atoms v ≡ word_state atoms w
-      → are_alike (dividers atoms) c d ≡ true → word_state atoms (v ++ c ∷ []) ≡ word_state atoms (w ++ d ∷ [])
-  state_next atoms v w c d e k =
-      let n : is_empty v ≡ is_empty w = ap (λ s. s.is_empty) e in
-      whole_state (word_state atoms (v ++ c ∷ [])) (word_state atoms (w ++ d ∷ []))
-      (never_empty v c ∙ sym (never_empty w d))
-      (atoms_next atoms v w c d n (ap (λ s. s.parts) e) k)
-      (length_next v w c d (greatest_least atoms) (ap (λ s. s.length) e))
+atoms_next : (atoms : List Atom) (v w : List ℕ) (c d : ℕ) → is_empty v ≡ is_empty w → map (atom_state v) atoms ≡ map (atom_state w) atoms
+    → are_alike (dividers atoms) c d ≡ true → map (atom_state (v ++ c ∷ [])) atoms ≡ map (atom_state (w ++ d ∷ [])) atoms
+atoms_next [] v w c d n e k = refl
+atoms_next (a ∷ atoms) v w c d n e k =
+    let (f, g) = alike_parts (divider_sets a) (dividers atoms) c d k in
+    ap₂ (λ x xs. x ∷ xs) (atom_next a v w c d n (cc e) f) (atoms_next atoms v w c d n (cc e) g)
 
-  atoms_truth : (atoms : List Atom) (g : ℕ) (v w : List ℕ) → greatest_least atoms ≤ g → is_empty v ≡ is_empty w
-      → map (atom_state v) atoms ≡ map (atom_state w) atoms → min (length v) g ≡ min (length w) g → signature_of atoms v ≡ signature_of atoms w
-  atoms_truth [] g v w l n e m = refl
-  atoms_truth (a ∷ atoms) g v w l n e m =
-      ap₂ (λ x xs. x ∷ xs) (one a (cc e) (omega (arith, l))) (atoms_truth atoms g v w (omega (arith, l)) n (cc e) m) where
-        one : (a : Atom) → atom_state v a ≡ atom_state w a → least_length a ≤ g → is_true a v ≡ is_true a w
-        one (Match t) f k = pattern_truth t v w n (cc f)
-        one (Words ws) f k = words_truth ws v w f
-        one (LengthMin j) f k = length_truth (length v) (length w) j g k m
+-- the state after one more character is known of the state and the character's class
+pub state_next : (atoms : List Atom) (v w : List ℕ) (c d : ℕ) → word_state atoms v ≡ word_state atoms w
+    → are_alike (dividers atoms) c d ≡ true → word_state atoms (v ++ c ∷ []) ≡ word_state atoms (w ++ d ∷ [])
+state_next atoms v w c d e k =
+    let n : is_empty v ≡ is_empty w = ap (λ s. s.is_empty) e in
+    whole_state (word_state atoms (v ++ c ∷ [])) (word_state atoms (w ++ d ∷ []))
+    (never_empty v c ∙ sym (never_empty w d))
+    (atoms_next atoms v w c d n (ap (λ s. s.parts) e) k)
+    (length_next v w c d (greatest_least atoms) (ap (λ s. s.length) e))
 
-  -- equal states have equal truths of all atoms
-  pub state_truth : (atoms : List Atom) (v w : List ℕ) → word_state atoms v ≡ word_state atoms w → signature_of atoms v ≡ signature_of atoms w
-  state_truth atoms v w e =
-      atoms_truth atoms (greatest_least atoms) v w (omega arith) (ap (λ s. s.is_empty) e) (ap (λ s. s.parts) e) (ap (λ s. s.length) e)
+atoms_truth : (atoms : List Atom) (g : ℕ) (v w : List ℕ) → greatest_least atoms ≤ g → is_empty v ≡ is_empty w
+    → map (atom_state v) atoms ≡ map (atom_state w) atoms → min (length v) g ≡ min (length w) g → signature_of atoms v ≡ signature_of atoms w
+atoms_truth [] g v w l n e m = refl
+atoms_truth (a ∷ atoms) g v w l n e m =
+    ap₂ (λ x xs. x ∷ xs) (one a (cc e) (omega (arith, l))) (atoms_truth atoms g v w (omega (arith, l)) n (cc e) m) where
+      one : (a : Atom) → atom_state v a ≡ atom_state w a → least_length a ≤ g → is_true a v ≡ is_true a w
+      one (Match t) f k = same_truth_of_same t v w n (cc f)
+      one (Words ws) f k = words_truth ws v w f
+      one (LengthMin j) f k = length_truth (length v) (length w) j g k m
+
+-- equal states have equal truths of all atoms
+pub state_truth : (atoms : List Atom) (v w : List ℕ) → word_state atoms v ≡ word_state atoms w → signature_of atoms v ≡ signature_of atoms w
+state_truth atoms v w e =
+    atoms_truth atoms (greatest_least atoms) v w (omega arith) (ap (λ s. s.is_empty) e) (ap (λ s. s.parts) e) (ap (λ s. s.length) e)

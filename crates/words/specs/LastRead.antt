@@ -4,15 +4,11 @@
 -- one. It takes no heed of whether the rest of the tree can be matched. A repeated tree's pieces are read in its copies
 -- in order: the first in copy 0, the next in copy 1, and where the number of pieces has no end, all past the last copy
 -- in the last copy. So no copy is skipped, but a piece may be empty.
-use Rattle.std.specs.Prelude.{ℕ, zero, suc, ◌-◌, Bool, true, false, ◌&&◌, ◌||◌, nat_eq, List, [], ◌∷◌, ◌++◌, length, slice_index, flat_map, Option, Some, None}
+use Rattle.std.specs.List.{list_any}
+use Rattle.std.specs.Prelude.{ℕ, zero, suc, ◌-◌, Bool, ◌&&◌, nat_eq, List, [], ◌∷◌, ◌++◌, length, slice_index, flat_map, Some, None}
 use Rattle.patterns.specs.CharSet.{has}
 use Rattle.patterns.specs.Tree.{Tree, Trees, empty, one_of, at_start, at_end, in_turn, either, repeated, no_trees, tree}
-use Rattle.patterns.specs.Decision.{ends, ends_within}
-
--- some element passes a test
-abbrev pub some_of : {A : Type 0} → (A → Bool) → List A → Bool
-some_of test [] = false
-some_of test (x ∷ xs) = test x || some_of test xs
+use Rattle.patterns.specs.Decision.{ends}
 
 -- the place before the word's last character, and that character is of the set
 abbrev pub reads_end : List (ℕ × ℕ) → List ℕ → ℕ → Bool
@@ -33,14 +29,14 @@ in_copies_on reads step more (suc n) from = reads from ++ in_copies_on reads ste
 abbrev mutual
   pub last_read : Tree → (w : List ℕ) → (from : List ℕ) → List Bool
   last_read empty w from = []
-  last_read (one_of ranges) w from = some_of (reads_end ranges w) from ∷ []
+  last_read (one_of ranges) w from = list_any (reads_end ranges w) from ∷ []
   last_read at_start w from = []
   last_read at_end w from = []
   last_read (in_turn ts) w from = last_read_in_turn ts w from
   last_read (either ts) w from = last_read_of_one ts w from
   last_read (repeated t low None) w from =
-      in_copies_on (λ some. last_read t w some) (flat_map (ends t w)) (flat_map (ends_within (ends t w) (length w)))
-      (low - 1) from
+      in_copies_on (λ some. last_read t w some) (flat_map (ends t w)) (flat_map (ends (repeated t 0 None) w)) (low - 1)
+      from
   last_read (repeated t low (Some high)) w from =
       in_copies (λ some. last_read t w some) (flat_map (ends t w)) high from
 

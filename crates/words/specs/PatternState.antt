@@ -1,5 +1,5 @@
 -- What is kept of a word for a pattern: the states of the automaton that a pattern stands for, said of words alone.
-use Rattle.std.specs.Prelude.{ℕ, zero, suc, Bool, List, [], ◌∷◌, ◌++◌, length, Option, if◌then◌else◌}
+use Rattle.std.specs.Prelude.{ℕ, zero, suc, Bool, List, [], ◌∷◌, ◌++◌, length, if◌then◌else◌}
 use Rattle.patterns.specs.Tree.{Tree, Trees, empty, one_of, at_start, at_end, in_turn, either, repeated, no_trees, tree}
 use Rattle.patterns.specs.Decision.{finds}
 use Rattle.words.specs.LastRead.{last_read}

@@ -1,0 +1,5 @@
+use Rattle.state_laws.proofs.same_state_of_same.Goals as goal
+use Rattle.state_laws.proofs.Alike.{same_state_of_same}
+
+pub returns : goal.returns
+returns c = same_state_of_same

@@ -1,0 +1,2 @@
+-- The laws, as statements.
+pub mod Laws
