@@ -1,7 +1,7 @@
 -- The choices of a signed position mean what it means: a clause for each kind of position.
 use Rattle.std.proofs.Common.{◌≡◌, ℕ, Bool, true, false, ◌&&◌, ◌||◌, not, cond, List, [], ◌∷◌, map, IfSome, refl, ap, ap₂, sym, ◌∙◌, subst}
 use Rattle.std.specs.List.{AllByRecursion}
-use Rattle.std.proofs.Math.Bool.{and-true, and-false, or-false}
+use Rattle.std.proofs.Math.Bool.{and-true, or-false}
 use Rattle.std.proofs.lemmas.Bool.{not-true}
 use Rattle.documents.specs.Tests.{every, some}
 use Rattle.documents.specs.Measures.{exactly_one}
@@ -10,7 +10,7 @@ use Rattle.documents.specs.Document.{Document, null, boolean, number, string, ar
 use Rattle.positions.specs.Position.{Position, True, False, Same, Not, All, Any, One, Depends, Types}
 use Rattle.positions.specs.Position.{speaks_of, position_at, in_place}
 use Rattle.positions.specs.Holds.{asks, holds, IsTable}
-use Rattle.position_laws.proofs.Lists.{all-weaker, all-map, all-append, every-map, some-append}
+use Rattle.position_laws.proofs.Lists.{all-weaker, all-map, all-append, every-map}
 use Rattle.position_laws.proofs.Asks.{holds-asks}
 use Rattle.goals.specs.Signed.{Signed, Plus, Minus, opposite, position_of, has, met, meets}
 use Rattle.goals.specs.Choices.{one_plus, two_plus, for_objects, plus_choices, minus_choices, choices}

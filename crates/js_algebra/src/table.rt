@@ -6,7 +6,7 @@ use crate::lists::{NodeList, RankList};
 use crate::node::{Node, Pos};
 use std::marker::Model;
 
-/// A table of positions, of which each names only positions of the table. Contracts see its `positions` and `ranks`.
+/// A table of positions, each of which names only positions of the table. Contracts see its `positions` and `ranks`.
 #[derive(Drop)]
 pub struct Core {
     nodes: NodeList,
@@ -29,10 +29,11 @@ impl Model for Core {
 }
 
 impl Core {
-    ghost use Rattle.positions.specs.Position.{is_table, position_at, names_below};
+    ghost use Rattle.positions.specs.Position.{is_table, position_at, names_below, in_range};
     ghost use Rattle.js_algebra.specs.View.{node_view, IsCore};
 
-    /// The table of these nodes, with a rank for each. Takes no memory.
+    /// The table of these nodes, with a rank for each: every position that a node names is in it, ranks fall from a
+    /// node to those that it names in place, and bounds and divisors have their ranges. Takes no memory.
     pub fn make(nodes: NodeList, ranks: RankList) -> Core
         requires table { is_table (map node_view nodes) ranks ≡ true }
         requires small { length nodes < 2 ^ 32 }
@@ -53,6 +54,7 @@ impl Core {
         requires { p.0 < length self.now.positions }
         ensures value { node_view result.now ≡ position_at self.now.positions p.0 }
         ensures named { names_below (length self.now.positions) (node_view result.now) ≡ true }
+        ensures range { in_range (node_view result.now) ≡ true }
     {
         &self.nodes.as_slice()[p.0 as usize]
     }

@@ -1,10 +1,12 @@
-//! A table of two positions, with the goals and choices that it gives.
+//! Small tables, with the goals and choices that they give.
 
 ghost use Rattle.std.specs.Prelude.{◌≡◌, IfOk, length};
 
 use crate::{
-    Core, JsonKind, KindList, Node, NodeList, Pos, RankList, Signed, contains, form, rule_choices,
+    Core, JsonKind, KindList, Node, NodeList, Pos, PosList, RankList, Signed, contains, form,
+    rule_choices,
 };
+use js_doc::Str;
 use std::alloc::Global;
 use std::test::Fail;
 
@@ -35,5 +37,50 @@ fn choices_of_a_table(rt: HostRuntime) -> Result<(), Fail> {
     let choices = rule_choices(rt.alloc(), &core, x, JsonKind::Null)?.ok_or("a literal")?;
     assert_eq!(rt; choices.as_slice().len(), 1);
     assert!(rt; core.is_wrong(Signed::minus(Pos(1)), JsonKind::Null));
+    Ok(())
+}
+
+/// `{"oneOf": [{"minimum": 1}, {"required": ["a"]}, {"minItems": 1}], "dependencies": {"a": {"minItems": 1}}}`, in
+/// part, and a reference to the first.
+fn wide_table(alloc: Global) -> Result<Core, Fail>
+    ensures { IfOk result (λ core. length core.positions ≡ 6) }
+{
+    let one_of = PosList::from_vec(vec![in alloc; Pos(1), Pos(3), Pos(4)]?);
+    let name = Str::from_text(alloc, "a")?;
+    let mut nodes = Vec::new(alloc);
+    nodes.push(Node::Same(Pos(1)))?;
+    nodes.push(Node::NumMin(1))?;
+    nodes.push(Node::One(one_of))?;
+    nodes.push(Node::Has(name))?;
+    nodes.push(Node::CountMin(1))?;
+    nodes.push(Node::Depends(Pos(3), Pos(4)))?;
+    let ranks = vec![in alloc; 1, 0, 1, 0, 0, 1]?;
+    Ok(Core::make(NodeList::from_vec(nodes), RankList::from_vec(ranks)))
+}
+
+#[test]
+fn choices_of_further_kinds(rt: HostRuntime) -> Result<(), Fail> {
+    let core = wide_table(rt.alloc())?;
+    let goal = form(rt.alloc(), &core, &[Signed::minus(Pos(0))])?.ok_or("a clash")?;
+    assert_eq!(rt; goal.as_slice(), [Signed::minus(Pos(1))].as_slice());
+
+    let number = JsonKind::Number;
+    let one = rule_choices(rt.alloc(), &core, Signed::plus(Pos(2)), number)?.ok_or("a literal")?;
+    assert_eq!(rt; one.as_slice().len(), 3);
+    let second = [Signed::minus(Pos(1)), Signed::plus(Pos(3)), Signed::minus(Pos(4))];
+    assert_eq!(rt; one.as_slice()[1].as_slice(), second.as_slice());
+
+    let not_one = rule_choices(rt.alloc(), &core, Signed::minus(Pos(2)), number)?.ok_or("a literal")?;
+    assert_eq!(rt; not_one.as_slice().len(), 4);
+    let pair = [Signed::plus(Pos(1)), Signed::plus(Pos(4))];
+    assert_eq!(rt; not_one.as_slice()[2].as_slice(), pair.as_slice());
+
+    let depends = Signed::minus(Pos(5));
+    let object = rule_choices(rt.alloc(), &core, depends, JsonKind::Object)?.ok_or("a literal")?;
+    assert_eq!(rt; object.as_slice().len(), 1);
+    let elsewhere = rule_choices(rt.alloc(), &core, depends, number)?.ok_or("a literal")?;
+    assert_eq!(rt; elsewhere.as_slice().len(), 0);
+    assert!(rt; core.is_wrong(Signed::minus(Pos(3)), number));
+    assert!(rt; !core.is_wrong(Signed::plus(Pos(3)), number));
     Ok(())
 }

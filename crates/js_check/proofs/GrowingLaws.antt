@@ -1,19 +1,15 @@
 -- What a growing set has, the rising list that it stands for, and the choices of rules that are added to it.
-use Rattle.std.proofs.Common.{◌≡◌, ℕ, zero, suc, ◌*◌, ◌<◌, ◌≤◌, ⊎_elim, Bool, true, false, ◌||◌, cond, nat_lt, List, [], ◌∷◌, ◌++◌, map, take, length, get_or, Option, Some, refl, arith, ap, sym, ◌∙◌, subst}
+use Rattle.std.proofs.Common.{◌≡◌, ℕ, zero, suc, ◌≤◌, ⊎_elim, Bool, true, false, ◌||◌, cond, List, [], ◌∷◌, ◌++◌, take, length, refl, arith, ap, sym, ◌∙◌, subst}
 use Rattle.std.proofs.Math.Bool.{or_comm, or-false}
 use Rattle.std.proofs.lemmas.List.{take-append-le}
-use Rattle.std.proofs.lemmas.Bool.{true≢false, or_cases, or_left, or_right, and_parts, and_from, lt-ltb, ltb-true}
+use Rattle.std.proofs.lemmas.Bool.{true≢false, or_cases, or_left, or_right}
 use Rattle.std.proofs.lemmas.Grind.{common_steps}
-use Rattle.documents.specs.Tests.{every}
 use Rattle.position_laws.proofs.Lists.{some-append}
 use Rattle.positions.specs.Position.{Position}
 use Rattle.goals.specs.Signed as G
 use Rattle.goals.specs.Signed.{has, same_signed, add_all}
-use Rattle.goals.specs.Tree.{choice_list}
 use Rattle.goal_laws.proofs.Signs.{every-has, has-every}
-use Rattle.js_algebra.specs.Order.{order_of}
-use Rattle.js_algebra.specs.View.{with_sign, places, is_in_table, are_in_table}
-use Rattle.js_algebra.specs.declared.node.Pos.{Pos}
+use Rattle.js_algebra.specs.View.{is_in_table, are_in_table}
 use Rattle.js_algebra.proofs.Orders.{same-true}
 use Rattle.js_algebra.proofs.Sets.{some-add_all, rising-add_all, rising-unique}
 use Rattle.js_check.specs.Growing.{with_member, with_members, set_of}

@@ -1,5 +1,5 @@
 -- What a walk through the tree of a goal still has to show dead.
-use Rattle.std.specs.Prelude.{◌≡◌, ℕ, ◌*◌, List, [], ◌∷◌, ◌++◌, map, take, drop, length, get_or, reverse, Bool, true, false, ◌&&◌, cond, nat_le, Option, Some, None, option_map}
+use Rattle.std.specs.Prelude.{◌≡◌, ℕ, ◌*◌, List, [], ◌∷◌, ◌++◌, map, take, drop, length, get_or, reverse, Bool, true, ◌&&◌, cond, nat_le, Some, None, option_map}
 use Rattle.documents.specs.Kind.{Kind}
 use Rattle.positions.specs.Position.{Position}
 use Rattle.goals.specs.Signed as G

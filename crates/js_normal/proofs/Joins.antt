@@ -1,10 +1,10 @@
 -- The table that is built one node at a time is the joined one.
-use Rattle.std.proofs.Common.{◌≡◌, ℕ, zero, suc, ◌+◌, ◌<◌, ◌^◌, List, [], ◌∷◌, ◌++◌, map, take, length, get_or, Bool, true, false, ◌&&◌, nat_lt, nat_eq, refl, ap, ap₂, sym, ◌∙◌, subst, arith, append_assoc}
+use Rattle.std.proofs.Common.{◌≡◌, ℕ, zero, suc, ◌+◌, ◌<◌, List, [], ◌∷◌, ◌++◌, map, take, length, get_or, true, nat_lt, refl, ap, ap₂, sym, ◌∙◌, arith, append_assoc}
 use Rattle.std.proofs.Math.Path.{fun_ext}
 use Rattle.std.proofs.lemmas.Bool.{and_parts, and_from, ltb-true, lt-ltb, eqb-true}
-use Rattle.std.proofs.lemmas.List.{map-append, take_more, take_all}
+use Rattle.std.proofs.lemmas.List.{map-append, take_more}
 use Rattle.documents.specs.Tests.{every}
-use Rattle.positions.specs.Position.{Position, True, False, Not, All, Any, Types, position_at, in_place, of_parts, names_below, is_table}
+use Rattle.positions.specs.Position.{Position, position_at, in_place, of_parts, names_below, is_table}
 use Rattle.position_laws.specs.Join.{renamed, moved, joined}
 use Rattle.position_laws.proofs.Joined.{renamed-itself, is_table-joined}
 use Rattle.position_laws.proofs.Tables.{is_table-length}

@@ -1,16 +1,12 @@
 -- The members of a walk stay covered, and what its choices add.
-use Rattle.std.proofs.Common.{◌≡◌, ℕ, zero, suc, ◌*◌, ◌<◌, ◌≤◌, ⊎_elim, Bool, true, false, ◌||◌, cond, nat_lt, List, [], ◌∷◌, ◌++◌, map, take, length, get_or, Option, Some, refl, arith, ap, sym, ◌∙◌, subst}
-use Rattle.std.proofs.lemmas.Bool.{true≢false, or_cases, or_left, or_right, and_parts, and_from, lt-ltb, ltb-true}
+use Rattle.std.proofs.Common.{◌≡◌, ℕ, zero, suc, ◌≤◌, ⊎_elim, Bool, true, false, ◌||◌, cond, List, [], ◌∷◌, ◌++◌, map, take, length, refl, arith, ap, sym, ◌∙◌, subst}
+use Rattle.std.proofs.lemmas.Bool.{true≢false, or_cases, or_left, or_right}
 use Rattle.std.proofs.lemmas.Grind.{common_steps}
-use Rattle.documents.specs.Tests.{every}
 use Rattle.position_laws.proofs.Lists.{some-append}
 use Rattle.goals.specs.Signed as G
 use Rattle.goals.specs.Signed.{Plus, Minus, has, same_signed, add, add_all, is_rising}
-use Rattle.goals.specs.Tree.{choice_list}
-use Rattle.js_algebra.specs.Order.{order_of}
-use Rattle.js_algebra.specs.View.{signed_view, with_sign, places}
+use Rattle.js_algebra.specs.View.{signed_view}
 use Rattle.js_algebra.specs.declared.signed.Signed.{Signed}
-use Rattle.js_algebra.specs.declared.node.Pos.{Pos}
 use Rattle.js_algebra.proofs.Orders.{same-true}
 use Rattle.js_algebra.proofs.Sets.{some-add, some-add_all, rising-add_all, rising-unique}
 use Rattle.js_trees.specs.Trails.{with_member, with_members, set_of}

@@ -1,5 +1,5 @@
 -- Tables without typed positions.
-use Rattle.std.proofs.Common.{◌≡◌, ℕ, ◌+◌, List, [], ◌++◌, true, nat_lt, map, length, refl, ap, ◌∙◌}
+use Rattle.std.proofs.Common.{◌≡◌, ℕ, ◌+◌, List, [], true, nat_lt, map, length, refl, ap, ◌∙◌}
 use Rattle.std.proofs.lemmas.Bool.{and_from}
 use Rattle.documents.specs.Tests.{every}
 use Rattle.positions.specs.Position.{Position, True, position_at, in_place, of_parts, names_below, in_range}

@@ -1,4 +1,4 @@
-use Rattle.std.proofs.Common.{◌≡◌, ◌<◌, length, map, arith, ap, ◌∙◌}
+use Rattle.std.proofs.Common.{◌<◌, length, map, arith, ap, ◌∙◌}
 use Rattle.std.proofs.lemmas.List.{map-append}
 use Rattle.js_algebra.specs.View.{node_view}
 use Rattle.position_laws.specs.Join.{moved}

@@ -1,4 +1,4 @@
-use Rattle.std.proofs.Common.{◌≡◌, ◌∙◌, ◌++◌, map, ap, sym}
+use Rattle.std.proofs.Common.{◌∙◌, ◌++◌, map, ap}
 use Rattle.js_algebra.specs.View.{node_view}
 use Rattle.position_laws.specs.Join.{moved}
 use Rattle.js_normal.proofs.Joins.{joined-built, joined-table}
