@@ -10,9 +10,9 @@ use Rattle.draft06.specs.Names.{keys, is_additional}
 use Rattle.draft06.specs.EntryValidity.{form_at, items_ask, rest_asks}
 use Rattle.js_valid.specs.Parts.{flag, parts, parts_array, parts_object, asked_by, answered, of_listed, of_items_part, of_element, of_contains, of_named, of_names, or_else, of_member, of_name}
 use Rattle.js_valid.specs.Places.{is_at}
-use Rattle.js_valid.specs.Plan.{IsPlan, KnowsVerdicts, KnowsParts, valid_at}
+use Rattle.js_valid.specs.Plan.{IsPlan, KnowsVerdicts, valid_at}
 use Rattle.js_valid.specs.Matching.{matches}
-use Rattle.js_valid.specs.Requests.{each_at, FinePart, contained, parts_list, parts_members, AskedByOwners}
+use Rattle.js_valid.specs.Requests.{each_at, contained, parts_list, parts_members, AskedByOwners}
 use Rattle.js_valid.proofs.PartsLaws.{both, every-append, every-named}
 use Rattle.js_valid.proofs.PlanLaws.{flag-below, flag-past, valid-past}
 use Rattle.js_valid.proofs.DepthLaws.{is_scalar}
@@ -60,6 +60,7 @@ verdicts-of es order plan J asked table (q ∷ qs) la lt knows marked =
     or_right : (a b : Bool) → b ≡ true → (a || b) ≡ true
     or_right true b k = refl
     or_right false b k = k
+
     here : (q < length es) ⊎ (length es ≤ q) → flag table q ≡ valid_at es q J
     here (inl l) = knows q (marked q l (ap (λ b. b || is_at q qs) (eq-eqb q q refl)))
     here (inr l) = flag-past table q (omega (arith, l, lt)) ∙ sym (valid-past es order plan q J l)
@@ -284,6 +285,7 @@ owner_one test e owners h = go (test e) refl
         one_kept true k r =
             both (ap (λ b. not b || test o) k ∙ ap test (eqb-true o e k) ∙ t) r
         one_kept false k r = both (ap (λ b. not b || test o) k) r
+
     refused : (owners : List ℕ) → is_at e owners ≡ true → test e ≡ false
         → every (λ o. not (nat_eq o e) || test o) owners ≡ false
     refused [] a n = absurd (true≢false (sym a))
@@ -292,6 +294,7 @@ owner_one test e owners h = go (test e) refl
           (ap (λ b. not b || test o) k ∙ ap test (eqb-true o e k) ∙ n)
       | inr r ↦ ap (λ b. (not (nat_eq o e) || test o) && b) (refused owners r n) ∙ and_false (not (nat_eq o e) || test o)
     ]
+
     go : (b : Bool) → test e ≡ b → every (λ o. not (nat_eq o e) || test o) owners ≡ test e
     go true k = kept owners k ∙ sym k
     go false k = refused owners h k ∙ sym k
@@ -372,7 +375,7 @@ pub front-asked : (e : ℕ) (p : ℕ → Bool) (os qs rs all : List ℕ) (answer
 front-asked e p os qs rs all answers first ea eb ec =
     let split = eb ∙ ap (map p) ea ∙ map-append p qs rs in
     let front = ec ∙ ap (take (length qs)) split ∙ ap (λ n. take n (map p qs ++ map p rs)) (sym (mapped-length p qs))
-        ∙ front_of (map p qs) (map p rs) in
+    ∙ front_of (map p qs) (map p rs) in
     ap (answered e os) front ∙ answered-asked e p os qs
 
 pub back-asked : (e : ℕ) (p : ℕ → Bool) (os qs rs all : List ℕ) (answers second : List Bool) → all ≡ qs ++ rs
@@ -381,7 +384,7 @@ pub back-asked : (e : ℕ) (p : ℕ → Bool) (os qs rs all : List ℕ) (answers
 back-asked e p os qs rs all answers second ea eb ec =
     let split = eb ∙ ap (map p) ea ∙ map-append p qs rs in
     let back = ec ∙ ap (drop (length qs)) split ∙ ap (λ n. drop n (map p qs ++ map p rs)) (sym (mapped-length p qs))
-        ∙ back_of (map p qs) (map p rs) in
+    ∙ back_of (map p qs) (map p rs) in
     ap (λ bs. answered e os (map not bs)) back ∙ ap (answered e os) (map-twice not p rs)
     ∙ answered-asked e (λ q. not (p q)) os rs
 

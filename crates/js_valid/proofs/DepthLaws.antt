@@ -1,5 +1,5 @@
 -- Elements and members are no deeper than what holds them.
-use Rattle.std.proofs.Common.{◌≡◌, ℕ, zero, suc, ◌+◌, ◌<◌, ◌≤◌, max, List, [], ◌∷◌, map, length, get_or, Bool, true, false, rules, refl, sym, ap, subst, ◌∙◌, arith}
+use Rattle.std.proofs.Common.{◌≡◌, ℕ, zero, suc, ◌<◌, ◌≤◌, List, [], ◌∷◌, map, length, get_or, Bool, true, false, rules, ap, subst, arith}
 use Rattle.documents.specs.Document.{Document, null, boolean, number, string, array, object, depth, items_depth, members_depth, Items, Members, items_of, members_of}
 use Rattle.js_doc.specs.declared.document.Doc.{Doc, the_lemmas}
 use Rattle.js_doc.specs.declared.document.Doc.TheVariants as C

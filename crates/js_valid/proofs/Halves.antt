@@ -1,5 +1,5 @@
 -- The key lemma: a form asks of a document what it asks of the document itself and of its parts.
-use Rattle.std.proofs.Common.{◌≡◌, ℕ, List, Bool, true, false, ◌&&◌, ◌||◌, not, length, nat_le, refl, ap, sym, ◌∙◌, arith}
+use Rattle.std.proofs.Common.{◌≡◌, ℕ, List, Bool, true, false, ◌&&◌, ◌||◌, not, length, nat_le, refl, arith}
 use Rattle.documents.specs.Document.{Document, null, boolean, number, string, array, object, elements, entries}
 use Rattle.documents.specs.Tests.{every, some, same_word}
 use Rattle.documents.specs.Measures.{has_name, every_in}

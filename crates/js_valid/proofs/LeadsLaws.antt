@@ -1,12 +1,12 @@
 -- Steps from places to places, one after another and side by side.
-use Rattle.std.proofs.Common.{◌≡◌, ℕ, zero, suc, ◌+◌, ◌-◌, ◌<◌, ◌≤◌, ◌⊎◌, inl, inr, List, [], ◌∷◌, ◌++◌, length, flat_map, slice_index, Bool, true, false, cond, if◌then◌else◌, ◌||◌, ◌&&◌, not, nat_eq, nat_le, nat_lt, Option, Some, None, IfSome, IsTrue, refl, sym, ap, subst, ◌∙◌, arith, true≢false}
+use Rattle.std.proofs.Common.{◌≡◌, ℕ, zero, suc, ◌+◌, ◌-◌, ◌<◌, ◌≤◌, ◌⊎◌, inl, inr, List, [], ◌∷◌, ◌++◌, length, flat_map, slice_index, Bool, true, false, if◌then◌else◌, ◌||◌, ◌&&◌, nat_eq, nat_le, nat_lt, Some, None, refl, sym, ap, subst, ◌∙◌, arith, true≢false}
 use Rattle.std.proofs.lemmas.Bool.{and_parts, or_cases, eqb-true, eq-eqb, ltb-true, lt-ltb}
-use Rattle.documents.specs.Tests.{every, some}
+use Rattle.documents.specs.Tests.{every}
 use Rattle.patterns.specs.CharSet.{has}
 use Rattle.patterns.specs.Tree.{Tree, Trees, empty, one_of, at_start, at_end, in_turn, either, repeated, no_trees, tree}
 use Rattle.patterns.specs.Match.{Repeats, Matches, MatchesInTurn, MatchesOne}
 use Rattle.patterns.specs.Decision.{ends}
-use Rattle.js_valid.specs.Places.{is_at, IsAt, Leads, More, are_within, HasBoth}
+use Rattle.js_valid.specs.Places.{is_at, IsAt, Leads, More, are_within}
 
 -- ---- lists of places
 
@@ -254,9 +254,16 @@ pub leads_up_to : (t : Tree) (w : List ℕ) (low high : ℕ) (xs ys zs : List �
 leads_up_to t w low high xs ys zs le a b = record {
   sound = λ j h.
       let (p, k, m) = b.sound j h in
-      let (i, q, r) = a.sound p k in
-      (i, q, (low + m.0, omega arith, (let most = m.1 in omega (arith, most, le)),
-      repeats_join (Matches t w) low m.0 i p j r m.2));
+      let (i, q, r) = a.sound p k in (
+        i,
+        q,
+        (
+          low + m.0,
+          omega arith,
+          (let most = m.1 in omega (arith, most, le)),
+          repeats_join (Matches t w) low m.0 i p j r m.2,
+        ),
+      );
   complete = λ i j h m.
       let count : m.0 ≡ low + (m.0 - low) = (let l = m.1 in omega (arith, l)) in
       let (p, c, d) = repeats_split (Matches t w) low (m.0 - low) i j (subst (λ z. Repeats (Matches t w) z i j) count m.3) in

@@ -1,12 +1,12 @@
 -- What is asked of a part, request by request and owner by owner.
-use Rattle.std.proofs.Common.{◌≡◌, ℕ, zero, suc, ◌+◌, ◌<◌, ◌≤◌, List, [], ◌∷◌, ◌++◌, map, drop, drop-cons, add-one, length, get_or, Bool, true, false, ◌||◌, ◌&&◌, not, nat_eq, nat_lt, inl, inr, refl, sym, ap, subst, ◌∙◌, arith, true≢false}
+use Rattle.std.proofs.Common.{◌≡◌, ℕ, zero, suc, ◌+◌, ◌<◌, ◌≤◌, List, [], ◌∷◌, ◌++◌, map, drop, drop-cons, add-one, length, get_or, Bool, true, false, ◌||◌, ◌&&◌, not, nat_eq, nat_lt, inl, inr, refl, sym, ap, ◌∙◌, arith, true≢false}
 use Rattle.std.proofs.lemmas.Bool.{and_parts, or_cases, eqb-true, eq-eqb, ltb-true, lt-ltb}
 use Rattle.documents.specs.Tests.{every}
 use Rattle.schemas.specs.Entry.{Entry, Form}
 use Rattle.draft06.specs.EntryValidity.{form_at}
 use Rattle.js_valid.specs.Parts.{asked_by, answered, of_listed}
 use Rattle.js_valid.specs.Places.{is_at}
-use Rattle.js_valid.specs.Requests.{AsksMore, asks_of, AskedByOwners}
+use Rattle.js_valid.specs.Requests.{AsksMore, asks_of}
 
 and_assoc : (a b c : Bool) → ((a && b) && c) ≡ (a && (b && c))
 and_assoc true b c = refl
@@ -97,6 +97,7 @@ owners_ask es of e p owners h = go (every p (of (form_at es e))) refl
         and_false : (a : Bool) → (a && false) ≡ false
         and_false true = refl
         and_false false = refl
+
     go : (b : Bool) → every p (of (form_at es e)) ≡ b → asks_of es of e p owners ≡ every p (of (form_at es e))
     go true k = asks_nothing es of e p owners k ∙ sym k
     go false k = refused owners h k ∙ sym k

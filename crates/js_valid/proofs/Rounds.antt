@@ -1,6 +1,5 @@
 -- The key lemma of repeats: what the rounds of a walk have marked, and that nothing is left once a round marks no more.
-use Rattle.std.proofs.Common.{◌≡◌, ℕ, zero, suc, ◌+◌, ◌-◌, ◌<◌, ◌≤◌, ◌⊎◌, inl, inr, List, [], ◌∷◌, Bool, true, false, ◌||◌, ◌&&◌, not, Option, Some, None, option_map, IfSome, refl, sym, ap, subst, ◌∙◌, arith, true≢false}
-use Rattle.std.proofs.lemmas.Bool.{or_cases}
+use Rattle.std.proofs.Common.{◌≡◌, ℕ, zero, suc, ◌+◌, ◌-◌, ◌≤◌, ◌⊎◌, inl, inr, List, [], ◌∷◌, Bool, true, false, ◌||◌, ◌&&◌, not, Option, Some, None, option_map, IfSome, refl, sym, ap, subst, ◌∙◌, arith, true≢false}
 use Rattle.patterns.specs.Match.{Repeats}
 use Rattle.js_valid.specs.Places.{is_at, IsAt, Leads, More, marked, is_open}
 use Rattle.js_valid.proofs.LeadsLaws.{or_left_true, or_right_true, repeats_last, repeats_before}

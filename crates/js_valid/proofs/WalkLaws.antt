@@ -1,7 +1,7 @@
 -- What each loop of the walk keeps, over plain variables.
-use Rattle.std.proofs.Common.{◌≡◌, ℕ, zero, suc, ◌+◌, ◌-◌, ◌<◌, ◌≤◌, ◌⊎◌, inl, inr, ◌∙◌, List, [], ◌∷◌, ◌++◌, map, drop, drop-cons, add-one, length, get_or, replicate, Bool, true, false, ◌||◌, ◌&&◌, not, true≢false, Result, Ok, Err, IfOk, refl, sym, ap, subst, arith}
+use Rattle.std.proofs.Common.{◌≡◌, ℕ, zero, suc, ◌+◌, ◌-◌, ◌<◌, ◌≤◌, inl, inr, ◌∙◌, List, [], ◌∷◌, ◌++◌, map, drop, drop-cons, add-one, length, get_or, replicate, Bool, true, false, ◌||◌, ◌&&◌, not, true≢false, Result, Ok, Err, IfOk, refl, sym, ap, subst, arith}
 use Rattle.std.proofs.lemmas.Bool.{or_cases}
-use Rattle.patterns.specs.Tree.{Tree, Trees, no_trees, tree, trees_of}
+use Rattle.patterns.specs.Tree.{Tree, no_trees, tree, trees_of}
 use Rattle.patterns.specs.Match.{Repeats, Matches, MatchesInTurn, MatchesOne}
 use Rattle.js_pattern.specs.declared.re.Re.{Re}
 use Rattle.js_pattern.specs.View.{view}
@@ -70,6 +70,7 @@ module _ (w starts : List ℕ) (items : List Re) where
     where
       none : false ≡ true → ⊥
       none e = true≢false (sym e)
+
       or_none : (a : Bool) → a ≡ (a || false)
       or_none true = refl
       or_none false = refl

@@ -90,7 +90,9 @@ fn fine_list(
     let contains = of_contains(alloc, schema, owners)?;
     for (place, child) in list.as_slice().iter().enumerate() {
         let requests = of_element(alloc, schema, owners, place)?;
-        decide_element(alloc, schema, order, child, &requests, &contains, &mut fine, &mut unmet)?;
+        decide_element(
+            alloc, schema, order, child, &requests, &contains, &mut fine, &mut unmet,
+        )?;
     }
     contain(schema, owners, &mut fine, &unmet);
     Ok(fine)

@@ -18,8 +18,6 @@ mod settle;
 mod tables;
 mod walk;
 
-pub use fault::ValidFault;
-
 ghost use Rattle.std.specs.Prelude.{◌≡◌, ◌<◌, true, IfOk, length};
 ghost use Rattle.schemas.specs.Guarded.{edges, are_ranks};
 ghost use Rattle.draft06.specs.EntryValidity.{entry_valid};
@@ -31,6 +29,7 @@ ghost use Rattle.js_valid.specs.Plan.{IsPlan};
 use crate::decide::verdicts;
 use crate::order::order_of;
 use crate::tables::holds;
+pub use fault::ValidFault;
 use js_doc::{Doc, Memory};
 use js_guard::Ranks;
 use js_schema::Schema;

@@ -14,10 +14,17 @@ ghost use Rattle.js_valid.specs.Parts.{flag, own, own_keywords, own_array, own_o
 use crate::found::{is_found, letters};
 use crate::tables::{all_hold, holds, just_one_holds, one_holds};
 use js_doc::{Doc, DocList, DocMap, Memory, Str, StrList, equal};
-use js_schema::{DependencyList, EntryList, Form, Keywords, Needs, PatternText, TypeList, TypeName};
+use js_schema::{
+    DependencyList, EntryList, Form, Keywords, Needs, PatternText, TypeList, TypeName,
+};
 use std::alloc::Global;
 
-pub(crate) fn meets_own(alloc: Global, form: &Form, here: &[bool], doc: &Doc) -> Result<bool, Memory>
+pub(crate) fn meets_own(
+    alloc: Global,
+    form: &Form,
+    here: &[bool],
+    doc: &Doc,
+) -> Result<bool, Memory>
     ensures { IfOk result (λ b. b ≡ own matches (flag here.now) (form_view form.now) (view doc.now)) }
 {
     match form {
@@ -28,7 +35,12 @@ pub(crate) fn meets_own(alloc: Global, form: &Form, here: &[bool], doc: &Doc) ->
     }
 }
 
-fn meets_keywords(alloc: Global, keywords: &Keywords, here: &[bool], doc: &Doc) -> Result<bool, Memory>
+fn meets_keywords(
+    alloc: Global,
+    keywords: &Keywords,
+    here: &[bool],
+    doc: &Doc,
+) -> Result<bool, Memory>
     ensures { IfOk result (λ b. b ≡ own_keywords matches (flag here.now) (keywords_view keywords.now) (view doc.now)) }
 {
     if !meets_any(keywords, here, doc) {

@@ -59,7 +59,13 @@ fn verdict_of(
     Ok(false)
 }
 
-fn own_at(alloc: Global, schema: &Schema, entry: u32, table: &[bool], doc: &Doc) -> Result<bool, Memory>
+fn own_at(
+    alloc: Global,
+    schema: &Schema,
+    entry: u32,
+    table: &[bool],
+    doc: &Doc,
+) -> Result<bool, Memory>
     requires { entry < length (schema_view schema.now) }
     ensures { IfOk result (λ b. b ≡ own matches (flag table.now) (form_at (schema_view schema.now) entry) (view doc.now)) }
 {

@@ -1,4 +1,4 @@
-use Rattle.std.proofs.Common.{rules, ◌≡◌, ◌<◌, ◌^◌, length, sym, ap, subst, ◌∙◌, arith}
+use Rattle.std.proofs.Common.{rules, ◌<◌, length, sym, ap, subst, ◌∙◌, arith}
 use Rattle.schemas.specs.Guarded.{edges}
 use Rattle.schema_laws.proofs.Ranks.{are_ranks-length}
 use Rattle.js_schema.specs.SchemaView.{schema_view}

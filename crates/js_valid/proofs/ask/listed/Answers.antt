@@ -1,4 +1,4 @@
-use Rattle.std.proofs.Common.{rules, ◌≡◌, arith, ◌∙◌, ap, sym}
+use Rattle.std.proofs.Common.{arith, ◌∙◌, ap}
 use Rattle.schemas.specs.Schema.{lists, one}
 use Rattle.js_valid.specs.Parts.{of_listed}
 use Rattle.js_valid.proofs.RequestLaws.{of_listed-at, of_listed-past}

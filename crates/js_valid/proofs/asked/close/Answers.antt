@@ -1,4 +1,4 @@
-use Rattle.std.proofs.Common.{◌≡◌, ◌<◌, ◌≤◌, length, arith, rules, subst}
+use Rattle.std.proofs.Common.{◌≡◌, arith, rules, subst}
 use Rattle.js_schema.specs.SchemaView.{schema_view}
 use Rattle.js_valid.proofs.PlanLaws as P
 use Rattle.js_valid.proofs.asked.close.Goals as goal

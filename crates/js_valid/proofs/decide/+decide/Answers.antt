@@ -1,15 +1,15 @@
-use Rattle.std.proofs.Common.{rules, ◌≡◌, ℕ, ◌<◌, ◌+◌, ◌&&◌, ◌||◌, not, nat_eq, true, map, take, drop, length, List, ◌++◌, refl, sym, ap, subst, ◌∙◌, arith}
+use Rattle.std.proofs.Common.{rules, ◌≡◌, ◌&&◌, not, map, refl, sym, ap, ◌∙◌, arith}
 use Rattle.documents.specs.Tests.{every}
-use Rattle.documents.specs.Document.{string, elements, entries, depth}
+use Rattle.documents.specs.Document.{string, depth}
 use Rattle.schemas.specs.Schema.{meets}
 use Rattle.draft06.specs.EntryValidity.{form_at}
 use Rattle.js_doc.specs.View.{view, list_view, map_view, member_view}
 use Rattle.js_doc.proofs.Levels.{elements-of, entries-of}
 use Rattle.js_schema.specs.SchemaView.{schema_view}
 use Rattle.js_valid.specs.Matching.{matches}
-use Rattle.js_valid.specs.Parts.{flag, asked_by, answered, parts, of_element, of_contains, of_member, of_name}
+use Rattle.js_valid.specs.Parts.{flag, asked_by, of_element, of_contains, of_member, of_name}
 use Rattle.js_valid.specs.Plan.{valid_at}
-use Rattle.js_valid.specs.Requests.{contained, parts_list, parts_members, each_at}
+use Rattle.js_valid.specs.Requests.{contained, parts_list, parts_members}
 use Rattle.js_valid.proofs.LeadsLaws.{or_right_true}
 use Rattle.js_valid.proofs.WalkLaws as W
 use Rattle.js_valid.proofs.DecideLaws as D
@@ -40,24 +40,24 @@ decide_element-returns-clause-unmet t c h e =
 pub decide_name-returns : goal.decide_name-returns
 decide_name-returns t c h e =
     let answers : c.deref-3.result.now ≡ map (λ q. valid_at (schema_view c.args.schema.now) q (string c.args.name.now))
-        c.args.requests.now.entries.items = (
-      c.deref-3.ensures.value ∙ c.in_ok-answers.ensures
-      ∙ ap (λ d. map (λ q. valid_at (schema_view c.args.schema.now) q d) c.deref.result.now)
-      (ap (λ w. view (C.Text w)) c.in_ok-copy.ensures ∙ view-Text c.args.name.now)
-      ∙ ap (map (λ q. valid_at (schema_view c.args.schema.now) q (string c.args.name.now))) c.deref.ensures.value
+    c.args.requests.now.entries.items = (
+    c.deref-3.ensures.value ∙ c.in_ok-answers.ensures
+    ∙ ap (λ d. map (λ q. valid_at (schema_view c.args.schema.now) q d) c.deref.result.now)
+    (ap (λ w. view (C.Text w)) c.in_ok-copy.ensures ∙ view-Text c.args.name.now)
+    ∙ ap (map (λ q. valid_at (schema_view c.args.schema.now) q (string c.args.name.now))) c.deref.ensures.value
     ) in
     let value = c.refuse_all.ensures.value e in
     let asked = D.answers-asked e (λ q. valid_at (schema_view c.args.schema.now) q (string c.args.name.now))
-        c.deref-2.result.now c.args.requests.now.entries.items c.deref-3.result.now answers in
+    c.deref-2.result.now c.args.requests.now.entries.items c.deref-3.result.now answers in
     search (rules, value, asked)
 
 pub decide_part-returns : goal.decide_part-returns
 decide_part-returns t c h e =
     let answers : c.deref-3.result.now ≡ map (λ q. valid_at (schema_view c.args.schema.now) q (view c.args.doc.now))
-        c.args.requests.now.entries.items = search rules in
+    c.args.requests.now.entries.items = search rules in
     let value = c.refuse_all.ensures.value e in
     let asked = D.answers-asked e (λ q. valid_at (schema_view c.args.schema.now) q (view c.args.doc.now))
-        c.deref-2.result.now c.args.requests.now.entries.items c.deref-3.result.now answers in
+    c.deref-2.result.now c.args.requests.now.entries.items c.deref-3.result.now answers in
     search (rules, value, asked)
 
 pub fine_list-loop-place-init : goal.fine_list-loop-place-init
@@ -106,11 +106,11 @@ fine_list-returns t c e h =
     let es = elements-of _ _ c.as_slice-child-items.ensures.view in
     let unmet : c.deref.result.now ≡ c.loop-place.unmet.items = search rules in
     let fine = D.end_each view (λ i d. every (λ q. valid_at (schema_view c.args.schema.now) q d)
-        (of_element (form_at (schema_view c.args.schema.now) e) i)) c.as_slice-child-items.result.now c.loop-place.place
-        (flag c.loop-place.fine.items e) _ (omega (arith, c.loop-place-test.false)) (c.loop-place.invariant.fine e h) in
+    (of_element (form_at (schema_view c.args.schema.now) e) i)) c.as_slice-child-items.result.now c.loop-place.place
+    (flag c.loop-place.fine.items e) _ (omega (arith, c.loop-place-test.false)) (c.loop-place.invariant.fine e h) in
     let none = D.end_every view (λ d. every (λ q. not (valid_at (schema_view c.args.schema.now) q d))
-        (of_contains (form_at (schema_view c.args.schema.now) e))) c.as_slice-child-items.result.now c.loop-place.place
-        (flag c.loop-place.unmet.items e) _ (omega (arith, c.loop-place-test.false)) (c.loop-place.invariant.unmet e h) in
+    (of_contains (form_at (schema_view c.args.schema.now) e))) c.as_slice-child-items.result.now c.loop-place.place
+    (flag c.loop-place.unmet.items e) _ (omega (arith, c.loop-place-test.false)) (c.loop-place.invariant.unmet e h) in
     c.contain.ensures e
     ∙ ap (λ b. flag c.loop-place.fine.items e && b) (D.owner_one (λ o. meets (λ q. not (flag c.deref.result.now o))
     (contained (form_at (schema_view c.args.schema.now) o))) e c.args.owners.now h
@@ -142,17 +142,17 @@ fine_members-loop-member-preserved t c e h =
     let value = c.value.ensures.view in
     let again = c.name-in-loop-member.ensures.view in
     let part = D.requests-ask (schema_view c.args.schema.now) (λ f. of_member matches f c.name.result.now) c.args.owners.now
-        c.in_ok-requests.requests.owners.items c.in_ok-requests.requests.entries.items e
-        (λ q. valid_at (schema_view c.args.schema.now) q (view c.value.result.now)) c.in_ok-requests.ensures.asks h
-        ∙ ap (λ d. every (λ q. valid_at (schema_view c.args.schema.now) q d)
-        (of_member matches (form_at (schema_view c.args.schema.now) e) c.name.result.now)) value
-        ∙ ap (λ w. every (λ q. valid_at (schema_view c.args.schema.now) q (member_view c.member-item.result).1)
-        (of_member matches (form_at (schema_view c.args.schema.now) e) w)) name in
+    c.in_ok-requests.requests.owners.items c.in_ok-requests.requests.entries.items e
+    (λ q. valid_at (schema_view c.args.schema.now) q (view c.value.result.now)) c.in_ok-requests.ensures.asks h
+    ∙ ap (λ d. every (λ q. valid_at (schema_view c.args.schema.now) q d)
+    (of_member matches (form_at (schema_view c.args.schema.now) e) c.name.result.now)) value
+    ∙ ap (λ w. every (λ q. valid_at (schema_view c.args.schema.now) q (member_view c.member-item.result).1)
+    (of_member matches (form_at (schema_view c.args.schema.now) e) w)) name in
     let word = D.requests-ask (schema_view c.args.schema.now) of_name c.args.owners.now
-        c.in_ok-names.names.owners.items c.in_ok-names.names.entries.items e
-        (λ q. valid_at (schema_view c.args.schema.now) q (string c.name-in-loop-member.result.now)) c.in_ok-names.ensures.asks h
-        ∙ ap (λ w. every (λ q. valid_at (schema_view c.args.schema.now) q (string w))
-        (of_name (form_at (schema_view c.args.schema.now) e))) again in
+    c.in_ok-names.names.owners.items c.in_ok-names.names.entries.items e
+    (λ q. valid_at (schema_view c.args.schema.now) q (string c.name-in-loop-member.result.now)) c.in_ok-names.ensures.asks h
+    ∙ ap (λ w. every (λ q. valid_at (schema_view c.args.schema.now) q (string w))
+    (of_name (form_at (schema_view c.args.schema.now) e))) again in
     D.step_every member_view (λ m. every (λ q. valid_at (schema_view c.args.schema.now) q m.1)
     (of_member matches (form_at (schema_view c.args.schema.now) e) m.0) && every (λ q. valid_at (schema_view c.args.schema.now) q (string m.0))
     (of_name (form_at (schema_view c.args.schema.now) e))) c.as_slice-member-items.result.now c.loop-member.member-index

@@ -1,4 +1,4 @@
-use Rattle.std.proofs.Common.{◌≡◌, ℕ, ◌+◌, ◌*◌, ◌&&◌, not, true, map, drop, length}
+use Rattle.std.proofs.Common.{◌≡◌, ℕ, ◌+◌, ◌*◌, ◌&&◌, not, true, map, drop}
 use Rattle.documents.specs.Tests.{every}
 use Rattle.documents.specs.Document.{depth, items_depth, members_depth, string}
 use Rattle.draft06.specs.EntryValidity.{form_at}

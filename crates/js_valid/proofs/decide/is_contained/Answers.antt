@@ -1,9 +1,6 @@
-use Rattle.std.proofs.Common.{rules, ◌≡◌, not, ap, sym, ◌∙◌}
-use Rattle.schemas.specs.Schema.{meets}
-use Rattle.draft06.specs.EntryValidity.{form_at}
+use Rattle.std.proofs.Common.{rules, ap}
 use Rattle.js_schema.specs.View.{form_view}
 use Rattle.js_schema.specs.SchemaView.{schema_view}
-use Rattle.js_valid.specs.Parts.{flag}
 use Rattle.js_valid.specs.Requests.{contained}
 use Rattle.js_valid.proofs.PlanLaws.{form_at-get}
 use Rattle.js_valid.proofs.decide.is_contained.Goals as goal

@@ -1,4 +1,4 @@
-use Rattle.std.proofs.Common.{rules, ◌≡◌, get_or, arith}
+use Rattle.std.proofs.Common.{rules, arith}
 use Rattle.js_doc.specs.View.{view}
 use Rattle.js_schema.specs.SchemaView.{schema_view}
 use Rattle.js_valid.proofs.PlanLaws as P

@@ -1,8 +1,8 @@
-use Rattle.std.proofs.Common.{rules, ◌≡◌, map, ◌+◌, ◌<◌, ◌⊎◌, inl, inr, false, not, [], None, Some, length, replicate, refl, sym, ap, subst, ◌∙◌, arith}
-use Rattle.patterns.specs.Tree.{one_of, trees_of, repeated}
+use Rattle.std.proofs.Common.{rules, ◌≡◌, map, ◌+◌, false, not, Some, length, replicate, sym, ap, subst, arith}
+use Rattle.patterns.specs.Tree.{trees_of, repeated}
 use Rattle.patterns.specs.Match.{Matches, MatchesInTurn, MatchesOne, Repeats}
-use Rattle.js_pattern.specs.View.{view, list_view}
-use Rattle.js_valid.specs.Places.{Leads, More, are_within, marked, nodes, list_nodes}
+use Rattle.js_pattern.specs.View.{view}
+use Rattle.js_valid.specs.Places.{Leads, marked, list_nodes}
 use Rattle.js_valid.proofs.LeadsLaws as L
 use Rattle.js_valid.proofs.Rounds as R
 use Rattle.js_valid.proofs.WalkLaws as W
