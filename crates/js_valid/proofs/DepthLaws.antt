@@ -26,7 +26,8 @@ member-less (y ∷ items) (suc i) x h is = let less = member-less items i x (ome
 
 pub member-depth : (items : List Member) (i : ℕ) (x : Member) (l : Members) → i < length items → x ≡ get_or items i x
     → members_of (map member_view items) ≡ l → depth (member_view x).1 ≤ members_depth l
-member-depth items i x l h is e = subst (λ ms. depth (member_view x).1 ≤ members_depth ms) e (member-less items i x h is)
+member-depth items i x l h is e = subst (λ ms. depth (member_view x).1 ≤ members_depth ms) e
+    (member-less items i x h is)
 
 -- a document without parts
 abbrev pub is_scalar : Document → Bool

@@ -19,7 +19,8 @@ array_order false i r x n c = refl
 array_order true false r x n c = grind arith
 array_order true true r x n c = grind arith
 
-object_order : (a x n r p q s d m : Bool) → ((a && true) && true && true) && (((((((x && n) && r) && p) && q) && s) && d) && m)
+object_order : (a x n r p q s d m : Bool) → ((a && true) && true && true) && (((((((x && n) && r) && p) && q) && s)
+    && d) && m)
     ≡ ((a && true) && true && true && (((x && n) && r) && d)) && (true && (((p && q) && s) && m))
 object_order a x n r p q s d m = grind arith
 

@@ -22,7 +22,8 @@ every-append p (x ∷ xs) ys = ap (λ b. p x && b) (every-append p xs ys) ∙ an
 -- two tests of each element
 every-both : {A : Type 0} (p q : A → Bool) (xs : List A) → every (λ x. p x && q x) xs ≡ (every p xs && every q xs)
 every-both p q [] = refl
-every-both p q (x ∷ xs) = ap (λ b. (p x && q x) && b) (every-both p q xs) ∙ swap_and (p x) (q x) (every p xs) (every q xs)
+every-both p q (x ∷ xs) = ap (λ b. (p x && q x) && b) (every-both p q xs) ∙ swap_and (p x) (q x) (every p xs)
+    (every q xs)
 
 every-same : {A : Type 0} (p q : A → Bool) (xs : List A) → ((x : A) → p x ≡ q x) → every p xs ≡ every q xs
 every-same p q [] h = refl

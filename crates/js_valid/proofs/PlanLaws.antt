@@ -19,7 +19,8 @@ use Rattle.js_valid.proofs.LeadsLaws.{is_at-append, or_left_true, or_right_true}
 pub marks_after : (j : ℕ) (xs ys : List ℕ) (a b c : Bool) → b ≡ (a || is_at j xs) → c ≡ (b || is_at j ys)
     → c ≡ (a || is_at j (xs ++ ys))
 marks_after j xs ys a b c f g =
-    g ∙ ap (λ t. t || is_at j ys) f ∙ or_assoc a (is_at j xs) (is_at j ys) ∙ ap (λ t. a || t) (sym (is_at-append j xs ys))
+    g ∙ ap (λ t. t || is_at j ys) f ∙ or_assoc a (is_at j xs) (is_at j ys) ∙ ap (λ t. a || t) (sym
+    (is_at-append j xs ys))
   where
     or_assoc : (a b c : Bool) → ((a || b) || c) ≡ (a || (b || c))
     or_assoc true b c = refl

@@ -37,7 +37,8 @@ cons_at xs i h = rw (add-one, drop-cons xs i 0) refl
 pub add_next : (owner : ℕ) (entries : List ℕ) (i : ℕ) (os qs os' qs' : List ℕ) (target : ℕ → (ℕ → Bool) → Bool)
     → i < length entries → length os ≡ length qs → os' ≡ os ++ owner ∷ [] → qs' ≡ qs ++ get_or entries i 0 ∷ []
     → ((e : ℕ) (p : ℕ → Bool) → (asked_by e p os qs && (not (nat_eq owner e) || every p (drop i entries))) ≡ target e p)
-    → (e : ℕ) (p : ℕ → Bool) → (asked_by e p os' qs' && (not (nat_eq owner e) || every p (drop (i + 1) entries))) ≡ target e p
+    → (e : ℕ) (p : ℕ → Bool) → (asked_by e p os' qs' && (not (nat_eq owner e) || every p (drop (i + 1) entries)))
+    ≡ target e p
 add_next owner entries i os qs os' qs' target less len eo eq h e p =
     let q = get_or entries i 0 in
     let rest = every p (drop (i + 1) entries) in
@@ -54,7 +55,8 @@ add_next owner entries i os qs os' qs' target less len eo eq h e p =
 pub owner_next : (es : List Entry) (of : Form → List ℕ) (owners : List ℕ) (i : ℕ) (form : Form) (os qs os' qs' : List ℕ)
     → i < length owners → form ≡ form_at es (get_or owners i 0) → AsksMore (get_or owners i 0) (of form) os qs os' qs'
     → ((e : ℕ) (p : ℕ → Bool) → (asked_by e p os qs && asks_of es of e p (drop i owners)) ≡ asks_of es of e p owners)
-    → (e : ℕ) (p : ℕ → Bool) → (asked_by e p os' qs' && asks_of es of e p (drop (i + 1) owners)) ≡ asks_of es of e p owners
+    → (e : ℕ) (p : ℕ → Bool) → (asked_by e p os' qs' && asks_of es of e p (drop (i + 1) owners))
+    ≡ asks_of es of e p owners
 owner_next es of owners i form os qs os' qs' less is more h e p =
     let o = get_or owners i 0 in
     let rest = asks_of es of e p (drop (i + 1) owners) in

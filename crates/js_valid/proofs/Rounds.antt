@@ -122,7 +122,8 @@ module _ (Step : ℕ → ℕ → Type 0) (most : Option ℕ) (starts : List ℕ)
       go (Some m) (Some zero) r n k h = absurd (n refl)
       go (Some m) (Some (suc l)) r n k h = omega (arith, h)
 
-  module _ (left : Option ℕ) (marks : List Bool) (fresh : List ℕ) (round : IsRound Step most starts left marks fresh) where
+  module _ (left : Option ℕ) (marks : List Bool) (fresh : List ℕ) (round : IsRound Step
+      most starts left marks fresh) where
     module _ (next : List ℕ) (marks' : List Bool) (fresh' : List ℕ) (some : left ≡ Some 0 → ⊥)
         (leads : Leads Step fresh next) (m : (j : ℕ) → marked marks' j ≡ (marked marks j || is_at j next))
         (f : (j : ℕ) → is_at j fresh' ≡ (not (marked marks j) && is_at j next)) where

@@ -40,8 +40,10 @@ impl Requests {
 fn add(requests: &mut Requests, owner: u32, entries: &[u32]) -> Result<(), Memory>
     requires { length requests.old.owners.items ≡ length requests.old.entries.items }
     ensures len { IsOk result → length requests.new.owners.items ≡ length requests.new.entries.items }
-    ensures asks { IsOk result → (e : ℕ) (p : ℕ → Bool) → asked_by e p requests.new.owners.items requests.new.entries.items
-        ≡ (asked_by e p requests.old.owners.items requests.old.entries.items && (not (nat_eq owner e) || every p entries.now)) }
+    ensures asks { IsOk result → (e : ℕ) (p : ℕ → Bool) → asked_by e p
+        requests.new.owners.items requests.new.entries.items
+        ≡ (asked_by e p requests.old.owners.items requests.old.entries.items && (not (nat_eq owner e)
+        || every p entries.now)) }
 {
     for entry in entries {
         requests.owners.push(owner)?;
@@ -188,7 +190,8 @@ pub(crate) fn of_member(
 ) -> Result<Requests, Memory>
     requires { every (λ o. nat_lt o (length (schema_view schema.now))) owners.now ≡ true }
     ensures len { IfOk result (λ r. length r.owners.items ≡ length r.entries.items) }
-    ensures asks { IfOk result (λ r. AskedByOwners (schema_view schema.now) (λ f. of_member matches f name.now) owners.now
+    ensures asks { IfOk result (λ r. AskedByOwners (schema_view schema.now) (λ f.
+        of_member matches f name.now) owners.now
         r.owners.items r.entries.items) }
 {
     let mut requests = Requests::new(alloc);
@@ -207,7 +210,8 @@ fn add_member(
 ) -> Result<(), Memory>
     requires { length requests.old.owners.items ≡ length requests.old.entries.items }
     ensures len { IsOk result → length requests.new.owners.items ≡ length requests.new.entries.items }
-    ensures asks { IsOk result → AsksMore owner (of_member matches (form_view form.now) name.now) requests.old.owners.items
+    ensures asks { IsOk result → AsksMore owner (of_member matches (form_view form.now)
+        name.now) requests.old.owners.items
         requests.old.entries.items requests.new.owners.items requests.new.entries.items }
 {
     match form {

@@ -284,7 +284,8 @@ fn meets_list(keywords: &Keywords, list: &DocList) -> bool
 }
 
 fn meets_members(keywords: &Keywords, here: &[bool], members: &DocMap) -> bool
-    ensures { result ≡ own_object matches (flag here.now) (keywords_view keywords.now) (entries (map_view members.now)) }
+    ensures { result ≡ own_object matches (flag here.now) (keywords_view keywords.now) (entries
+        (map_view members.now)) }
 {
     at_most(members.len(), keywords.max_properties)
         && at_least(members.len(), keywords.min_properties)
@@ -320,7 +321,8 @@ fn has_member(members: &DocMap, name: &Str) -> bool
 
 fn meets_dependencies(list: &Option<DependencyList>, here: &[bool], members: &DocMap) -> bool
     ensures { result ≡ meets (every (λ n. not (has_name n.0 (entries (map_view members.now)))
-        || need_asks (flag here.now) n.1 (entries (map_view members.now)))) (option_map (λ ds. map dependency_view ds) list.now) }
+        || need_asks (flag here.now) n.1 (entries (map_view members.now)))) (option_map
+        (λ ds. map dependency_view ds) list.now) }
 {
     match list {
         None => true,

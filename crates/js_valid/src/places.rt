@@ -81,8 +81,10 @@ pub(crate) fn mark_new(
 ) -> Result<Vec<usize>, Memory>
     requires { every (λ i. nat_lt i (length marks.old.items)) places.now ≡ true }
     ensures len { length marks.new.items ≡ length marks.old.items }
-    ensures marks { IsOk result → (j : ℕ) → marked marks.new.items j ≡ (marked marks.old.items j || is_at j places.now) }
-    ensures fresh { IfOk result (λ new. (j : ℕ) → is_at j new.items ≡ (not (marked marks.old.items j) && is_at j places.now)) }
+    ensures marks { IsOk result → (j : ℕ) → marked marks.new.items j ≡ (marked marks.old.items j
+        || is_at j places.now) }
+    ensures fresh { IfOk result (λ new. (j : ℕ) → is_at j new.items ≡ (not (marked marks.old.items j)
+        && is_at j places.now)) }
     ensures fewer { IfOk result (λ new. length new.items + unmarked marks.new.items ≡ unmarked marks.old.items) }
 {
     let mut fresh = Vec::new(alloc);

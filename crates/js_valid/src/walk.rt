@@ -64,7 +64,8 @@ fn walk_repeat(
 ) -> Result<Vec<usize>, Memory>
     requires places { are_within (length word.now) starts.now ≡ true }
     requires short { length word.now + 1 < 2 ^ 63 }
-    ensures leads { IfOk result (λ ends. Leads (Matches (repeated (view re.now) low high) word.now) starts.now ends.items) }
+    ensures leads { IfOk result (λ ends. Leads (Matches (repeated (view re.now) low high)
+        word.now) starts.now ends.items) }
     ensures within { IfOk result (λ ends. are_within (length word.now) ends.items ≡ true) }
 {
     let after = walk_times(alloc, re, word, starts, low)?;

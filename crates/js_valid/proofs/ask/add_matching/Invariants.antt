@@ -6,5 +6,6 @@ use Rattle.js_valid.proofs.ask.add_matching.Given as goal
 
 abbrev pub invariant-loop-property : goal.invariant-loop-property
 invariant-loop-property l =
-    l.found.items ++ (of_named (λ t. matches t l.name) (map pattern_property_view (drop l.property-index l.property-items)))
+    l.found.items ++ (of_named (λ t. matches t l.name) (map pattern_property_view (drop
+    l.property-index l.property-items)))
     ≡ l.fn.found.items ++ (of_named (λ t. matches t l.name) (map pattern_property_view l.property-items))

@@ -11,5 +11,6 @@ returns-then-place-entries c =
 
 pub returns : goal.returns
 returns c =
-    of_listed-past c.as_slice-entries.result.now (lists one c.args.rest) c.args.place (omega (arith, c.if-place-entries.false))
+    of_listed-past c.as_slice-entries.result.now (lists one c.args.rest) c.args.place (omega
+    (arith, c.if-place-entries.false))
     ∙ ap (λ es. of_listed es (lists one c.args.rest) c.args.place) c.as_slice-entries.ensures

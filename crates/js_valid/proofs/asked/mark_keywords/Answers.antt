@@ -10,5 +10,12 @@ returns-clause-marks c j h =
     let m4 = c.mark_option.ensures.marks j
     (omega (arith, h, c.mark_list.ensures.len, c.mark_list-2.ensures.len, c.mark_list-3.ensures.len)) in
     let m5 = c.mark_dependencies.ensures.marks j
-    (omega (arith, h, c.mark_list.ensures.len, c.mark_list-2.ensures.len, c.mark_list-3.ensures.len, c.mark_option.ensures.len)) in
+    (omega (
+      arith,
+      h,
+      c.mark_list.ensures.len,
+      c.mark_list-2.ensures.len,
+      c.mark_list-3.ensures.len,
+      c.mark_option.ensures.len,
+    )) in
     marks_after j _ _ _ _ _ (marks_after j _ _ _ _ _ (marks_after j _ _ _ _ _ (marks_after j _ _ _ _ _ m1 m2) m3) m4) m5

@@ -7,10 +7,12 @@ use Rattle.js_valid.proofs.decide.is_contained.Goals as goal
 
 pub returns-in-None : goal.returns-in-None
 returns-in-None c =
-    let form = form_at-get (schema_view c.args.schema.now) c.args.owner (form_view c.form.result.now) c.requires c.form.ensures in
+    let form = form_at-get (schema_view c.args.schema.now) c.args.owner (form_view
+    c.form.result.now) c.requires c.form.ensures in
     let held = ap contained form in search (rules, held)
 
 pub returns-in-Some : goal.returns-in-Some
 returns-in-Some c =
-    let form = form_at-get (schema_view c.args.schema.now) c.args.owner (form_view c.form.result.now) c.requires c.form.ensures in
+    let form = form_at-get (schema_view c.args.schema.now) c.args.owner (form_view
+    c.form.result.now) c.requires c.form.ensures in
     let held = ap contained form in search (rules, held)
