@@ -10,9 +10,9 @@ use Rattle.draft06.specs.Names.{keys, is_additional}
 use Rattle.draft06.specs.EntryValidity.{form_at, items_ask, rest_asks}
 use Rattle.js_valid.specs.Parts.{flag, parts, parts_array, parts_object, asked_by, answered, of_listed, of_items_part, of_element, of_contains, of_named, of_names, or_else, of_member, of_name}
 use Rattle.js_valid.specs.Places.{is_at}
-use Rattle.js_valid.specs.Plan.{IsPlan, KnowsVerdicts, KnowsParts, valid_at}
+use Rattle.js_valid.specs.Plan.{IsPlan, KnowsVerdicts, valid_at}
 use Rattle.js_valid.specs.Matching.{matches}
-use Rattle.js_valid.specs.Requests.{each_at, FinePart, contained, parts_list, parts_members, AskedByOwners}
+use Rattle.js_valid.specs.Requests.{each_at, contained, parts_list, parts_members, AskedByOwners}
 use Rattle.js_valid.proofs.PartsLaws.{both, every-append, every-named}
 use Rattle.js_valid.proofs.PlanLaws.{flag-below, flag-past, valid-past}
 use Rattle.js_valid.proofs.DepthLaws.{is_scalar}
@@ -47,7 +47,8 @@ every-two p q (x ∷ xs) = ap (λ b. (p x && q x) && b) (every-two p q xs) ∙ s
 
 -- ---- entries that are asked
 
-pub verdicts-of : (es : List Entry) (order : List ℕ) → IsPlan es order → (J : Document) (asked table : List Bool) (qs : List ℕ)
+pub verdicts-of : (es : List Entry) (order : List ℕ) → IsPlan es order → (J : Document) (asked table : List Bool)
+    (qs : List ℕ)
     → length asked ≡ length es → length table ≡ length es → KnowsVerdicts es asked J table
     → ((q : ℕ) → q < length es → is_at q qs ≡ true → flag asked q ≡ true)
     → map (flag table) qs ≡ map (λ q. valid_at es q J) qs
@@ -60,6 +61,7 @@ verdicts-of es order plan J asked table (q ∷ qs) la lt knows marked =
     or_right : (a b : Bool) → b ≡ true → (a || b) ≡ true
     or_right true b k = refl
     or_right false b k = k
+
     here : (q < length es) ⊎ (length es ≤ q) → flag table q ≡ valid_at es q J
     here (inl l) = knows q (marked q l (ap (λ b. b || is_at q qs) (eq-eqb q q refl)))
     here (inr l) = flag-past table q (omega (arith, l, lt)) ∙ sym (valid-past es order plan q J l)
@@ -166,7 +168,8 @@ module _ (below : ℕ → Document → Bool) where
   no-named test turned h (p ∷ ps) = go (test p.0) refl (no-named test turned h ps)
     where
       go : (b : Bool) → test p.0 ≡ b → not (some turned (map (λ m. m.0) ps)) ≡ no_entries (of_named test ps)
-          → not (turned p.0 || some turned (map (λ m. m.0) ps)) ≡ no_entries (cond (test p.0) (p.1 ∷ of_named test ps) (of_named test ps))
+          → not (turned p.0 || some turned (map (λ m. m.0) ps)) ≡ no_entries (cond (test p.0) (p.1 ∷ of_named test ps)
+          (of_named test ps))
       go true e r = rw (h p.0, e) refl
       go false e r = rw (h p.0, e) r
 
@@ -180,7 +183,8 @@ module _ (below : ℕ → Document → Bool) where
       ≡ (every (λ q. below q d) (of_names matches k w)
       && meets (λ e. not (is_additional matches (keys k.properties) (keys k.pattern_properties) w) || below e d)
       k.additional_properties)
-  additional-ask k w d = go (of_names matches k w) (is_additional matches (keys k.properties) (keys k.pattern_properties) w)
+  additional-ask k w d = go (of_names matches k w) (is_additional matches (keys k.properties)
+      (keys k.pattern_properties) w)
       k.additional_properties
       (both (no-named-in (λ n. same_word n w) (same_word w) (λ n. word-turned w n) k.properties)
       (no-named-in (λ t. matches t w) (λ t. matches t w) (λ t. refl) k.pattern_properties)
@@ -225,7 +229,8 @@ module _ (below : ℕ → Document → Bool) where
       ∙ every-two (λ m. every (λ q. below q m.1) (of_names matches k m.0))
       (λ m. meets (λ e. not (is_additional matches (keys k.properties) (keys k.pattern_properties) m.0) || below e m.1)
       k.additional_properties) ms
-      ∙ both (every-alike _ _ ms (λ m. every-append (λ q. below q m.1) (lists (of_named (λ n. same_word n m.0)) k.properties)
+      ∙ both (every-alike _ _ ms (λ m. every-append (λ q. below q m.1) (lists (of_named
+      (λ n. same_word n m.0)) k.properties)
       (lists (of_named (λ t. matches t m.0)) k.pattern_properties))
       ∙ every-two (λ m. every (λ q. below q m.1) (lists (of_named (λ n. same_word n m.0)) k.properties))
       (λ m. every (λ q. below q m.1) (lists (of_named (λ t. matches t m.0)) k.pattern_properties)) ms
@@ -234,7 +239,8 @@ module _ (below : ℕ → Document → Bool) where
       (words-ask k.property_names ms)
 
   pub members-done : (f : Form) (ms : List (List ℕ × Document))
-      → every (λ m. every (λ q. below q m.1) (of_member matches f m.0) && every (λ q. below q (string m.0)) (of_name f)) ms
+      → every (λ m. every (λ q. below q m.1) (of_member matches f m.0) && every (λ q. below q (string m.0))
+      (of_name f)) ms
       ≡ parts_members matches below f ms
   members-done Always ms = every-always ms
   members-done Never ms = every-always ms
@@ -263,7 +269,8 @@ module _ (below : ℕ → Document → Bool) where
   parts-list (Ref e) ds = refl
   parts-list (Asks k) ds = sym (and_true (parts_array matches below k (elements ds)))
 
-  pub parts-members : (f : Form) (ms : Members) → parts_members matches below f (entries ms) ≡ parts matches below f (object ms)
+  pub parts-members : (f : Form) (ms : Members) → parts_members matches below f (entries ms) ≡ parts matches below f
+      (object ms)
   parts-members Always ms = refl
   parts-members Never ms = refl
   parts-members (Ref e) ms = refl
@@ -284,20 +291,24 @@ owner_one test e owners h = go (test e) refl
         one_kept true k r =
             both (ap (λ b. not b || test o) k ∙ ap test (eqb-true o e k) ∙ t) r
         one_kept false k r = both (ap (λ b. not b || test o) k) r
+
     refused : (owners : List ℕ) → is_at e owners ≡ true → test e ≡ false
         → every (λ o. not (nat_eq o e) || test o) owners ≡ false
     refused [] a n = absurd (true≢false (sym a))
     refused (o ∷ owners) a n = elim (or_cases (nat_eq o e) (is_at e owners) a) [
       | inl k ↦ ap (λ b. b && every (λ o. not (nat_eq o e) || test o) owners)
           (ap (λ b. not b || test o) k ∙ ap test (eqb-true o e k) ∙ n)
-      | inr r ↦ ap (λ b. (not (nat_eq o e) || test o) && b) (refused owners r n) ∙ and_false (not (nat_eq o e) || test o)
+      | inr r ↦ ap (λ b. (not (nat_eq o e) || test o) && b) (refused owners r n) ∙ and_false (not (nat_eq o e)
+          || test o)
     ]
+
     go : (b : Bool) → test e ≡ b → every (λ o. not (nat_eq o e) || test o) owners ≡ test e
     go true k = kept owners k ∙ sym k
     go false k = refused owners h k ∙ sym k
 
 -- one more part, of which `a` is known so far
-pub step_each : {A : Type 0} (see : A → Document) (test : ℕ → Document → Bool) (items : List A) (i : ℕ) (x : A) (a b whole : Bool)
+pub step_each : {A : Type 0} (see : A → Document) (test : ℕ → Document → Bool) (items : List A) (i : ℕ) (x : A)
+    (a b whole : Bool)
     → i < length items → x ≡ get_or items i x → b ≡ (a && test i (see x))
     → (a && each_at test i (map see (drop i items))) ≡ whole
     → (b && each_at test (i + 1) (map see (drop (i + 1) items))) ≡ whole
@@ -306,7 +317,8 @@ step_each see test items i x a b whole less is e h =
     ∙ and_assoc a (test i (see x)) (each_at test (i + 1) (map see (drop (i + 1) items)))
     ∙ ap (λ t. a && t) (sym (split see test items i x less is)) ∙ h
   where
-    split : {A : Type 0} (see : A → Document) (test : ℕ → Document → Bool) (items : List A) (i : ℕ) (x : A) → i < length items
+    split : {A : Type 0} (see : A → Document) (test : ℕ → Document → Bool) (items : List A) (i : ℕ) (x : A)
+        → i < length items
         → x ≡ get_or items i x → each_at test i (map see (drop i items))
         ≡ (test i (see x) && each_at test (i + 1) (map see (drop (i + 1) items)))
     split see test items i x less is = rw (add-one, drop-cons items i x, ← is) refl
@@ -321,7 +333,8 @@ step_every see test items i x a b whole less is e h =
     ∙ ap (λ t. a && t) (sym (split see test items i x less is)) ∙ h
   where
     split : {A B : Type 0} (see : A → B) (test : B → Bool) (items : List A) (i : ℕ) (x : A) → i < length items
-        → x ≡ get_or items i x → every test (map see (drop i items)) ≡ (test (see x) && every test (map see (drop (i + 1) items)))
+        → x ≡ get_or items i x → every test (map see (drop i items)) ≡ (test (see x) && every test (map see (drop
+        (i + 1) items)))
     split see test items i x less is = rw (add-one, drop-cons items i x, ← is) refl
 
 nothing_left : {A : Type 0} (items : List A) (i : ℕ) → length items ≤ i → drop i items ≡ []
@@ -372,7 +385,7 @@ pub front-asked : (e : ℕ) (p : ℕ → Bool) (os qs rs all : List ℕ) (answer
 front-asked e p os qs rs all answers first ea eb ec =
     let split = eb ∙ ap (map p) ea ∙ map-append p qs rs in
     let front = ec ∙ ap (take (length qs)) split ∙ ap (λ n. take n (map p qs ++ map p rs)) (sym (mapped-length p qs))
-        ∙ front_of (map p qs) (map p rs) in
+    ∙ front_of (map p qs) (map p rs) in
     ap (answered e os) front ∙ answered-asked e p os qs
 
 pub back-asked : (e : ℕ) (p : ℕ → Bool) (os qs rs all : List ℕ) (answers second : List Bool) → all ≡ qs ++ rs
@@ -381,7 +394,7 @@ pub back-asked : (e : ℕ) (p : ℕ → Bool) (os qs rs all : List ℕ) (answers
 back-asked e p os qs rs all answers second ea eb ec =
     let split = eb ∙ ap (map p) ea ∙ map-append p qs rs in
     let back = ec ∙ ap (drop (length qs)) split ∙ ap (λ n. drop n (map p qs ++ map p rs)) (sym (mapped-length p qs))
-        ∙ back_of (map p qs) (map p rs) in
+    ∙ back_of (map p qs) (map p rs) in
     ap (λ bs. answered e os (map not bs)) back ∙ ap (answered e os) (map-twice not p rs)
     ∙ answered-asked e (λ q. not (p q)) os rs
 

@@ -1,5 +1,5 @@
 -- Elements and members are no deeper than what holds them.
-use Rattle.std.proofs.Common.{◌≡◌, ℕ, zero, suc, ◌+◌, ◌<◌, ◌≤◌, max, List, [], ◌∷◌, map, length, get_or, Bool, true, false, rules, refl, sym, ap, subst, ◌∙◌, arith}
+use Rattle.std.proofs.Common.{◌≡◌, ℕ, zero, suc, ◌<◌, ◌≤◌, List, [], ◌∷◌, map, length, get_or, Bool, true, false, rules, ap, subst, arith}
 use Rattle.documents.specs.Document.{Document, null, boolean, number, string, array, object, depth, items_depth, members_depth, Items, Members, items_of, members_of}
 use Rattle.js_doc.specs.declared.document.Doc.{Doc, the_lemmas}
 use Rattle.js_doc.specs.declared.document.Doc.TheVariants as C
@@ -26,7 +26,8 @@ member-less (y ∷ items) (suc i) x h is = let less = member-less items i x (ome
 
 pub member-depth : (items : List Member) (i : ℕ) (x : Member) (l : Members) → i < length items → x ≡ get_or items i x
     → members_of (map member_view items) ≡ l → depth (member_view x).1 ≤ members_depth l
-member-depth items i x l h is e = subst (λ ms. depth (member_view x).1 ≤ members_depth ms) e (member-less items i x h is)
+member-depth items i x l h is e = subst (λ ms. depth (member_view x).1 ≤ members_depth ms) e
+    (member-less items i x h is)
 
 -- a document without parts
 abbrev pub is_scalar : Document → Bool

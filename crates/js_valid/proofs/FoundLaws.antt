@@ -1,11 +1,9 @@
 -- A pattern is found where the walk from all places ends somewhere.
-use Rattle.std.proofs.Common.{◌≡◌, ℕ, ◌≤◌, ◌<◌, List, [], ◌∷◌, length, Bool, true, false, ◌||◌, nat_eq, nat_le, Result, Ok, Err, refl, sym, ap, ◌∙◌, arith, true≢false}
-
+use Rattle.std.proofs.Common.{◌≡◌, ℕ, ◌≤◌, List, [], ◌∷◌, length, Bool, true, false, nat_le, Ok, refl, sym, ap, ◌∙◌, arith, true≢false}
 use Rattle.patterns.specs.Tree.{Tree}
-use Rattle.patterns.specs.Match.{Matches, IsFoundIn}
+use Rattle.patterns.specs.Match.{Matches}
 use Rattle.patterns.specs.Decision.{finds}
 use Rattle.pattern_laws.proofs.Decides.{finds-decides}
-use Rattle.js_pattern.specs.declared.fault.PatternFault.{PatternFault}
 use Rattle.js_pattern.specs.Grammar.{pattern}
 use Rattle.js_valid.specs.Matching.{read_finds, matches}
 use Rattle.js_valid.specs.Places.{is_at, IsAt, Leads, has_place}

@@ -1,5 +1,5 @@
 -- The key lemma: a form asks of a document what it asks of the document itself and of its parts.
-use Rattle.std.proofs.Common.{◌≡◌, ℕ, List, Bool, true, false, ◌&&◌, ◌||◌, not, length, nat_le, refl, ap, sym, ◌∙◌, arith}
+use Rattle.std.proofs.Common.{◌≡◌, ℕ, List, Bool, true, false, ◌&&◌, ◌||◌, not, length, nat_le, refl, arith}
 use Rattle.documents.specs.Document.{Document, null, boolean, number, string, array, object, elements, entries}
 use Rattle.documents.specs.Tests.{every, some, same_word}
 use Rattle.documents.specs.Measures.{has_name, every_in}
@@ -19,7 +19,8 @@ array_order false i r x n c = refl
 array_order true false r x n c = grind arith
 array_order true true r x n c = grind arith
 
-object_order : (a x n r p q s d m : Bool) → ((a && true) && true && true) && (((((((x && n) && r) && p) && q) && s) && d) && m)
+object_order : (a x n r p q s d m : Bool) → ((a && true) && true && true) && (((((((x && n) && r) && p) && q) && s)
+    && d) && m)
     ≡ ((a && true) && true && true && (((x && n) && r) && d)) && (true && (((p && q) && s) && m))
 object_order a x n r p q s d m = grind arith
 

@@ -1,12 +1,12 @@
 -- Steps from places to places, one after another and side by side.
-use Rattle.std.proofs.Common.{◌≡◌, ℕ, zero, suc, ◌+◌, ◌-◌, ◌<◌, ◌≤◌, ◌⊎◌, inl, inr, List, [], ◌∷◌, ◌++◌, length, flat_map, slice_index, Bool, true, false, cond, if◌then◌else◌, ◌||◌, ◌&&◌, not, nat_eq, nat_le, nat_lt, Option, Some, None, IfSome, IsTrue, refl, sym, ap, subst, ◌∙◌, arith, true≢false}
+use Rattle.std.proofs.Common.{◌≡◌, ℕ, zero, suc, ◌+◌, ◌-◌, ◌<◌, ◌≤◌, ◌⊎◌, inl, inr, List, [], ◌∷◌, ◌++◌, length, flat_map, slice_index, Bool, true, false, if◌then◌else◌, ◌||◌, ◌&&◌, nat_eq, nat_le, nat_lt, Some, None, refl, sym, ap, subst, ◌∙◌, arith, true≢false}
 use Rattle.std.proofs.lemmas.Bool.{and_parts, or_cases, eqb-true, eq-eqb, ltb-true, lt-ltb}
-use Rattle.documents.specs.Tests.{every, some}
+use Rattle.documents.specs.Tests.{every}
 use Rattle.patterns.specs.CharSet.{has}
 use Rattle.patterns.specs.Tree.{Tree, Trees, empty, one_of, at_start, at_end, in_turn, either, repeated, no_trees, tree}
 use Rattle.patterns.specs.Match.{Repeats, Matches, MatchesInTurn, MatchesOne}
 use Rattle.patterns.specs.Decision.{ends}
-use Rattle.js_valid.specs.Places.{is_at, IsAt, Leads, More, are_within, HasBoth}
+use Rattle.js_valid.specs.Places.{is_at, IsAt, Leads, More, are_within}
 
 -- ---- lists of places
 
@@ -23,7 +23,8 @@ or_left_true false b h = absurd (true≢false (sym h))
 
 pub is_at-append : (j : ℕ) (xs ys : List ℕ) → is_at j (xs ++ ys) ≡ (is_at j xs || is_at j ys)
 is_at-append j [] ys = refl
-is_at-append j (x ∷ xs) ys = ap (λ b. nat_eq x j || b) (is_at-append j xs ys) ∙ or_assoc (nat_eq x j) (is_at j xs) (is_at j ys)
+is_at-append j (x ∷ xs) ys = ap (λ b. nat_eq x j || b) (is_at-append j xs ys) ∙ or_assoc (nat_eq x j) (is_at j xs)
+    (is_at j ys)
   where
     or_assoc : (a b c : Bool) → (a || (b || c)) ≡ ((a || b) || c)
     or_assoc true b c = refl
@@ -170,14 +171,19 @@ abbrev mutual
 
 pub leads_listed : (Step : ℕ → ℕ → Type 0) (f : ℕ → List ℕ) → ((i : ℕ) → Leads Step (i ∷ []) (f i)) → (xs : List ℕ)
     → Leads Step xs (flat_map f xs)
-leads_listed Step f h [] = record { sound = λ j a. absurd (true≢false (sym a)); complete = λ i j a s. absurd (true≢false (sym a)) }
+leads_listed Step f h [] = record {
+  sound = λ j a. absurd (true≢false (sym a));
+  complete = λ i j a s. absurd
+      (true≢false (sym a));
+}
 leads_listed Step f h (x ∷ xs) =
     let rest = leads_listed Step f h xs in
     record {
-      sound = λ j a. elim (or_cases (is_at j (f x)) (is_at j (flat_map f xs)) (sym (is_at-append j (f x) (flat_map f xs)) ∙ a)) [
-        | inl l ↦ let (i, k, s) = (h x).sound j l in (i, or_left (nat_eq x i) (is_at i xs) k, s)
-        | inr r ↦ let (i, k, s) = rest.sound j r in (i, or_right_true (nat_eq x i) (is_at i xs) k, s)
-      ];
+      sound = λ j a. elim (or_cases (is_at j (f x)) (is_at j (flat_map f xs)) (sym (is_at-append j (f x)
+          (flat_map f xs)) ∙ a)) [
+            | inl l ↦ let (i, k, s) = (h x).sound j l in (i, or_left (nat_eq x i) (is_at i xs) k, s)
+            | inr r ↦ let (i, k, s) = rest.sound j r in (i, or_right_true (nat_eq x i) (is_at i xs) k, s)
+          ];
       complete = λ i j a s. is_at-append j (f x) (flat_map f xs) ∙ elim (or_cases (nat_eq x i) (is_at i xs) a) [
         | inl e ↦ or_left_true (is_at j (f x)) (is_at j (flat_map f xs))
             ((h x).complete i j (or_left_true (nat_eq x i) false e) s)
@@ -201,7 +207,8 @@ one_leads s w i true h =
     let both = and_parts (nat_lt i (length w)) (has s (slice_index w i)) h in
     record {
       sound = λ j a. (i, here_at i [], (sym (same_place (suc i) j a), ltb-true i (length w) both.0, both.1));
-      complete = λ k j a m. subst (λ z. IsAt z (suc i ∷ [])) (sym (m.0 ∙ ap suc (sym (same_place i k a)))) (here_at (suc i) []);
+      complete = λ k j a m. subst (λ z. IsAt z (suc i ∷ [])) (sym (m.0 ∙ ap suc (sym (same_place i k a)))) (here_at
+          (suc i) []);
     }
 one_leads s w i false h = record {
   sound = λ j a. absurd (true≢false (sym a));
@@ -231,7 +238,8 @@ place_leads p xs false h = record {
 
 pub leads_place : (p : ℕ) (xs ys : List ℕ) → ys ≡ (if is_at p xs then p ∷ [] else [])
     → Leads (λ i j. (i ≡ p) × (j ≡ p)) xs ys
-leads_place p xs ys e = subst (λ zs. Leads (λ i j. (i ≡ p) × (j ≡ p)) xs zs) (sym e) (place_leads p xs (is_at p xs) refl)
+leads_place p xs ys e = subst (λ zs. Leads (λ i j. (i ≡ p) × (j ≡ p)) xs zs) (sym e) (place_leads p xs
+    (is_at p xs) refl)
 
 -- ---- repeats
 
@@ -244,7 +252,8 @@ leads_repeated t w low xs ys zs a b = record {
       (i, q, (low + m.0, omega arith, m.1, repeats_join (Matches t w) low m.0 i p j r m.2));
   complete = λ i j h m.
       let count : m.0 ≡ low + (m.0 - low) = (let le = m.1 in omega (arith, le)) in
-      let (p, c, d) = repeats_split (Matches t w) low (m.0 - low) i j (subst (λ z. Repeats (Matches t w) z i j) count m.3) in
+      let (p, c, d) = repeats_split (Matches t w) low (m.0 - low) i j (subst (λ z. Repeats
+      (Matches t w) z i j) count m.3) in
       b.complete p j (a.complete i p h c) (m.0 - low, m.2, d);
 }
 
@@ -254,12 +263,20 @@ pub leads_up_to : (t : Tree) (w : List ℕ) (low high : ℕ) (xs ys zs : List �
 leads_up_to t w low high xs ys zs le a b = record {
   sound = λ j h.
       let (p, k, m) = b.sound j h in
-      let (i, q, r) = a.sound p k in
-      (i, q, (low + m.0, omega arith, (let most = m.1 in omega (arith, most, le)),
-      repeats_join (Matches t w) low m.0 i p j r m.2));
+      let (i, q, r) = a.sound p k in (
+        i,
+        q,
+        (
+          low + m.0,
+          omega arith,
+          (let most = m.1 in omega (arith, most, le)),
+          repeats_join (Matches t w) low m.0 i p j r m.2,
+        ),
+      );
   complete = λ i j h m.
       let count : m.0 ≡ low + (m.0 - low) = (let l = m.1 in omega (arith, l)) in
-      let (p, c, d) = repeats_split (Matches t w) low (m.0 - low) i j (subst (λ z. Repeats (Matches t w) z i j) count m.3) in
+      let (p, c, d) = repeats_split (Matches t w) low (m.0 - low) i j (subst (λ z. Repeats
+      (Matches t w) z i j) count m.3) in
       b.complete p j (a.complete i p h c) (m.0 - low, (let most = m.2 in let l = m.1 in omega (arith, most, l)), d);
 }
 

@@ -1,5 +1,5 @@
 -- Tables of marks.
-use Rattle.std.proofs.Common.{◌≡◌, ℕ, zero, suc, ◌+◌, ◌<◌, List, [], ◌∷◌, length, get_or, Bool, true, false, cond, slice_set, slice_index_or, refl, sym, ap, ◌∙◌, arith, true≢false}
+use Rattle.std.proofs.Common.{◌≡◌, ℕ, zero, suc, ◌<◌, List, [], ◌∷◌, length, Bool, true, false, slice_set, refl, ap, arith, true≢false}
 use Rattle.js_valid.specs.Places.{marked, unmarked}
 
 pub unmarked-set : (bs : List Bool) (i : ℕ) → i < length bs → marked bs i ≡ false

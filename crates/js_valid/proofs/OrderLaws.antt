@@ -1,5 +1,5 @@
 -- A sorted list of the entries is an order by ranks.
-use Rattle.std.proofs.Common.{◌≡◌, ℕ, zero, suc, ◌+◌, ◌<◌, ◌≤◌, List, [], ◌∷◌, map, length, get_or, Bool, true, false, refl, sym, ap, subst, ◌∙◌, arith}
+use Rattle.std.proofs.Common.{◌≡◌, ℕ, zero, suc, ◌<◌, ◌≤◌, List, [], ◌∷◌, map, length, get_or, true, refl, sym, ap, subst, ◌∙◌, arith}
 use Rattle.std.specs.List.{Contains, AllByRecursion}
 use Rattle.std.specs.List.Sorted.{IsPermutation, IsSortedByKey}
 use Rattle.std.specs.Ordering.{nat_cmp}
@@ -14,7 +14,8 @@ use Rattle.draft06_laws.specs.Ranks.{FallInPlace}
 use Rattle.js_valid.specs.Plan.{IsPlan}
 
 module _ (ranks : List ℕ) (xs ys : List (ℕ × ℕ)) (len : length xs ≡ length ranks)
-    (each : (k : ℕ) (d : ℕ × ℕ) → k < length ranks → get_or xs k d ≡ (get_or ranks k 0, k)) (moved : IsPermutation xs ys) where
+    (each : (k : ℕ) (d : ℕ × ℕ) → k < length ranks → get_or xs k d ≡ (get_or ranks k 0, k))
+    (moved : IsPermutation xs ys) where
   abbrev pub second : ℕ × ℕ → ℕ
   second p = p.1
 
@@ -30,7 +31,12 @@ module _ (ranks : List ℕ) (xs ys : List (ℕ × ℕ)) (len : length xs ≡ len
       → (i : ℕ) × (i < length ranks) × (get_or ys k (0, 0) ≡ (get_or ranks i 0, i))
   pair-at k h =
       let y = get_or ys k (0, 0) in
-      let (i, il, same) = Contains-permutation ys xs y (IsPermutation-sym xs ys moved) (k, h, get_or_same ys k y (0, 0) h) in
+      let (i, il, same) = Contains-permutation ys xs y (IsPermutation-sym xs ys moved) (
+        k,
+        h,
+        get_or_same ys k y
+            (0, 0) h,
+      ) in
       let place : i < length ranks = omega (arith, il, len) in
       (i, place, sym same ∙ each i y place)
     where

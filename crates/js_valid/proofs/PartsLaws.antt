@@ -1,13 +1,9 @@
 -- What a form asks of parts, part by part.
-use Rattle.std.proofs.Common.{◌≡◌, ℕ, zero, suc, List, [], ◌∷◌, ◌++◌, drop, length, Bool, true, false, ◌&&◌, ◌||◌, not, cond, Option, Some, None, nat_eq, refl, ap, sym, ◌∙◌, arith}
-use Rattle.documents.specs.Tests.{every, some, same_word}
-use Rattle.documents.specs.Document.{Document, string}
-use Rattle.documents.specs.Measures.{meets_in_order, every_in}
-use Rattle.schemas.specs.Entry.{ItemsPart, Each, Listed, Keywords}
-use Rattle.schemas.specs.Schema.{lists, meets, one}
-use Rattle.draft06.specs.Names.{keys, is_additional}
-use Rattle.draft06.specs.EntryValidity.{items_ask, rest_asks}
-use Rattle.js_valid.specs.Parts.{of_listed, of_items_part, of_named, or_else, of_names}
+use Rattle.std.proofs.Common.{◌≡◌, ℕ, List, [], ◌∷◌, ◌++◌, Bool, true, false, ◌&&◌, ◌||◌, not, cond, refl, ap, sym, ◌∙◌, arith}
+use Rattle.documents.specs.Tests.{every}
+use Rattle.documents.specs.Document.{Document}
+use Rattle.documents.specs.Measures.{every_in}
+use Rattle.js_valid.specs.Parts.{of_named}
 
 pub both : {a b c d : Bool} → a ≡ b → c ≡ d → (a && c) ≡ (b && d)
 both {a = a} {b = b} {c = c} {d = d} e f = ap (λ x. x && c) e ∙ ap (λ y. b && y) f
@@ -26,7 +22,8 @@ every-append p (x ∷ xs) ys = ap (λ b. p x && b) (every-append p xs ys) ∙ an
 -- two tests of each element
 every-both : {A : Type 0} (p q : A → Bool) (xs : List A) → every (λ x. p x && q x) xs ≡ (every p xs && every q xs)
 every-both p q [] = refl
-every-both p q (x ∷ xs) = ap (λ b. (p x && q x) && b) (every-both p q xs) ∙ swap_and (p x) (q x) (every p xs) (every q xs)
+every-both p q (x ∷ xs) = ap (λ b. (p x && q x) && b) (every-both p q xs) ∙ swap_and (p x) (q x) (every p xs)
+    (every q xs)
 
 every-same : {A : Type 0} (p q : A → Bool) (xs : List A) → ((x : A) → p x ≡ q x) → every p xs ≡ every q xs
 every-same p q [] h = refl

@@ -1,9 +1,9 @@
 -- The key lemma: what is marked in place stays closed, since ranks fall; so verdicts that are taken in order are right.
-use Rattle.std.proofs.Common.{◌≡◌, ℕ, zero, suc, ◌+◌, ◌-◌, ◌<◌, ◌≤◌, ◌⊎◌, inl, inr, List, [], ◌∷◌, ◌++◌, map, length, get_or, slice_set, Bool, true, false, ◌||◌, ◌&&◌, not, nat_eq, nat_lt, if◌then◌else◌, refl, sym, ap, subst, ◌∙◌, arith, true≢false}
+use Rattle.std.proofs.Common.{◌≡◌, ℕ, zero, suc, ◌+◌, ◌-◌, ◌<◌, ◌≤◌, inl, inr, List, [], ◌∷◌, ◌++◌, map, length, get_or, Bool, true, false, ◌||◌, ◌&&◌, nat_eq, if◌then◌else◌, refl, sym, ap, subst, ◌∙◌, arith, true≢false}
 use Rattle.std.proofs.lemmas.Bool.{and_parts, or_cases, eqb-true, eq-eqb, cases_lt}
 use Rattle.std.specs.List.{AllByRecursion}
-use Rattle.documents.specs.Document.{Document, depth}
-use Rattle.levels.proofs.LevelsLaws.{everywhere, weaker}
+use Rattle.documents.specs.Document.{Document}
+use Rattle.levels.proofs.LevelsLaws.{everywhere}
 use Rattle.schemas.specs.Entry.{Entry, Form}
 use Rattle.schemas.specs.Schema.{in_place, of_parts}
 use Rattle.draft06.specs.EntryValidity.{asks, form_at, entry_valid}
@@ -19,7 +19,8 @@ use Rattle.js_valid.proofs.LeadsLaws.{is_at-append, or_left_true, or_right_true}
 pub marks_after : (j : ℕ) (xs ys : List ℕ) (a b c : Bool) → b ≡ (a || is_at j xs) → c ≡ (b || is_at j ys)
     → c ≡ (a || is_at j (xs ++ ys))
 marks_after j xs ys a b c f g =
-    g ∙ ap (λ t. t || is_at j ys) f ∙ or_assoc a (is_at j xs) (is_at j ys) ∙ ap (λ t. a || t) (sym (is_at-append j xs ys))
+    g ∙ ap (λ t. t || is_at j ys) f ∙ or_assoc a (is_at j xs) (is_at j ys) ∙ ap (λ t. a || t) (sym
+    (is_at-append j xs ys))
   where
     or_assoc : (a b c : Bool) → ((a || b) || c) ≡ (a || (b || c))
     or_assoc true b c = refl
@@ -40,9 +41,10 @@ all-at P (x ∷ xs) q h k = elim (or_cases (nat_eq x q) (is_at q xs) k) [
 
 pub all-from : (P : ℕ → Type 0) (xs : List ℕ) → ((q : ℕ) → is_at q xs ≡ true → P q) → AllByRecursion P xs
 all-from P [] h = tt
-all-from P (x ∷ xs) h =
-    (h x (or_left_true (nat_eq x x) (is_at x xs) (eq-eqb x x refl)),
-    all-from P xs (λ q k. h q (or_right_true (nat_eq x q) (is_at q xs) k)))
+all-from P (x ∷ xs) h = (
+  h x (or_left_true (nat_eq x x) (is_at x xs) (eq-eqb x x refl)),
+  all-from P xs (λ q k. h q (or_right_true (nat_eq x q) (is_at q xs) k)),
+)
 
 pub flag-below : (bs : List Bool) (e : ℕ) → flag bs e ≡ true → e < length bs
 flag-below [] e h = absurd (true≢false (sym h))
@@ -158,6 +160,7 @@ module _ (es : List Entry) (order : List ℕ) (plan : IsPlan es order) where
           | inl b ↦ b
           | inr b ↦ absurd (n (ap at (omega (arith, b, l))))
         ]
+
         go : (b : Bool) → nat_eq (at k) (at j) ≡ b → flag table' (at j) ≡ valid_at es (at j) J
         go true e =
             let same = eqb-true (at k) (at j) e in

@@ -1,12 +1,12 @@
 -- What is asked of a part, request by request and owner by owner.
-use Rattle.std.proofs.Common.{◌≡◌, ℕ, zero, suc, ◌+◌, ◌<◌, ◌≤◌, List, [], ◌∷◌, ◌++◌, map, drop, drop-cons, add-one, length, get_or, Bool, true, false, ◌||◌, ◌&&◌, not, nat_eq, nat_lt, inl, inr, refl, sym, ap, subst, ◌∙◌, arith, true≢false}
+use Rattle.std.proofs.Common.{◌≡◌, ℕ, zero, suc, ◌+◌, ◌<◌, ◌≤◌, List, [], ◌∷◌, ◌++◌, map, drop, drop-cons, add-one, length, get_or, Bool, true, false, ◌||◌, ◌&&◌, not, nat_eq, nat_lt, inl, inr, refl, sym, ap, ◌∙◌, arith, true≢false}
 use Rattle.std.proofs.lemmas.Bool.{and_parts, or_cases, eqb-true, eq-eqb, ltb-true, lt-ltb}
 use Rattle.documents.specs.Tests.{every}
 use Rattle.schemas.specs.Entry.{Entry, Form}
 use Rattle.draft06.specs.EntryValidity.{form_at}
 use Rattle.js_valid.specs.Parts.{asked_by, answered, of_listed}
 use Rattle.js_valid.specs.Places.{is_at}
-use Rattle.js_valid.specs.Requests.{AsksMore, asks_of, AskedByOwners}
+use Rattle.js_valid.specs.Requests.{AsksMore, asks_of}
 
 and_assoc : (a b c : Bool) → ((a && b) && c) ≡ (a && (b && c))
 and_assoc true b c = refl
@@ -37,7 +37,8 @@ cons_at xs i h = rw (add-one, drop-cons xs i 0) refl
 pub add_next : (owner : ℕ) (entries : List ℕ) (i : ℕ) (os qs os' qs' : List ℕ) (target : ℕ → (ℕ → Bool) → Bool)
     → i < length entries → length os ≡ length qs → os' ≡ os ++ owner ∷ [] → qs' ≡ qs ++ get_or entries i 0 ∷ []
     → ((e : ℕ) (p : ℕ → Bool) → (asked_by e p os qs && (not (nat_eq owner e) || every p (drop i entries))) ≡ target e p)
-    → (e : ℕ) (p : ℕ → Bool) → (asked_by e p os' qs' && (not (nat_eq owner e) || every p (drop (i + 1) entries))) ≡ target e p
+    → (e : ℕ) (p : ℕ → Bool) → (asked_by e p os' qs' && (not (nat_eq owner e) || every p (drop (i + 1) entries)))
+    ≡ target e p
 add_next owner entries i os qs os' qs' target less len eo eq h e p =
     let q = get_or entries i 0 in
     let rest = every p (drop (i + 1) entries) in
@@ -54,7 +55,8 @@ add_next owner entries i os qs os' qs' target less len eo eq h e p =
 pub owner_next : (es : List Entry) (of : Form → List ℕ) (owners : List ℕ) (i : ℕ) (form : Form) (os qs os' qs' : List ℕ)
     → i < length owners → form ≡ form_at es (get_or owners i 0) → AsksMore (get_or owners i 0) (of form) os qs os' qs'
     → ((e : ℕ) (p : ℕ → Bool) → (asked_by e p os qs && asks_of es of e p (drop i owners)) ≡ asks_of es of e p owners)
-    → (e : ℕ) (p : ℕ → Bool) → (asked_by e p os' qs' && asks_of es of e p (drop (i + 1) owners)) ≡ asks_of es of e p owners
+    → (e : ℕ) (p : ℕ → Bool) → (asked_by e p os' qs' && asks_of es of e p (drop (i + 1) owners))
+    ≡ asks_of es of e p owners
 owner_next es of owners i form os qs os' qs' less is more h e p =
     let o = get_or owners i 0 in
     let rest = asks_of es of e p (drop (i + 1) owners) in
@@ -97,6 +99,7 @@ owners_ask es of e p owners h = go (every p (of (form_at es e))) refl
         and_false : (a : Bool) → (a && false) ≡ false
         and_false true = refl
         and_false false = refl
+
     go : (b : Bool) → every p (of (form_at es e)) ≡ b → asks_of es of e p owners ≡ every p (of (form_at es e))
     go true k = asks_nothing es of e p owners k ∙ sym k
     go false k = refused owners h k ∙ sym k

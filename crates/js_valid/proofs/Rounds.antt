@@ -1,6 +1,5 @@
 -- The key lemma of repeats: what the rounds of a walk have marked, and that nothing is left once a round marks no more.
-use Rattle.std.proofs.Common.{◌≡◌, ℕ, zero, suc, ◌+◌, ◌-◌, ◌<◌, ◌≤◌, ◌⊎◌, inl, inr, List, [], ◌∷◌, Bool, true, false, ◌||◌, ◌&&◌, not, Option, Some, None, option_map, IfSome, refl, sym, ap, subst, ◌∙◌, arith, true≢false}
-use Rattle.std.proofs.lemmas.Bool.{or_cases}
+use Rattle.std.proofs.Common.{◌≡◌, ℕ, zero, suc, ◌+◌, ◌-◌, ◌≤◌, ◌⊎◌, inl, inr, List, [], ◌∷◌, Bool, true, false, ◌||◌, ◌&&◌, not, Option, Some, None, option_map, IfSome, refl, sym, ap, subst, ◌∙◌, arith, true≢false}
 use Rattle.patterns.specs.Match.{Repeats}
 use Rattle.js_valid.specs.Places.{is_at, IsAt, Leads, More, marked, is_open}
 use Rattle.js_valid.proofs.LeadsLaws.{or_left_true, or_right_true, repeats_last, repeats_before}
@@ -123,7 +122,8 @@ module _ (Step : ℕ → ℕ → Type 0) (most : Option ℕ) (starts : List ℕ)
       go (Some m) (Some zero) r n k h = absurd (n refl)
       go (Some m) (Some (suc l)) r n k h = omega (arith, h)
 
-  module _ (left : Option ℕ) (marks : List Bool) (fresh : List ℕ) (round : IsRound Step most starts left marks fresh) where
+  module _ (left : Option ℕ) (marks : List Bool) (fresh : List ℕ) (round : IsRound Step
+      most starts left marks fresh) where
     module _ (next : List ℕ) (marks' : List Bool) (fresh' : List ℕ) (some : left ≡ Some 0 → ⊥)
         (leads : Leads Step fresh next) (m : (j : ℕ) → marked marks' j ≡ (marked marks j || is_at j next))
         (f : (j : ℕ) → is_at j fresh' ≡ (not (marked marks j) && is_at j next)) where

@@ -1,6 +1,5 @@
 -- Equality of documents, by the test and by identity.
-use Rattle.std.proofs.Common.{◌≡◌, ℕ, ℤ, List, [], ◌∷◌, Bool, true, false, ◌&&◌, not, cond, nat_eq, refl, sym, ap, ◌∙◌, IsTrue, ◌↔◌, Option, Some, None, is_some, option_map, true≢false}
-use Rattle.std.specs.Ordering.{int_eq}
+use Rattle.std.proofs.Common.{◌≡◌, ℕ, List, [], ◌∷◌, Bool, true, false, ◌&&◌, not, cond, nat_eq, refl, sym, ap, ◌∙◌, IsTrue, ◌↔◌, Option, Some, None, is_some, option_map, true≢false}
 use Rattle.std.proofs.lemmas.Bool.{and_parts, eqb-true, eq-eqb}
 use Rattle.std.proofs.lemmas.Bool.Decides.{Decides-int_eq}
 use Rattle.documents.specs.Tests.{same_word}

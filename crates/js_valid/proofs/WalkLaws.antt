@@ -1,7 +1,7 @@
 -- What each loop of the walk keeps, over plain variables.
-use Rattle.std.proofs.Common.{◌≡◌, ℕ, zero, suc, ◌+◌, ◌-◌, ◌<◌, ◌≤◌, ◌⊎◌, inl, inr, ◌∙◌, List, [], ◌∷◌, ◌++◌, map, drop, drop-cons, add-one, length, get_or, replicate, Bool, true, false, ◌||◌, ◌&&◌, not, true≢false, Result, Ok, Err, IfOk, refl, sym, ap, subst, arith}
+use Rattle.std.proofs.Common.{◌≡◌, ℕ, zero, suc, ◌+◌, ◌-◌, ◌<◌, ◌≤◌, inl, inr, ◌∙◌, List, [], ◌∷◌, ◌++◌, map, drop, drop-cons, add-one, length, get_or, replicate, Bool, true, false, ◌||◌, ◌&&◌, not, true≢false, Result, Ok, Err, IfOk, refl, sym, ap, subst, arith}
 use Rattle.std.proofs.lemmas.Bool.{or_cases}
-use Rattle.patterns.specs.Tree.{Tree, Trees, no_trees, tree, trees_of}
+use Rattle.patterns.specs.Tree.{Tree, no_trees, tree, trees_of}
 use Rattle.patterns.specs.Match.{Repeats, Matches, MatchesInTurn, MatchesOne}
 use Rattle.js_pattern.specs.declared.re.Re.{Re}
 use Rattle.js_pattern.specs.View.{view}
@@ -36,7 +36,8 @@ module _ (w starts : List ℕ) (items : List Re) where
       → ((ends : List ℕ) → InTurn i places ends → R ends) → (ends : List ℕ) → InTurn (i + 1) next ends → R ends
   in_turn_next R i x places next h is l rest ends k =
       rest ends (subst (λ ts. Leads (MatchesInTurn ts w) places ends) (sym (rest_trees items i x h is))
-      (leads_then (Matches (view x) w) (MatchesInTurn (trees_of (map view (drop (i + 1) items))) w) places next ends l k))
+      (leads_then (Matches (view x) w) (MatchesInTurn (trees_of (map view (drop (i + 1)
+      items))) w) places next ends l k))
 
   pub in_turn_done : (R : List ℕ → Type 0) (i : ℕ) (places : List ℕ) → length items ≤ i
       → ((ends : List ℕ) → InTurn i places ends → R ends) → R places
@@ -51,11 +52,13 @@ module _ (w starts : List ℕ) (items : List Re) where
   either_next Step i x found next both h is l b rest ends k =
       let joined = rest (next ++ ends) (subst (λ ts. Leads (MatchesOne ts w) starts (next ++ ends))
       (sym (rest_trees items i x h is))
-      (leads_either (Matches (view x) w) (MatchesOne (trees_of (map view (drop (i + 1) items))) w) starts next ends l k)) in
+      (leads_either (Matches (view x) w) (MatchesOne (trees_of (map view (drop (i + 1)
+      items))) w) starts next ends l k)) in
       leads_same Step starts (found ++ (next ++ ends)) (both ++ ends) (λ j.
       is_at-append j both ends ∙ ap (λ t. t || is_at j ends) (b j)
       ∙ sym (or_assoc (is_at j found) (is_at j next) (is_at j ends))
-      ∙ ap (λ t. is_at j found || t) (sym (is_at-append j next ends)) ∙ sym (is_at-append j found (next ++ ends))) joined
+      ∙ ap (λ t. is_at j found || t) (sym (is_at-append j next ends)) ∙ sym (is_at-append j found
+      (next ++ ends))) joined
     where
       or_assoc : (a b c : Bool) → (a || (b || c)) ≡ ((a || b) || c)
       or_assoc true b c = refl
@@ -70,6 +73,7 @@ module _ (w starts : List ℕ) (items : List Re) where
     where
       none : false ≡ true → ⊥
       none e = true≢false (sym e)
+
       or_none : (a : Bool) → a ≡ (a || false)
       or_none true = refl
       or_none false = refl
@@ -110,7 +114,8 @@ fresh_first bs n xs new e h j =
 
 pub within_new : (n : ℕ) (xs new : List ℕ) (old : ℕ → Bool) → are_within n xs ≡ true
     → ((j : ℕ) → is_at j new ≡ (old j && is_at j xs)) → are_within n new ≡ true
-within_new n xs new old w h = within-from n new (λ j a. within-at n j xs w (second (old j) (is_at j xs) (sym (h j) ∙ a)))
+within_new n xs new old w h = within-from n new (λ j a. within-at n j xs w (second (old j) (is_at j xs) (sym (h j)
+    ∙ a)))
   where
     second : (a b : Bool) → (a && b) ≡ true → b ≡ true
     second true b h = h

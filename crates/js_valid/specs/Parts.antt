@@ -1,10 +1,10 @@
 -- What a form asks of a document, in two halves: of the document itself, and of its elements, members and names.
-use Rattle.std.specs.Prelude.{ℕ, zero, suc, ◌≡◌, nat_le, nat_eq, List, [], ◌∷◌, ◌++◌, length, get_or, Bool, true, false, ◌&&◌, ◌||◌, not, cond, Option, Some, None}
+use Rattle.std.specs.Prelude.{ℕ, zero, suc, nat_le, nat_eq, List, [], ◌∷◌, ◌++◌, length, get_or, Bool, true, false, ◌&&◌, ◌||◌, not, cond, Option, Some, None}
 use Rattle.documents.specs.Tests.{every, some, same_word}
 use Rattle.documents.specs.Document.{Document, string}
 use Rattle.documents.specs.Measures.{at_number, at_string, at_array, at_object, has_name, every_in}
 use Rattle.schemas.specs.Entry.{ItemsPart, Each, Listed, Keywords, Form, Always, Never, Ref, Asks}
-use Rattle.schemas.specs.Schema.{if_there, lists, meets, one}
+use Rattle.schemas.specs.Schema.{lists, meets, one}
 use Rattle.draft06.specs.Names.{keys, is_additional}
 use Rattle.draft06.specs.EntryValidity.{items_ask, rest_asks, need_asks, asks_any, asks_number, asks_string}
 

@@ -1,5 +1,5 @@
 -- What a validator goes by: the entries of a table in an order in which each stands after those that it names in place.
-use Rattle.std.specs.Prelude.{◌≡◌, ℕ, ◌<◌, ◌≤◌, List, length, get_or, Bool, true, IsTrue}
+use Rattle.std.specs.Prelude.{◌≡◌, ℕ, ◌<◌, ◌≤◌, List, length, get_or, Bool, true}
 use Rattle.documents.specs.Document.{Document}
 use Rattle.schemas.specs.Entry.{Entry}
 use Rattle.schemas.specs.Schema.{is_table, in_place}

@@ -1,9 +1,8 @@
 -- What requests of owners ask of a part of a document.
-use Rattle.std.specs.Prelude.{◌≡◌, ℕ, suc, List, [], ◌∷◌, Bool, true, ◌&&◌, ◌||◌, not, nat_eq, Option, Some, None}
+use Rattle.std.specs.Prelude.{◌≡◌, ℕ, suc, List, [], ◌∷◌, Bool, true, ◌&&◌, ◌||◌, not, nat_eq, Option, None}
 use Rattle.documents.specs.Tests.{every}
 use Rattle.documents.specs.Document.{Document}
 use Rattle.schemas.specs.Entry.{Entry, Form, Asks}
-use Rattle.schemas.specs.Schema.{meets}
 use Rattle.draft06.specs.EntryValidity.{form_at}
 use Rattle.js_valid.specs.Parts.{asked_by, flag, parts_array, parts_object}
 use Rattle.js_valid.specs.Places.{is_at}

@@ -40,8 +40,10 @@ impl Requests {
 fn add(requests: &mut Requests, owner: u32, entries: &[u32]) -> Result<(), Memory>
     requires { length requests.old.owners.items ≡ length requests.old.entries.items }
     ensures len { IsOk result → length requests.new.owners.items ≡ length requests.new.entries.items }
-    ensures asks { IsOk result → (e : ℕ) (p : ℕ → Bool) → asked_by e p requests.new.owners.items requests.new.entries.items
-        ≡ (asked_by e p requests.old.owners.items requests.old.entries.items && (not (nat_eq owner e) || every p entries.now)) }
+    ensures asks { IsOk result → (e : ℕ) (p : ℕ → Bool) → asked_by e p
+        requests.new.owners.items requests.new.entries.items
+        ≡ (asked_by e p requests.old.owners.items requests.old.entries.items && (not (nat_eq owner e)
+        || every p entries.now)) }
 {
     for entry in entries {
         requests.owners.push(owner)?;
@@ -63,7 +65,12 @@ fn add_option(requests: &mut Requests, owner: u32, entry: Option<u32>) -> Result
 }
 
 /// The requests for the element at that place, but for `contains`.
-pub(crate) fn of_element(alloc: Global, schema: &Schema, owners: &[u32], place: usize) -> Result<Requests, Memory>
+pub(crate) fn of_element(
+    alloc: Global,
+    schema: &Schema,
+    owners: &[u32],
+    place: usize,
+) -> Result<Requests, Memory>
     requires { every (λ o. nat_lt o (length (schema_view schema.now))) owners.now ≡ true }
     ensures len { IfOk result (λ r. length r.owners.items ≡ length r.entries.items) }
     ensures asks { IfOk result (λ r. AskedByOwners (schema_view schema.now) (λ f. of_element f place) owners.now
@@ -83,22 +90,19 @@ fn add_element(requests: &mut Requests, owner: u32, form: &Form, place: usize) -
         requests.old.entries.items requests.new.owners.items requests.new.entries.items }
 {
     match form {
-        Form::Keywords(keywords) => add_item(requests, owner, keywords, place),
+        Form::Keywords(keywords) => add_option(requests, owner, item_entry(keywords, place)),
         _ => Ok(()),
     }
 }
 
-fn add_item(requests: &mut Requests, owner: u32, keywords: &Keywords, place: usize) -> Result<(), Memory>
-    requires { length requests.old.owners.items ≡ length requests.old.entries.items }
-    ensures len { IsOk result → length requests.new.owners.items ≡ length requests.new.entries.items }
-    ensures asks { IsOk result → AsksMore owner
-        (of_items_part (option_map items_view keywords.now.items) keywords.now.additional_items place)
-        requests.old.owners.items requests.old.entries.items requests.new.owners.items requests.new.entries.items }
+fn item_entry(keywords: &Keywords, place: usize) -> Option<u32>
+    ensures { lists one result
+        ≡ of_items_part (option_map items_view keywords.now.items) keywords.now.additional_items place }
 {
     match &keywords.items {
-        None => Ok(()),
-        Some(ItemsPart::Each(entry)) => add_option(requests, owner, Some(*entry)),
-        Some(ItemsPart::Listed(list)) => add_option(requests, owner, listed(list, keywords.additional_items, place)),
+        None => None,
+        Some(ItemsPart::Each(entry)) => Some(*entry),
+        Some(ItemsPart::Listed(list)) => listed(list, keywords.additional_items, place),
     }
 }
 
@@ -113,7 +117,11 @@ fn listed(list: &EntryList, rest: Option<u32>, place: usize) -> Option<u32>
 }
 
 /// The requests of `contains`.
-pub(crate) fn of_contains(alloc: Global, schema: &Schema, owners: &[u32]) -> Result<Requests, Memory>
+pub(crate) fn of_contains(
+    alloc: Global,
+    schema: &Schema,
+    owners: &[u32],
+) -> Result<Requests, Memory>
     requires { every (λ o. nat_lt o (length (schema_view schema.now))) owners.now ≡ true }
     ensures len { IfOk result (λ r. length r.owners.items ≡ length r.entries.items) }
     ensures asks { IfOk result (λ r. AskedByOwners (schema_view schema.now) of_contains owners.now
@@ -174,10 +182,16 @@ fn add_name(requests: &mut Requests, owner: u32, form: &Form) -> Result<(), Memo
 }
 
 /// The requests for the value of a member with that name.
-pub(crate) fn of_member(alloc: Global, schema: &Schema, owners: &[u32], name: &Str) -> Result<Requests, Memory>
+pub(crate) fn of_member(
+    alloc: Global,
+    schema: &Schema,
+    owners: &[u32],
+    name: &Str,
+) -> Result<Requests, Memory>
     requires { every (λ o. nat_lt o (length (schema_view schema.now))) owners.now ≡ true }
     ensures len { IfOk result (λ r. length r.owners.items ≡ length r.entries.items) }
-    ensures asks { IfOk result (λ r. AskedByOwners (schema_view schema.now) (λ f. of_member matches f name.now) owners.now
+    ensures asks { IfOk result (λ r. AskedByOwners (schema_view schema.now) (λ f.
+        of_member matches f name.now) owners.now
         r.owners.items r.entries.items) }
 {
     let mut requests = Requests::new(alloc);
@@ -196,7 +210,8 @@ fn add_member(
 ) -> Result<(), Memory>
     requires { length requests.old.owners.items ≡ length requests.old.entries.items }
     ensures len { IsOk result → length requests.new.owners.items ≡ length requests.new.entries.items }
-    ensures asks { IsOk result → AsksMore owner (of_member matches (form_view form.now) name.now) requests.old.owners.items
+    ensures asks { IsOk result → AsksMore owner (of_member matches (form_view form.now)
+        name.now) requests.old.owners.items
         requests.old.entries.items requests.new.owners.items requests.new.entries.items }
 {
     match form {
@@ -215,13 +230,19 @@ fn named_entries(alloc: Global, keywords: &Keywords, name: &Str) -> Result<Vec<u
     let mut found = Vec::new(alloc);
     add_properties(&mut found, &keywords.properties, name)?;
     add_patterns(alloc, &mut found, &keywords.pattern_properties, name)?;
-    if found.is_empty() && let Some(entry) = keywords.additional_properties {
+    if found.is_empty()
+        && let Some(entry) = keywords.additional_properties
+    {
         found.push(entry)?;
     }
     Ok(found)
 }
 
-fn add_properties(found: &mut Vec<u32>, list: &Option<PropertyList>, name: &Str) -> Result<(), Memory>
+fn add_properties(
+    found: &mut Vec<u32>,
+    list: &Option<PropertyList>,
+    name: &Str,
+) -> Result<(), Memory>
     ensures { IsOk result → found.new.items ≡ found.old.items
         ++ lists (of_named (λ n. same_word n name.now)) (option_map (λ ps. map property_view ps) list.now) }
 {
@@ -264,7 +285,12 @@ fn add_patterns(
     }
 }
 
-fn add_matching(alloc: Global, found: &mut Vec<u32>, list: &PatternPropertyList, name: &Str) -> Result<(), Memory>
+fn add_matching(
+    alloc: Global,
+    found: &mut Vec<u32>,
+    list: &PatternPropertyList,
+    name: &Str,
+) -> Result<(), Memory>
     ensures { IsOk result → found.new.items ≡ found.old.items
         ++ of_named (λ t. matches t name.now) (pattern_properties_view list.now) }
 {

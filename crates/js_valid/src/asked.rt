@@ -33,7 +33,8 @@ fn close_one(schema: &Schema, entry: u32, asked: &mut Vec<bool>)
     requires len { length asked.old.items ≡ length (schema_view schema.now) }
     ensures len { length asked.new.items ≡ length (schema_view schema.now) }
     ensures marks { (j : ℕ) → j < length (schema_view schema.now) → flag asked.new.items j
-        ≡ (flag asked.old.items j || (flag asked.old.items entry && is_at j (in_place (form_at (schema_view schema.now) entry)))) }
+        ≡ (flag asked.old.items j || (flag asked.old.items entry && is_at j (in_place (form_at
+        (schema_view schema.now) entry)))) }
 {
     if holds(asked, entry) {
         mark_in_place(asked, schema.form(entry));

@@ -83,14 +83,17 @@ fn fine_list(
     requires plan { IsPlan (schema_view schema.now) order.now }
     requires owners { every (λ o. nat_lt o (length (schema_view schema.now))) owners.now ≡ true }
     ensures { IfOk result (λ fine. FinePart (schema_view schema.now) owners.now fine.items
-        (λ e. parts_list (valid_at (schema_view schema.now)) (form_at (schema_view schema.now) e) (elements (list_view list.now)))) }
+        (λ e. parts_list (valid_at (schema_view schema.now)) (form_at (schema_view schema.now) e) (elements
+        (list_view list.now)))) }
 {
     let mut fine = all_fine(alloc, schema.len())?;
     let mut unmet = all_fine(alloc, schema.len())?;
     let contains = of_contains(alloc, schema, owners)?;
     for (place, child) in list.as_slice().iter().enumerate() {
         let requests = of_element(alloc, schema, owners, place)?;
-        decide_element(alloc, schema, order, child, &requests, &contains, &mut fine, &mut unmet)?;
+        decide_element(
+            alloc, schema, order, child, &requests, &contains, &mut fine, &mut unmet,
+        )?;
     }
     contain(schema, owners, &mut fine, &unmet);
     Ok(fine)
@@ -133,9 +136,11 @@ fn decide_element(
     requires len { length requests.now.owners.items ≡ length requests.now.entries.items }
     requires contains_len { length contains.now.owners.items ≡ length contains.now.entries.items }
     ensures fine { IsOk result → (e : ℕ) → flag fine.new.items e ≡ (flag fine.old.items e
-        && asked_by e (λ q. valid_at (schema_view schema.now) q (view doc.now)) requests.now.owners.items requests.now.entries.items) }
+        && asked_by e (λ q. valid_at (schema_view schema.now) q (view doc.now))
+        requests.now.owners.items requests.now.entries.items) }
     ensures unmet { IsOk result → (e : ℕ) → flag unmet.new.items e ≡ (flag unmet.old.items e
-        && asked_by e (λ q. not (valid_at (schema_view schema.now) q (view doc.now))) contains.now.owners.items contains.now.entries.items) }
+        && asked_by e (λ q. not (valid_at (schema_view schema.now) q (view doc.now)))
+        contains.now.owners.items contains.now.entries.items) }
 {
     let mut entries = Vec::from_slice(alloc, &requests.entries)?;
     entries.extend_from_slice(&contains.entries)?;
@@ -182,7 +187,8 @@ fn decide_part(
     requires plan { IsPlan (schema_view schema.now) order.now }
     requires len { length requests.now.owners.items ≡ length requests.now.entries.items }
     ensures { IsOk result → (e : ℕ) → flag fine.new.items e ≡ (flag fine.old.items e
-        && asked_by e (λ q. valid_at (schema_view schema.now) q (view doc.now)) requests.now.owners.items requests.now.entries.items) }
+        && asked_by e (λ q. valid_at (schema_view schema.now) q (view doc.now))
+        requests.now.owners.items requests.now.entries.items) }
 {
     if requests.entries.is_empty() {
         return Ok(());
@@ -205,7 +211,8 @@ fn decide_name(
     requires plan { IsPlan (schema_view schema.now) order.now }
     requires len { length requests.now.owners.items ≡ length requests.now.entries.items }
     ensures { IsOk result → (e : ℕ) → flag fine.new.items e ≡ (flag fine.old.items e
-        && asked_by e (λ q. valid_at (schema_view schema.now) q (string name.now)) requests.now.owners.items requests.now.entries.items) }
+        && asked_by e (λ q. valid_at (schema_view schema.now) q (string name.now))
+        requests.now.owners.items requests.now.entries.items) }
 {
     if requests.entries.is_empty() {
         return Ok(());

@@ -1,9 +1,9 @@
 //! Whether a document is valid for a schema of draft-06, given as a table of entries.
 //!
-//! `valid` answers `entry_valid` of `draft06` exactly. It goes down the document: at each part the entries that are asked
-//! of it are decided together, each once, those with lesser ranks first, so that shared references and nested choices
-//! cost no more than the entries that they lead to. Neither long chains of references nor repeats in patterns are
-//! recursions; only the document's depth is. The commands that judge documents stand on it.
+//! `valid` answers `entry_valid` of `draft06` exactly. It goes down the document: at each part the entries that are
+//! asked of it are decided together, each once, those with lesser ranks first, so that shared references and nested
+//! choices cost no more than the entries that they lead to. Neither long chains of references nor repeats in patterns
+//! are recursions; only the document's depth is. The commands that judge documents stand on it.
 #![tactic(auto)]
 
 mod ask;
@@ -16,9 +16,9 @@ mod own;
 mod places;
 mod settle;
 mod tables;
+#[cfg(test)]
+mod tests;
 mod walk;
-
-pub use fault::ValidFault;
 
 ghost use Rattle.std.specs.Prelude.{◌≡◌, ◌<◌, true, IfOk, length};
 ghost use Rattle.schemas.specs.Guarded.{edges, are_ranks};
@@ -31,6 +31,7 @@ ghost use Rattle.js_valid.specs.Plan.{IsPlan};
 use crate::decide::verdicts;
 use crate::order::order_of;
 use crate::tables::holds;
+pub use fault::ValidFault;
 use js_doc::{Doc, Memory};
 use js_guard::Ranks;
 use js_schema::Schema;
@@ -39,8 +40,8 @@ use std::alloc::Global;
 /// Whether the document is valid for the root of the schema, entry 0. The ranks are those that `guard` gives.
 ///
 /// Time: at each part of the document the number of entries, and what those that are asked of it look at there; a
-/// pattern costs the nodes of its tree times the length of the text for each round of its repeats. Memory for the entries
-/// at each level of the document.
+/// pattern costs the nodes of its tree times the length of the text for each round of its repeats. Memory for the
+/// entries at each level of the document.
 pub fn valid(alloc: Global, schema: &Schema, ranks: &Ranks, doc: &Doc) -> Result<bool, ValidFault>
     requires { are_ranks (edges (schema_view schema.now)) ranks.now ≡ true }
     ensures { IfOk result (λ b. b ≡ entry_valid matches (schema_view schema.now) 0 (view doc.now)) }

@@ -14,10 +14,17 @@ ghost use Rattle.js_valid.specs.Parts.{flag, own, own_keywords, own_array, own_o
 use crate::found::{is_found, letters};
 use crate::tables::{all_hold, holds, just_one_holds, one_holds};
 use js_doc::{Doc, DocList, DocMap, Memory, Str, StrList, equal};
-use js_schema::{DependencyList, EntryList, Form, Keywords, Needs, PatternText, TypeList, TypeName};
+use js_schema::{
+    DependencyList, EntryList, Form, Keywords, Needs, PatternText, TypeList, TypeName,
+};
 use std::alloc::Global;
 
-pub(crate) fn meets_own(alloc: Global, form: &Form, here: &[bool], doc: &Doc) -> Result<bool, Memory>
+pub(crate) fn meets_own(
+    alloc: Global,
+    form: &Form,
+    here: &[bool],
+    doc: &Doc,
+) -> Result<bool, Memory>
     ensures { IfOk result (λ b. b ≡ own matches (flag here.now) (form_view form.now) (view doc.now)) }
 {
     match form {
@@ -28,7 +35,12 @@ pub(crate) fn meets_own(alloc: Global, form: &Form, here: &[bool], doc: &Doc) ->
     }
 }
 
-fn meets_keywords(alloc: Global, keywords: &Keywords, here: &[bool], doc: &Doc) -> Result<bool, Memory>
+fn meets_keywords(
+    alloc: Global,
+    keywords: &Keywords,
+    here: &[bool],
+    doc: &Doc,
+) -> Result<bool, Memory>
     ensures { IfOk result (λ b. b ≡ own_keywords matches (flag here.now) (keywords_view keywords.now) (view doc.now)) }
 {
     if !meets_any(keywords, here, doc) {
@@ -272,7 +284,8 @@ fn meets_list(keywords: &Keywords, list: &DocList) -> bool
 }
 
 fn meets_members(keywords: &Keywords, here: &[bool], members: &DocMap) -> bool
-    ensures { result ≡ own_object matches (flag here.now) (keywords_view keywords.now) (entries (map_view members.now)) }
+    ensures { result ≡ own_object matches (flag here.now) (keywords_view keywords.now) (entries
+        (map_view members.now)) }
 {
     at_most(members.len(), keywords.max_properties)
         && at_least(members.len(), keywords.min_properties)
@@ -308,7 +321,8 @@ fn has_member(members: &DocMap, name: &Str) -> bool
 
 fn meets_dependencies(list: &Option<DependencyList>, here: &[bool], members: &DocMap) -> bool
     ensures { result ≡ meets (every (λ n. not (has_name n.0 (entries (map_view members.now)))
-        || need_asks (flag here.now) n.1 (entries (map_view members.now)))) (option_map (λ ds. map dependency_view ds) list.now) }
+        || need_asks (flag here.now) n.1 (entries (map_view members.now)))) (option_map
+        (λ ds. map dependency_view ds) list.now) }
 {
     match list {
         None => true,

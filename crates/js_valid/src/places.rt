@@ -11,7 +11,12 @@ use js_pattern::CharSet;
 use std::alloc::Global;
 
 /// The places after one character of the set.
-pub(crate) fn after_one(alloc: Global, set: &CharSet, word: &[char], starts: &[usize]) -> Result<Vec<usize>, Memory>
+pub(crate) fn after_one(
+    alloc: Global,
+    set: &CharSet,
+    word: &[char],
+    starts: &[usize],
+) -> Result<Vec<usize>, Memory>
     ensures { IfOk result (λ found. found.items ≡ flat_map (ends (one_of set.now) word.now) starts.now) }
 {
     let mut found = Vec::new(alloc);
@@ -69,11 +74,17 @@ pub(crate) fn join(alloc: Global, xs: &[usize], ys: &[usize]) -> Result<Vec<usiz
 }
 
 /// Marks places, and gives those that weren't marked.
-pub(crate) fn mark_new(alloc: Global, places: &[usize], marks: &mut Vec<bool>) -> Result<Vec<usize>, Memory>
+pub(crate) fn mark_new(
+    alloc: Global,
+    places: &[usize],
+    marks: &mut Vec<bool>,
+) -> Result<Vec<usize>, Memory>
     requires { every (λ i. nat_lt i (length marks.old.items)) places.now ≡ true }
     ensures len { length marks.new.items ≡ length marks.old.items }
-    ensures marks { IsOk result → (j : ℕ) → marked marks.new.items j ≡ (marked marks.old.items j || is_at j places.now) }
-    ensures fresh { IfOk result (λ new. (j : ℕ) → is_at j new.items ≡ (not (marked marks.old.items j) && is_at j places.now)) }
+    ensures marks { IsOk result → (j : ℕ) → marked marks.new.items j ≡ (marked marks.old.items j
+        || is_at j places.now) }
+    ensures fresh { IfOk result (λ new. (j : ℕ) → is_at j new.items ≡ (not (marked marks.old.items j)
+        && is_at j places.now)) }
     ensures fewer { IfOk result (λ new. length new.items + unmarked marks.new.items ≡ unmarked marks.old.items) }
 {
     let mut fresh = Vec::new(alloc);

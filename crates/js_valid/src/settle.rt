@@ -29,7 +29,8 @@ pub(crate) fn settle(
     requires closed { IsClosed (schema_view schema.now) asked.now }
     requires parts { KnowsParts (schema_view schema.now) asked.now (view doc.now) fine.now }
     ensures len { IfOk result (λ table. length table.items ≡ length (schema_view schema.now)) }
-    ensures verdicts { IfOk result (λ table. KnowsVerdicts (schema_view schema.now) asked.now (view doc.now) table.items) }
+    ensures verdicts { IfOk result (λ table. KnowsVerdicts (schema_view schema.now) asked.now
+        (view doc.now) table.items) }
 {
     let mut table = vec![in alloc; false; schema.len() as usize]?;
     for place in 0..order.len() {
@@ -59,9 +60,16 @@ fn verdict_of(
     Ok(false)
 }
 
-fn own_at(alloc: Global, schema: &Schema, entry: u32, table: &[bool], doc: &Doc) -> Result<bool, Memory>
+fn own_at(
+    alloc: Global,
+    schema: &Schema,
+    entry: u32,
+    table: &[bool],
+    doc: &Doc,
+) -> Result<bool, Memory>
     requires { entry < length (schema_view schema.now) }
-    ensures { IfOk result (λ b. b ≡ own matches (flag table.now) (form_at (schema_view schema.now) entry) (view doc.now)) }
+    ensures { IfOk result (λ b. b ≡ own matches (flag table.now) (form_at (schema_view schema.now) entry)
+        (view doc.now)) }
 {
     meets_own(alloc, schema.form(entry), table, doc)
 }

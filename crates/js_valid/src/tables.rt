@@ -68,7 +68,8 @@ pub(crate) fn tests_of(alloc: Global, table: &[bool], entries: &[u32]) -> Result
 
 pub(crate) fn mark(table: &mut Vec<bool>, entry: u32)
     ensures len { length table.new.items ≡ length table.old.items }
-    ensures marks { (j : ℕ) → j < length table.old.items → flag table.new.items j ≡ (flag table.old.items j || nat_eq entry j) }
+    ensures marks { (j : ℕ) → j < length table.old.items → flag table.new.items j ≡ (flag table.old.items j
+        || nat_eq entry j) }
 {
     let place = entry as usize;
     if place < table.len() {
@@ -126,7 +127,8 @@ pub(crate) fn refuse_all(table: &mut Vec<bool>, owners: &[u32], answers: &[bool]
 pub(crate) fn refuse_none(table: &mut Vec<bool>, owners: &[u32], answers: &[bool])
     requires { length owners.now ≡ length answers.now }
     ensures len { length table.new.items ≡ length table.old.items }
-    ensures value { (j : ℕ) → flag table.new.items j ≡ (flag table.old.items j && answered j owners.now (map not answers.now)) }
+    ensures value { (j : ℕ) → flag table.new.items j ≡ (flag table.old.items j && answered j owners.now
+        (map not answers.now)) }
 {
     for (i, owner) in owners.iter().enumerate() {
         refuse(table, *owner, !answers[i]);

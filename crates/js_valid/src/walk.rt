@@ -17,7 +17,12 @@ use js_pattern::{CharSet, Re, ReList};
 use std::alloc::Global;
 
 #[cycle(walk)]
-pub(crate) fn walk(alloc: Global, re: &Re, word: &[char], starts: &[usize]) -> Result<Vec<usize>, Memory>
+pub(crate) fn walk(
+    alloc: Global,
+    re: &Re,
+    word: &[char],
+    starts: &[usize],
+) -> Result<Vec<usize>, Memory>
     requires places { are_within (length word.now) starts.now ≡ true }
     requires short { length word.now + 1 < 2 ^ 63 }
     ensures leads { IfOk result (λ ends. Leads (Matches (view re.now) word.now) starts.now ends.items) }
@@ -34,7 +39,12 @@ pub(crate) fn walk(alloc: Global, re: &Re, word: &[char], starts: &[usize]) -> R
     }
 }
 
-fn walk_one(alloc: Global, set: &CharSet, word: &[char], starts: &[usize]) -> Result<Vec<usize>, Memory>
+fn walk_one(
+    alloc: Global,
+    set: &CharSet,
+    word: &[char],
+    starts: &[usize],
+) -> Result<Vec<usize>, Memory>
     requires { are_within (length word.now) starts.now ≡ true }
     ensures leads { IfOk result (λ ends. Leads (Matches (one_of set.now) word.now) starts.now ends.items) }
     ensures within { IfOk result (λ ends. are_within (length word.now) ends.items ≡ true) }
@@ -54,7 +64,8 @@ fn walk_repeat(
 ) -> Result<Vec<usize>, Memory>
     requires places { are_within (length word.now) starts.now ≡ true }
     requires short { length word.now + 1 < 2 ^ 63 }
-    ensures leads { IfOk result (λ ends. Leads (Matches (repeated (view re.now) low high) word.now) starts.now ends.items) }
+    ensures leads { IfOk result (λ ends. Leads (Matches (repeated (view re.now) low high)
+        word.now) starts.now ends.items) }
     ensures within { IfOk result (λ ends. are_within (length word.now) ends.items ≡ true) }
 {
     let after = walk_times(alloc, re, word, starts, low)?;
@@ -67,7 +78,12 @@ fn walk_repeat(
 
 /// One tree after another.
 #[cycle(walk)]
-fn walk_in_turn(alloc: Global, list: &ReList, word: &[char], starts: &[usize]) -> Result<Vec<usize>, Memory>
+fn walk_in_turn(
+    alloc: Global,
+    list: &ReList,
+    word: &[char],
+    starts: &[usize],
+) -> Result<Vec<usize>, Memory>
     requires places { are_within (length word.now) starts.now ≡ true }
     requires short { length word.now + 1 < 2 ^ 63 }
     ensures leads { IfOk result (λ ends. Leads (MatchesInTurn (list_view list.now) word.now) starts.now ends.items) }
@@ -82,7 +98,12 @@ fn walk_in_turn(alloc: Global, list: &ReList, word: &[char], starts: &[usize]) -
 
 /// One tree or another.
 #[cycle(walk)]
-fn walk_either(alloc: Global, list: &ReList, word: &[char], starts: &[usize]) -> Result<Vec<usize>, Memory>
+fn walk_either(
+    alloc: Global,
+    list: &ReList,
+    word: &[char],
+    starts: &[usize],
+) -> Result<Vec<usize>, Memory>
     requires places { are_within (length word.now) starts.now ≡ true }
     requires short { length word.now + 1 < 2 ^ 63 }
     ensures leads { IfOk result (λ ends. Leads (MatchesOne (list_view list.now) word.now) starts.now ends.items) }
@@ -98,7 +119,13 @@ fn walk_either(alloc: Global, list: &ReList, word: &[char], starts: &[usize]) ->
 
 /// The tree so often.
 #[cycle(walk)]
-fn walk_times(alloc: Global, re: &Re, word: &[char], starts: &[usize], times: u32) -> Result<Vec<usize>, Memory>
+fn walk_times(
+    alloc: Global,
+    re: &Re,
+    word: &[char],
+    starts: &[usize],
+    times: u32,
+) -> Result<Vec<usize>, Memory>
     requires places { are_within (length word.now) starts.now ≡ true }
     requires short { length word.now + 1 < 2 ^ 63 }
     ensures leads { IfOk result (λ ends. Leads (Repeats (Matches (view re.now) word.now) times) starts.now ends.items) }
@@ -117,7 +144,13 @@ fn walk_times(alloc: Global, re: &Re, word: &[char], starts: &[usize], times: u3
 
 /// The tree any number of times, up to `most`.
 #[cycle(walk)]
-fn walk_more(alloc: Global, re: &Re, word: &[char], starts: &[usize], most: Option<u32>) -> Result<Vec<usize>, Memory>
+fn walk_more(
+    alloc: Global,
+    re: &Re,
+    word: &[char],
+    starts: &[usize],
+    most: Option<u32>,
+) -> Result<Vec<usize>, Memory>
     requires places { are_within (length word.now) starts.now ≡ true }
     requires short { length word.now + 1 < 2 ^ 63 }
     ensures leads { IfOk result (λ ends. Leads (More (Matches (view re.now) word.now) most) starts.now ends.items) }

@@ -1,4 +1,4 @@
-use Rattle.std.proofs.Common.{rules, ◌≡◌, ◌<◌, ◌^◌, length, sym, ap, subst, ◌∙◌, arith}
+use Rattle.std.proofs.Common.{rules, ◌<◌, length, sym, ap, subst, ◌∙◌, arith}
 use Rattle.schemas.specs.Guarded.{edges}
 use Rattle.schema_laws.proofs.Ranks.{are_ranks-length}
 use Rattle.js_schema.specs.SchemaView.{schema_view}
@@ -25,5 +25,6 @@ is_root_met-requires c =
     let same = are_ranks-length (edges (schema_view c.args.schema.now)) c.args.ranks.now c.requires in
     let edge = edges-length (schema_view c.args.schema.now) in
     subst (IsPlan (schema_view c.args.schema.now)) (sym c.deref-2.ensures.value)
-    (plan-of (schema_view c.args.schema.now) c.deref.result.now c.in_ok-order.order.items c.len.ensures.table (search (rules, listed))
+    (plan-of (schema_view c.args.schema.now) c.deref.result.now c.in_ok-order.order.items c.len.ensures.table (search
+    (rules, listed))
     (ap length listed ∙ same ∙ edge) c.in_ok-order.ensures.all c.in_ok-order.ensures.only c.in_ok-order.ensures.rises)

@@ -8,5 +8,6 @@ invariant-loop-entry l = record {
   len : length l.requests.owners.items ≡ length l.requests.entries.items;
   asks : (e : ℕ) (p : ℕ → Bool) → (asked_by e p l.requests.owners.items l.requests.entries.items
       && (not (nat_eq l.owner e) || every p (drop l.entry-index l.entries)))
-      ≡ (asked_by e p l.fn.requests.owners.items l.fn.requests.entries.items && (not (nat_eq l.owner e) || every p l.entries));
+      ≡ (asked_by e p l.fn.requests.owners.items l.fn.requests.entries.items && (not (nat_eq l.owner e)
+      || every p l.entries));
 }

@@ -1,7 +1,6 @@
 use Rattle.std.proofs.Common.{◌≡◌, ◌++◌, map, drop}
 use Rattle.documents.specs.Tests.{same_word}
-use Rattle.js_schema.specs.View.{property_view, pattern_property_view}
-use Rattle.js_valid.specs.Matching.{matches}
+use Rattle.js_schema.specs.View.{property_view}
 use Rattle.js_valid.specs.Parts.{of_named}
 use Rattle.js_valid.proofs.ask.add_named.Given as goal
 

@@ -1,4 +1,4 @@
-use Rattle.std.proofs.Common.{rules, ◌≡◌, arith, ◌∙◌, ap, sym}
+use Rattle.std.proofs.Common.{arith, ◌∙◌, ap}
 use Rattle.schemas.specs.Schema.{lists, one}
 use Rattle.js_valid.specs.Parts.{of_listed}
 use Rattle.js_valid.proofs.RequestLaws.{of_listed-at, of_listed-past}
@@ -11,5 +11,6 @@ returns-then-place-entries c =
 
 pub returns : goal.returns
 returns c =
-    of_listed-past c.as_slice-entries.result.now (lists one c.args.rest) c.args.place (omega (arith, c.if-place-entries.false))
+    of_listed-past c.as_slice-entries.result.now (lists one c.args.rest) c.args.place (omega
+    (arith, c.if-place-entries.false))
     ∙ ap (λ es. of_listed es (lists one c.args.rest) c.args.place) c.as_slice-entries.ensures

@@ -1,7 +1,6 @@
 use Rattle.std.proofs.Common.{rules, get_or}
 use Rattle.js_schema.specs.View.{form_view}
 use Rattle.js_schema.specs.SchemaView.{schema_view}
-use Rattle.js_valid.specs.Matching.{matches}
 use Rattle.js_valid.specs.Parts.{of_contains}
 use Rattle.js_valid.proofs.PlanLaws.{form_at-get}
 use Rattle.js_valid.proofs.RequestLaws.{owner_next, owner_below}
@@ -10,8 +9,8 @@ use Rattle.js_valid.proofs.ask.of_contains.Goals as goal
 pub loop-owner-preserved : goal.loop-owner-preserved
 loop-owner-preserved c =
     let form = form_at-get (schema_view c.args.schema.now) (get_or c.args.owners.now c.loop-owner.owner-index 0)
-        (form_view c.form.result.now)
-        (owner_below _ c.args.owners.now c.loop-owner.owner-index c.requires c.loop-owner-test.true) c.form.ensures in
+    (form_view c.form.result.now)
+    (owner_below _ c.args.owners.now c.loop-owner.owner-index c.requires c.loop-owner-test.true) c.form.ensures in
     record {
       len = search rules;
       asks = owner_next (schema_view c.args.schema.now) of_contains c.args.owners.now c.loop-owner.owner-index

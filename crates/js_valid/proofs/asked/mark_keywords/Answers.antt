@@ -1,4 +1,4 @@
-use Rattle.std.proofs.Common.{◌<◌, length, arith}
+use Rattle.std.proofs.Common.{arith}
 use Rattle.js_valid.proofs.PlanLaws.{marks_after}
 use Rattle.js_valid.proofs.asked.mark_keywords.Goals as goal
 
@@ -8,7 +8,14 @@ returns-clause-marks c j h =
     let m2 = c.mark_list-2.ensures.marks j (omega (arith, h, c.mark_list.ensures.len)) in
     let m3 = c.mark_list-3.ensures.marks j (omega (arith, h, c.mark_list.ensures.len, c.mark_list-2.ensures.len)) in
     let m4 = c.mark_option.ensures.marks j
-        (omega (arith, h, c.mark_list.ensures.len, c.mark_list-2.ensures.len, c.mark_list-3.ensures.len)) in
+    (omega (arith, h, c.mark_list.ensures.len, c.mark_list-2.ensures.len, c.mark_list-3.ensures.len)) in
     let m5 = c.mark_dependencies.ensures.marks j
-        (omega (arith, h, c.mark_list.ensures.len, c.mark_list-2.ensures.len, c.mark_list-3.ensures.len, c.mark_option.ensures.len)) in
+    (omega (
+      arith,
+      h,
+      c.mark_list.ensures.len,
+      c.mark_list-2.ensures.len,
+      c.mark_list-3.ensures.len,
+      c.mark_option.ensures.len,
+    )) in
     marks_after j _ _ _ _ _ (marks_after j _ _ _ _ _ (marks_after j _ _ _ _ _ (marks_after j _ _ _ _ _ m1 m2) m3) m4) m5

@@ -1,15 +1,15 @@
-use Rattle.std.proofs.Common.{rules, ◌≡◌, ℕ, ◌<◌, ◌+◌, ◌&&◌, ◌||◌, not, nat_eq, true, map, take, drop, length, List, ◌++◌, refl, sym, ap, subst, ◌∙◌, arith}
+use Rattle.std.proofs.Common.{rules, ◌≡◌, ◌&&◌, not, map, refl, sym, ap, ◌∙◌, arith}
 use Rattle.documents.specs.Tests.{every}
-use Rattle.documents.specs.Document.{string, elements, entries, depth}
+use Rattle.documents.specs.Document.{string, depth}
 use Rattle.schemas.specs.Schema.{meets}
 use Rattle.draft06.specs.EntryValidity.{form_at}
 use Rattle.js_doc.specs.View.{view, list_view, map_view, member_view}
 use Rattle.js_doc.proofs.Levels.{elements-of, entries-of}
 use Rattle.js_schema.specs.SchemaView.{schema_view}
 use Rattle.js_valid.specs.Matching.{matches}
-use Rattle.js_valid.specs.Parts.{flag, asked_by, answered, parts, of_element, of_contains, of_member, of_name}
+use Rattle.js_valid.specs.Parts.{flag, asked_by, of_element, of_contains, of_member, of_name}
 use Rattle.js_valid.specs.Plan.{valid_at}
-use Rattle.js_valid.specs.Requests.{contained, parts_list, parts_members, each_at}
+use Rattle.js_valid.specs.Requests.{contained, parts_list, parts_members}
 use Rattle.js_valid.proofs.LeadsLaws.{or_right_true}
 use Rattle.js_valid.proofs.WalkLaws as W
 use Rattle.js_valid.proofs.DecideLaws as D
@@ -24,7 +24,8 @@ decide_element-returns-clause-fine t c h e =
     (D.front-asked e (λ q. valid_at (schema_view c.args.schema.now) q (view c.args.doc.now)) _
     c.args.requests.now.entries.items c.args.contains.now.entries.items c.extend_from_slice.new.self.items
     c.in_ok-answers.answers.items c.split_at.result.0.now (search rules) (search rules) (search rules))
-    ∙ ap (λ os. flag c.args.fine.now.items e && asked_by e (λ q. valid_at (schema_view c.args.schema.now) q (view c.args.doc.now)) os
+    ∙ ap (λ os. flag c.args.fine.now.items e && asked_by e (λ q. valid_at (schema_view c.args.schema.now) q
+    (view c.args.doc.now)) os
     c.args.requests.now.entries.items) c.deref-4.ensures.value
 
 pub decide_element-returns-clause-unmet : goal.decide_element-returns-clause-unmet
@@ -34,30 +35,31 @@ decide_element-returns-clause-unmet t c h e =
     (D.back-asked e (λ q. valid_at (schema_view c.args.schema.now) q (view c.args.doc.now)) _
     c.args.requests.now.entries.items c.args.contains.now.entries.items c.extend_from_slice.new.self.items
     c.in_ok-answers.answers.items c.split_at.result.1.now (search rules) (search rules) (search rules))
-    ∙ ap (λ os. flag c.args.unmet.now.items e && asked_by e (λ q. not (valid_at (schema_view c.args.schema.now) q (view c.args.doc.now))) os
+    ∙ ap (λ os. flag c.args.unmet.now.items e && asked_by e (λ q. not (valid_at (schema_view c.args.schema.now) q
+    (view c.args.doc.now))) os
     c.args.contains.now.entries.items) c.deref-5.ensures.value
 
 pub decide_name-returns : goal.decide_name-returns
 decide_name-returns t c h e =
     let answers : c.deref-3.result.now ≡ map (λ q. valid_at (schema_view c.args.schema.now) q (string c.args.name.now))
-        c.args.requests.now.entries.items = (
-      c.deref-3.ensures.value ∙ c.in_ok-answers.ensures
-      ∙ ap (λ d. map (λ q. valid_at (schema_view c.args.schema.now) q d) c.deref.result.now)
-      (ap (λ w. view (C.Text w)) c.in_ok-copy.ensures ∙ view-Text c.args.name.now)
-      ∙ ap (map (λ q. valid_at (schema_view c.args.schema.now) q (string c.args.name.now))) c.deref.ensures.value
+    c.args.requests.now.entries.items = (
+    c.deref-3.ensures.value ∙ c.in_ok-answers.ensures
+    ∙ ap (λ d. map (λ q. valid_at (schema_view c.args.schema.now) q d) c.deref.result.now)
+    (ap (λ w. view (C.Text w)) c.in_ok-copy.ensures ∙ view-Text c.args.name.now)
+    ∙ ap (map (λ q. valid_at (schema_view c.args.schema.now) q (string c.args.name.now))) c.deref.ensures.value
     ) in
     let value = c.refuse_all.ensures.value e in
     let asked = D.answers-asked e (λ q. valid_at (schema_view c.args.schema.now) q (string c.args.name.now))
-        c.deref-2.result.now c.args.requests.now.entries.items c.deref-3.result.now answers in
+    c.deref-2.result.now c.args.requests.now.entries.items c.deref-3.result.now answers in
     search (rules, value, asked)
 
 pub decide_part-returns : goal.decide_part-returns
 decide_part-returns t c h e =
     let answers : c.deref-3.result.now ≡ map (λ q. valid_at (schema_view c.args.schema.now) q (view c.args.doc.now))
-        c.args.requests.now.entries.items = search rules in
+    c.args.requests.now.entries.items = search rules in
     let value = c.refuse_all.ensures.value e in
     let asked = D.answers-asked e (λ q. valid_at (schema_view c.args.schema.now) q (view c.args.doc.now))
-        c.deref-2.result.now c.args.requests.now.entries.items c.deref-3.result.now answers in
+    c.deref-2.result.now c.args.requests.now.entries.items c.deref-3.result.now answers in
     search (rules, value, asked)
 
 pub fine_list-loop-place-init : goal.fine_list-loop-place-init
@@ -83,7 +85,8 @@ pub fine_list-loop-place-preserved : goal.fine_list-loop-place-preserved
 fine_list-loop-place-preserved t c = record {
   fine = λ e h. D.step_each view (λ i d. every (λ q. valid_at (schema_view c.args.schema.now) q d)
       (of_element (form_at (schema_view c.args.schema.now) e) i)) c.as_slice-child-items.result.now c.loop-place.place
-      c.child-item.result (flag c.loop-place.fine.items e) (flag c.decide_element.new.fine.items e) _ c.loop-place-test.true
+      c.child-item.result (flag c.loop-place.fine.items e) (flag
+      c.decide_element.new.fine.items e) _ c.loop-place-test.true
       c.child-item.is
       (c.in_ok-decide_element.ensures.fine refl e ∙ ap (λ b. flag c.loop-place.fine.items e && b)
       (D.requests-ask (schema_view c.args.schema.now) (λ f. of_element f c.loop-place.place) c.args.owners.now
@@ -92,12 +95,14 @@ fine_list-loop-place-preserved t c = record {
       (c.loop-place.invariant.fine e h);
   unmet = λ e h. D.step_every view (λ d. every (λ q. not (valid_at (schema_view c.args.schema.now) q d))
       (of_contains (form_at (schema_view c.args.schema.now) e))) c.as_slice-child-items.result.now c.loop-place.place
-      c.child-item.result (flag c.loop-place.unmet.items e) (flag c.decide_element.new.unmet.items e) _ c.loop-place-test.true
+      c.child-item.result (flag c.loop-place.unmet.items e) (flag
+      c.decide_element.new.unmet.items e) _ c.loop-place-test.true
       c.child-item.is
       (c.in_ok-decide_element.ensures.unmet refl e ∙ ap (λ b. flag c.loop-place.unmet.items e && b)
       (D.requests-ask (schema_view c.args.schema.now) of_contains c.args.owners.now
       c.in_ok-contains.contains.owners.items c.in_ok-contains.contains.entries.items e
-      (λ q. not (valid_at (schema_view c.args.schema.now) q (view c.child-item.result))) c.in_ok-contains.ensures.asks h))
+      (λ q. not (valid_at (schema_view c.args.schema.now) q (view c.child-item.result)))
+      c.in_ok-contains.ensures.asks h))
       (c.loop-place.invariant.unmet e h);
 }
 
@@ -106,11 +111,11 @@ fine_list-returns t c e h =
     let es = elements-of _ _ c.as_slice-child-items.ensures.view in
     let unmet : c.deref.result.now ≡ c.loop-place.unmet.items = search rules in
     let fine = D.end_each view (λ i d. every (λ q. valid_at (schema_view c.args.schema.now) q d)
-        (of_element (form_at (schema_view c.args.schema.now) e) i)) c.as_slice-child-items.result.now c.loop-place.place
-        (flag c.loop-place.fine.items e) _ (omega (arith, c.loop-place-test.false)) (c.loop-place.invariant.fine e h) in
+    (of_element (form_at (schema_view c.args.schema.now) e) i)) c.as_slice-child-items.result.now c.loop-place.place
+    (flag c.loop-place.fine.items e) _ (omega (arith, c.loop-place-test.false)) (c.loop-place.invariant.fine e h) in
     let none = D.end_every view (λ d. every (λ q. not (valid_at (schema_view c.args.schema.now) q d))
-        (of_contains (form_at (schema_view c.args.schema.now) e))) c.as_slice-child-items.result.now c.loop-place.place
-        (flag c.loop-place.unmet.items e) _ (omega (arith, c.loop-place-test.false)) (c.loop-place.invariant.unmet e h) in
+    (of_contains (form_at (schema_view c.args.schema.now) e))) c.as_slice-child-items.result.now c.loop-place.place
+    (flag c.loop-place.unmet.items e) _ (omega (arith, c.loop-place-test.false)) (c.loop-place.invariant.unmet e h) in
     c.contain.ensures e
     ∙ ap (λ b. flag c.loop-place.fine.items e && b) (D.owner_one (λ o. meets (λ q. not (flag c.deref.result.now o))
     (contained (form_at (schema_view c.args.schema.now) o))) e c.args.owners.now h
@@ -141,24 +146,29 @@ fine_members-loop-member-preserved t c e h =
     let name = c.name.ensures.view in
     let value = c.value.ensures.view in
     let again = c.name-in-loop-member.ensures.view in
-    let part = D.requests-ask (schema_view c.args.schema.now) (λ f. of_member matches f c.name.result.now) c.args.owners.now
-        c.in_ok-requests.requests.owners.items c.in_ok-requests.requests.entries.items e
-        (λ q. valid_at (schema_view c.args.schema.now) q (view c.value.result.now)) c.in_ok-requests.ensures.asks h
-        ∙ ap (λ d. every (λ q. valid_at (schema_view c.args.schema.now) q d)
-        (of_member matches (form_at (schema_view c.args.schema.now) e) c.name.result.now)) value
-        ∙ ap (λ w. every (λ q. valid_at (schema_view c.args.schema.now) q (member_view c.member-item.result).1)
-        (of_member matches (form_at (schema_view c.args.schema.now) e) w)) name in
+    let part = D.requests-ask (schema_view c.args.schema.now) (λ f. of_member matches f
+    c.name.result.now) c.args.owners.now
+    c.in_ok-requests.requests.owners.items c.in_ok-requests.requests.entries.items e
+    (λ q. valid_at (schema_view c.args.schema.now) q (view c.value.result.now)) c.in_ok-requests.ensures.asks h
+    ∙ ap (λ d. every (λ q. valid_at (schema_view c.args.schema.now) q d)
+    (of_member matches (form_at (schema_view c.args.schema.now) e) c.name.result.now)) value
+    ∙ ap (λ w. every (λ q. valid_at (schema_view c.args.schema.now) q (member_view c.member-item.result).1)
+    (of_member matches (form_at (schema_view c.args.schema.now) e) w)) name in
     let word = D.requests-ask (schema_view c.args.schema.now) of_name c.args.owners.now
-        c.in_ok-names.names.owners.items c.in_ok-names.names.entries.items e
-        (λ q. valid_at (schema_view c.args.schema.now) q (string c.name-in-loop-member.result.now)) c.in_ok-names.ensures.asks h
-        ∙ ap (λ w. every (λ q. valid_at (schema_view c.args.schema.now) q (string w))
-        (of_name (form_at (schema_view c.args.schema.now) e))) again in
+    c.in_ok-names.names.owners.items c.in_ok-names.names.entries.items e
+    (λ q. valid_at (schema_view c.args.schema.now) q (string
+    c.name-in-loop-member.result.now)) c.in_ok-names.ensures.asks h
+    ∙ ap (λ w. every (λ q. valid_at (schema_view c.args.schema.now) q (string w))
+    (of_name (form_at (schema_view c.args.schema.now) e))) again in
     D.step_every member_view (λ m. every (λ q. valid_at (schema_view c.args.schema.now) q m.1)
-    (of_member matches (form_at (schema_view c.args.schema.now) e) m.0) && every (λ q. valid_at (schema_view c.args.schema.now) q (string m.0))
+    (of_member matches (form_at (schema_view c.args.schema.now) e) m.0) && every (λ q. valid_at
+    (schema_view c.args.schema.now) q (string m.0))
     (of_name (form_at (schema_view c.args.schema.now) e))) c.as_slice-member-items.result.now c.loop-member.member-index
-    c.member-item.result (flag c.loop-member.fine.items e) (flag c.decide_name.new.fine.items e) _ c.loop-member-test.true
+    c.member-item.result (flag c.loop-member.fine.items e) (flag
+    c.decide_name.new.fine.items e) _ c.loop-member-test.true
     c.member-item.is
-    (D.two-asked (flag c.loop-member.fine.items e) (flag c.decide_part.new.fine.items e) (flag c.decide_name.new.fine.items e) _ _
+    (D.two-asked (flag c.loop-member.fine.items e) (flag c.decide_part.new.fine.items e)
+    (flag c.decide_name.new.fine.items e) _ _
     (c.in_ok-decide_part.ensures refl e ∙ ap (λ b. flag c.loop-member.fine.items e && b) part)
     (c.in_ok-decide_name.ensures refl e ∙ ap (λ b. flag c.decide_part.new.fine.items e && b) word))
     (c.loop-member.invariant e h)
@@ -167,12 +177,14 @@ pub fine_members-returns : goal.fine_members-returns
 fine_members-returns t c e h =
     let ms = entries-of _ _ c.as_slice-member-items.ensures.view in
     D.end_every member_view (λ m. every (λ q. valid_at (schema_view c.args.schema.now) q m.1)
-    (of_member matches (form_at (schema_view c.args.schema.now) e) m.0) && every (λ q. valid_at (schema_view c.args.schema.now) q (string m.0))
+    (of_member matches (form_at (schema_view c.args.schema.now) e) m.0) && every (λ q. valid_at
+    (schema_view c.args.schema.now) q (string m.0))
     (of_name (form_at (schema_view c.args.schema.now) e))) c.as_slice-member-items.result.now c.loop-member.member-index
     (flag c.loop-member.fine.items e) _ (omega (arith, c.loop-member-test.false)) (c.loop-member.invariant e h)
     ∙ D.members-done (valid_at (schema_view c.args.schema.now)) (form_at (schema_view c.args.schema.now) e)
     (map member_view c.as_slice-member-items.result.now)
-    ∙ ap (parts_members matches (valid_at (schema_view c.args.schema.now)) (form_at (schema_view c.args.schema.now) e)) (sym ms)
+    ∙ ap (parts_members matches (valid_at (schema_view c.args.schema.now)) (form_at
+    (schema_view c.args.schema.now) e)) (sym ms)
 
 pub verdicts-fine_parts-requires : goal.verdicts-fine_parts-requires
 verdicts-fine_parts-requires t c = (
@@ -184,9 +196,11 @@ pub verdicts-returns : goal.verdicts-returns
 verdicts-returns t c =
     W.ok_then c.tests_of.result _ _ (λ vs e.
     e ∙ ap (λ bs. map (flag bs) c.args.entries.now) c.deref-5.ensures.value
-    ∙ D.verdicts-of (schema_view c.args.schema.now) c.args.order.now c.requires (view c.args.doc.now) c.close.new.asked.items
+    ∙ D.verdicts-of (schema_view c.args.schema.now) c.args.order.now c.requires (view
+    c.args.doc.now) c.close.new.asked.items
     c.in_ok-table.table.items c.args.entries.now c.close.ensures.len c.in_ok-table.ensures.len (search rules)
-    (λ q l h. c.close.ensures.keeps q (c.mark_all.ensures.marks q (search rules) ∙ or_right_true _ _ h))) c.tests_of.ensures
+    (λ q l h. c.close.ensures.keeps q (c.mark_all.ensures.marks q (search rules) ∙
+    or_right_true _ _ h))) c.tests_of.ensures
 
 pub fine_parts-returns-in_default : goal.fine_parts-returns-in_default
 fine_parts-returns-in_default t c =

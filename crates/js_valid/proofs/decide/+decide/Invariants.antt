@@ -1,4 +1,4 @@
-use Rattle.std.proofs.Common.{◌≡◌, ℕ, ◌+◌, ◌*◌, ◌&&◌, not, true, map, drop, length}
+use Rattle.std.proofs.Common.{◌≡◌, ℕ, ◌+◌, ◌*◌, ◌&&◌, not, true, map, drop}
 use Rattle.documents.specs.Tests.{every}
 use Rattle.documents.specs.Document.{depth, items_depth, members_depth, string}
 use Rattle.draft06.specs.EntryValidity.{form_at}
@@ -51,8 +51,10 @@ abbrev pub invariant-fine_members-loop-member : goal.invariant-fine_members-loop
 invariant-fine_members-loop-member l =
     (e : ℕ) → is_at e l.owners ≡ true
     → (flag l.fine.items e && every (λ m. every (λ q. valid_at (schema_view l.schema) q m.1)
-    (of_member matches (form_at (schema_view l.schema) e) m.0) && every (λ q. valid_at (schema_view l.schema) q (string m.0))
+    (of_member matches (form_at (schema_view l.schema) e) m.0) && every (λ q. valid_at (schema_view l.schema) q
+    (string m.0))
     (of_name (form_at (schema_view l.schema) e))) (map member_view (drop l.member-index l.member-items)))
     ≡ every (λ m. every (λ q. valid_at (schema_view l.schema) q m.1)
-    (of_member matches (form_at (schema_view l.schema) e) m.0) && every (λ q. valid_at (schema_view l.schema) q (string m.0))
+    (of_member matches (form_at (schema_view l.schema) e) m.0) && every (λ q. valid_at (schema_view l.schema) q
+    (string m.0))
     (of_name (form_at (schema_view l.schema) e))) (map member_view l.member-items)

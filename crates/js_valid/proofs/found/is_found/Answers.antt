@@ -1,4 +1,4 @@
-use Rattle.std.proofs.Common.{rules, ◌≡◌, chars, ◌∙◌, ap}
+use Rattle.std.proofs.Common.{rules, ◌≡◌, ◌∙◌, ap}
 use Rattle.patterns.specs.Decision.{finds}
 use Rattle.js_pattern.specs.View.{view}
 use Rattle.js_schema.specs.Patterns.{source_of}

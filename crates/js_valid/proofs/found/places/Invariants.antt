@@ -1,5 +1,4 @@
-use Rattle.std.proofs.Common.{◌≡◌, ℕ, nat_lt, true}
-use Rattle.documents.specs.Tests.{every}
+use Rattle.std.proofs.Common.{◌≡◌, ℕ, nat_lt}
 use Rattle.js_valid.specs.Places.{is_at}
 use Rattle.js_valid.proofs.found.places.Given as goal
 

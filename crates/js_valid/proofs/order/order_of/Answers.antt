@@ -1,4 +1,4 @@
-use Rattle.std.proofs.Common.{rules, ◌≡◌, ◌<◌, ◌≤◌, ℕ, List, IfOk, get_or, length, subst, sym}
+use Rattle.std.proofs.Common.{rules, ◌<◌, ◌≤◌, ℕ, List, get_or, length, subst, sym}
 use Rattle.std.specs.List.{Contains}
 use Rattle.std.specs.List.Sorted.{IsSortedByKey}
 use Rattle.std.specs.Ordering.{nat_cmp}

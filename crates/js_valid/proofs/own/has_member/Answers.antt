@@ -1,4 +1,4 @@
-use Rattle.std.proofs.Common.{rules, ◌≡◌, is_some, sym, ap, ◌∙◌, chars}
+use Rattle.std.proofs.Common.{is_some, sym, ap, ◌∙◌}
 use Rattle.documents.specs.Document.{lookup}
 use Rattle.js_doc.specs.View.{view, map_view}
 use Rattle.js_valid.proofs.SameLaws.{has_name-lookup, is_some-mapped}

@@ -11,6 +11,7 @@ use Rattle.js_valid.proofs.own.meets_each_dependency.Given as goal
 abbrev pub invariant-loop-dependency : goal.invariant-loop-dependency
 invariant-loop-dependency l =
     every (λ n. not (has_name n.0 (entries (map_view l.members)))
-    || need_asks (flag l.here) n.1 (entries (map_view l.members))) (map dependency_view (drop l.dependency-index l.dependency-items))
+    || need_asks (flag l.here) n.1 (entries (map_view l.members))) (map dependency_view
+    (drop l.dependency-index l.dependency-items))
     ≡ every (λ n. not (has_name n.0 (entries (map_view l.members)))
     || need_asks (flag l.here) n.1 (entries (map_view l.members))) (map dependency_view l.dependency-items)

@@ -1,5 +1,5 @@
-use Rattle.std.proofs.Common.{rules, ◌≡◌, ◌+◌, false, length, arith}
-use Rattle.js_valid.specs.Places.{marked, unmarked}
+use Rattle.std.proofs.Common.{rules, ◌≡◌, false, arith}
+use Rattle.js_valid.specs.Places.{marked}
 use Rattle.js_valid.proofs.Marks.{unmarked-set}
 use Rattle.js_valid.proofs.places.mark_one.Goals as goal
 

@@ -1,7 +1,6 @@
 use Rattle.std.proofs.Common.{◌≡◌, length}
 use Rattle.js_doc.specs.View.{view}
 use Rattle.js_schema.specs.SchemaView.{schema_view}
-use Rattle.js_valid.specs.Plan.{IsPlan}
 use Rattle.js_valid.proofs.Settled.{Known}
 use Rattle.js_valid.proofs.settle.settle.Given as goal
 

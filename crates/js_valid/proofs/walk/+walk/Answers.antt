@@ -1,8 +1,8 @@
-use Rattle.std.proofs.Common.{rules, ◌≡◌, map, ◌+◌, ◌<◌, ◌⊎◌, inl, inr, false, not, [], None, Some, length, replicate, refl, sym, ap, subst, ◌∙◌, arith}
-use Rattle.patterns.specs.Tree.{one_of, trees_of, repeated}
+use Rattle.std.proofs.Common.{rules, ◌≡◌, map, ◌+◌, false, not, Some, length, replicate, sym, ap, subst, arith}
+use Rattle.patterns.specs.Tree.{trees_of, repeated}
 use Rattle.patterns.specs.Match.{Matches, MatchesInTurn, MatchesOne, Repeats}
-use Rattle.js_pattern.specs.View.{view, list_view}
-use Rattle.js_valid.specs.Places.{Leads, More, are_within, marked, nodes, list_nodes}
+use Rattle.js_pattern.specs.View.{view}
+use Rattle.js_valid.specs.Places.{Leads, marked, list_nodes}
 use Rattle.js_valid.proofs.LeadsLaws as L
 use Rattle.js_valid.proofs.Rounds as R
 use Rattle.js_valid.proofs.WalkLaws as W
@@ -35,12 +35,14 @@ walk_in_turn-loop-re-preserved t c = record {
   within = c.in_ok-places-2.ensures.within;
   rest = W.in_turn_next c.args.word.now c.args.starts.now c.as_slice-re-items.result.now
       (λ ends. Leads (MatchesInTurn (trees_of (map view c.as_slice-re-items.result.now)) c.args.word.now)
-      c.args.starts.now ends) c.loop-re.re-index c.re-item.result _ _ c.loop-re-test.true c.re-item.is (search rules) c.loop-re.invariant.rest;
+      c.args.starts.now ends) c.loop-re.re-index c.re-item.result _ _ c.loop-re-test.true c.re-item.is
+      (search rules) c.loop-re.invariant.rest;
 }
 
 pub walk_either-loop-re-preserved : goal.walk_either-loop-re-preserved
 walk_either-loop-re-preserved t c = record {
-  within = W.within_both _ c.loop-re.found.items c.in_ok-ends.ends.items c.in_ok-found.found.items c.loop-re.invariant.within
+  within = W.within_both _ c.loop-re.found.items c.in_ok-ends.ends.items
+      c.in_ok-found.found.items c.loop-re.invariant.within
       c.in_ok-ends.ensures.within (search rules);
   rest = W.either_next c.args.word.now c.args.starts.now c.as_slice-re-items.result.now
       (MatchesOne (trees_of (map view c.as_slice-re-items.result.now)) c.args.word.now)
@@ -89,14 +91,18 @@ pub walk_times-returns-clause-leads : goal.walk_times-returns-clause-leads
 walk_times-returns-clause-leads t c =
     W.times_done (Matches (view c.args.re.now) c.args.word.now)
     (λ ends. Leads (Repeats (Matches (view c.args.re.now) c.args.word.now) c.args.times) c.args.starts.now ends)
-    c.args.times c.loop-round.round c.loop-round.places.items (omega (arith, c.loop-round-test.false)) c.loop-round.invariant.rest
+    c.args.times c.loop-round.round c.loop-round.places.items (omega (
+      arith,
+      c.loop-round-test.false,
+    )) c.loop-round.invariant.rest
 
 pub walk_more-loop-left-init : goal.walk_more-loop-left-init
 walk_more-loop-left-init t c =
     let none : c.in_ok-marks.marks.items ≡ replicate (length c.args.word.now + 1) false = search rules in
     record {
       size = search rules;
-      within = W.within_new _ c.args.starts.now c.in_ok-fresh.fresh.items _ c.requires.places c.in_ok-fresh.ensures.fresh;
+      within = W.within_new _ c.args.starts.now c.in_ok-fresh.fresh.items _
+          c.requires.places c.in_ok-fresh.ensures.fresh;
       round = R.round-first (Matches (view c.args.re.now) c.args.word.now) c.args.most c.args.starts.now
           c.mark_new.new.marks.items c.in_ok-fresh.fresh.items
           (W.marks_first _ _ _ _ none (search rules))
@@ -115,7 +121,8 @@ walk_more-loop-left-preserved t c =
           (R.round-next (Matches (view c.args.re.now) c.args.word.now) c.args.most c.args.starts.now c.loop-left.left
           c.loop-left.marks.items c.loop-left.fresh.items c.loop-left.invariant.round c.in_ok-next.next.items
           c.mark_new-in-loop-left.new.marks.items c.in_ok-fresh-2.fresh.items
-          (R.open-left c.loop-left.fresh.items c.loop-left.left (search rules)) (search rules) (search rules) (search rules));
+          (R.open-left c.loop-left.fresh.items c.loop-left.left (search rules)) (search rules) (search rules)
+          (search rules));
     }
 
 pub walk_more-returns-clause-within : goal.walk_more-returns-clause-within

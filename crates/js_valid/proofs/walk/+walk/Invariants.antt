@@ -1,8 +1,8 @@
-use Rattle.std.proofs.Common.{◌≡◌, ℕ, suc, ◌+◌, ◌-◌, ◌*◌, ◌≤◌, ◌⊎◌, ◌++◌, true, false, min, List, map, drop, length, IfSome, Some, None, Option}
+use Rattle.std.proofs.Common.{◌≡◌, ℕ, ◌+◌, ◌-◌, ◌*◌, ◌++◌, true, min, List, map, drop, length}
 use Rattle.patterns.specs.Match.{Matches, MatchesInTurn, MatchesOne, Repeats}
 use Rattle.patterns.specs.Tree.{trees_of}
 use Rattle.js_pattern.specs.View.{view, list_view}
-use Rattle.js_valid.specs.Places.{IsAt, Leads, More, are_within, nodes, list_nodes, unmarked}
+use Rattle.js_valid.specs.Places.{Leads, are_within, nodes, list_nodes, unmarked}
 use Rattle.js_valid.proofs.Rounds.{IsRound}
 use Rattle.js_valid.proofs.walk.+walk.Given as goal
 
