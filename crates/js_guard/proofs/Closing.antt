@@ -1,10 +1,10 @@
 -- One open entry more is done.
-use Rattle.std.proofs.Common.{◌≡◌, ℕ, zero, suc, ◌+◌, ◌-◌, ◌<◌, ◌≤◌, ◌⊎◌, ◌≢◌, List, [], ◌∷◌, ◌++◌, length, get_or, set, inl, inr, Bool, true, false, nat_lt, Option, Some, None, refl, sym, ap, ◌∙◌, subst, arith, true≢false}
+use Rattle.std.proofs.Common.{◌≡◌, ℕ, ◌+◌, ◌<◌, ◌≤◌, ◌⊎◌, ◌≢◌, List, length, set, inl, inr, Bool, true, false, nat_lt, Option, Some, refl, sym, ap, ◌∙◌, subst, arith, true≢false}
 use Rattle.std.proofs.lemmas.Bool.{cases_eq, ltb-true, lt-ltb}
 use Rattle.std.proofs.lemmas.List.{length-set, get_or-set_same, get_or-set_other}
 use Rattle.js_guard.specs.declared.search.Mark.{Mark}
-use Rattle.js_guard.specs.declared.search.Mark.TheVariants.{New, Open, Done}
-use Rattle.js_guard.specs.Searching.{mark, is_new, count_new, at, noted, IsAtMost}
+use Rattle.js_guard.specs.declared.search.Mark.TheVariants.{New, Done}
+use Rattle.js_guard.specs.Searching.{mark, is_new, count_new, at, IsAtMost}
 use Rattle.js_guard.specs.Steps.{least_with, IsClosed}
 use Rattle.js_guard.proofs.Counts.{count_new-same}
 use Rattle.js_guard.proofs.Passing.{noted-keeps, noted-here, noted-is}
@@ -57,28 +57,28 @@ module _ (M : List Mark) (S : List ℕ) (done : ℕ) (least : Option ℕ) (M' : 
   next-closed : (i : ℕ) → p ≤ i → i < u + 1 → (r : ℕ) × (mark M'' (at S i) ≡ Done r) × (done ≤ r) × (r < done' + 1)
   next-closed i low high =
       elim (cases_eq (at S i) x) [
-        inl e ↦
-          let late : done ≤ done' = omega (arith, c.more_done) in
-          (done', ap (mark M'') e ∙ mark-here, late, omega arith)
-      | inr ne ↦
-          let before : i < u =
-              elim (cases_eq i u) [
-                inl f ↦ absurd (ne (ap (at S) f))
+        | inl e ↦
+            let late : done ≤ done' = omega (arith, c.more_done) in
+            (done', ap (mark M'') e ∙ mark-here, late, omega arith)
+        | inr ne ↦
+            let before : i < u =
+            elim (cases_eq i u) [
+              | inl f ↦ absurd (ne (ap (at S) f))
               | inr g ↦ omega arith
-              ] in
-          let old = c.closed i low before in
-          let below = old.3 in
-          (old.0, mark-other (at S i) ne ∙ old.1, old.2, omega arith)
+            ] in
+            let old = c.closed i low before in
+            let below = old.3 in
+            (old.0, mark-other (at S i) ne ∙ old.1, old.2, omega arith)
       ]
 
   next-others : (y : ℕ) → (mark M'' y ≡ mark M y) ⊎ ((i : ℕ) × (p ≤ i) × (i < u + 1) × (at S i ≡ y))
   next-others y =
       elim (cases_eq y x) [
-        inl e ↦ inr (u, after, omega arith, sym e)
-      | inr ne ↦ elim (c.others y) [
-            inl same ↦ inl (mark-other y ne ∙ same)
+        | inl e ↦ inr (u, after, omega arith, sym e)
+        | inr ne ↦ elim (c.others y) [
+          | inl same ↦ inl (mark-other y ne ∙ same)
           | inr (i, low, high, e) ↦ inr (i, low, omega arith, e)
-          ]
+        ]
       ]
 
   next-counted : ((i : ℕ) → p ≤ i → i < u + 1 → is_new (mark M (at S i)) ≡ false) → count_new M'' ≡ count_new M
@@ -89,29 +89,29 @@ module _ (M : List Mark) (S : List ℕ) (done : ℕ) (least : Option ℕ) (M' : 
       not_new : is_new (mark M' x) ≡ false
       not_new =
           elim (c.others x) [
-            inl same ↦ ap is_new same ∙ old u after (omega arith)
-          | inr (i, low, high, e) ↦
-              (let closed = c.closed i low high in ap is_new (ap (mark M') (sym e) ∙ closed.1))
+            | inl same ↦ ap is_new same ∙ old u after (omega arith)
+            | inr (i, low, high, e) ↦
+                (let closed = c.closed i low high in ap is_new (ap (mark M') (sym e) ∙ closed.1))
           ]
 
   next-noted_all : (i : ℕ) → p ≤ i → i < u + 1 → p + 1 < length S → IsAtMost least'' (at S i)
   next-noted_all i low high more =
       elim (cases_eq i u) [
-        inl e ↦
-          subst (λ j. IsAtMost least'' (at S j)) (sym e)
-          (least_with-here several least' x (means ∙ lt-ltb (p + 1) (length S) more))
-      | inr ne ↦ least_with-keeps several least' x (at S i) (c.noted_all i low (omega arith) more)
+        | inl e ↦
+            subst (λ j. IsAtMost least'' (at S j)) (sym e)
+            (least_with-here several least' x (means ∙ lt-ltb (p + 1) (length S) more))
+        | inr ne ↦ least_with-keeps several least' x (at S i) (c.noted_all i low (omega arith) more)
       ]
 
   next-noted_only : (l : ℕ) → least'' ≡ Some l
       → (least ≡ Some l) ⊎ ((p + 1 < length S) × (i : ℕ) × (p ≤ i) × (i < u + 1) × (at S i ≡ l))
   next-noted_only l h =
       elim (least_with-is several least' x l h) [
-        inl e ↦ elim (c.noted_only l e) [
-            inl f ↦ inl f
+        | inl e ↦ elim (c.noted_only l e) [
+          | inl f ↦ inl f
           | inr (more, i, low, high, f) ↦ inr (more, i, low, omega arith, f)
-          ]
-      | inr (it_is, e) ↦ inr (ltb-true (p + 1) (length S) (sym means ∙ it_is), u, after, omega arith, sym e)
+        ]
+        | inr (it_is, e) ↦ inr (ltb-true (p + 1) (length S) (sym means ∙ it_is), u, after, omega arith, sym e)
       ]
 
   pub closed-more : IsClosed M S done least M'' (done' + 1) least'' p (u + 1)

@@ -1,15 +1,15 @@
 -- A search goes on when all edges of an entry are passed, and its group is done where it begins there.
-use Rattle.std.proofs.Common.{◌≡◌, ℕ, zero, suc, ◌+◌, ◌-◌, ◌<◌, ◌≤◌, ◌⊎◌, ◌≢◌, List, [], ◌∷◌, ◌++◌, length, get_or, take, inl, inr, Bool, true, false, Option, Some, None, refl, sym, ap, ◌∙◌, subst, arith, true≢false}
+use Rattle.std.proofs.Common.{◌≡◌, ℕ, zero, suc, ◌+◌, ◌-◌, ◌<◌, ◌≤◌, ◌⊎◌, ◌≢◌, List, [], ◌∷◌, ◌++◌, length, take, inl, inr, true, false, Option, Some, None, refl, sym, ap, ◌∙◌, subst, arith, true≢false}
 use Rattle.std.proofs.lemmas.Bool.{cases_lt, cases_eq, cases_Bool}
 use Rattle.std.proofs.lemmas.List.{length-take-le, get_or-take}
 use Rattle.schemas.specs.Guarded.{targets, is_among, leads, IsOnCycle}
-use Rattle.schema_laws.proofs.Ways.{place_among, off_cycle, leads-first, leads-join, leads-same}
+use Rattle.schema_laws.proofs.Ways.{place_among, off_cycle, leads-join, leads-same}
 use Rattle.js_guard.specs.declared.search.Mark.{Mark}
 use Rattle.js_guard.specs.declared.search.Mark.TheVariants.{New, Open, Done}
 use Rattle.js_guard.specs.declared.search.Turn.{Turn}
-use Rattle.js_guard.specs.Searching.{mark, is_new, count_new, at, turn_at, Reaches, Together, IsAtMost, IsPassed, IsAhead, IsSearch}
+use Rattle.js_guard.specs.Searching.{mark, is_new, count_new, at, Reaches, Together, IsAtMost, IsPassed, IsAhead, IsSearch}
 use Rattle.js_guard.specs.Steps.{IsClosed, EndsIn}
-use Rattle.js_guard.proofs.Turns.{Reaches-join, turn-within, path-before, groups-before, reach-after, ahead-cases, path_rises-before, path_groups-before}
+use Rattle.js_guard.proofs.Turns.{turn-within, path-before, groups-before, reach-after, ahead-cases, path_rises-before, path_groups-before}
 
 -- a way between two different entries has an edge, so a way there and back is a cycle
 there_and_back : (g : List (List ℕ)) (x y : ℕ) → x ≢ y → Reaches g x y → Reaches g y x → IsOnCycle g x
@@ -24,17 +24,17 @@ module _ (g : List (List ℕ)) (M : List Mark) (S B : List ℕ) (P : List Turn) 
       → IsAhead P i e ⊎ IsPassed B least i (at (targets g (at S i)) e) (mark M (at (targets g (at S i)) e))
   now_passed i e h k =
       elim (s.passed i e h k)
-        as (λ _. IsAhead P i e ⊎ IsPassed B least i (at (targets g (at S i)) e) (mark M (at (targets g (at S i)) e))) [
-        inr q ↦ inr q
-      | inl a ↦ elim (ahead-cases g M S B P done least t s i e a)
-          as (λ _. IsAhead P i e ⊎ IsPassed B least i (at (targets g (at S i)) e) (mark M (at (targets g (at S i)) e))) [
-            inl b ↦ inl b
-          | inr b ↦
-              let short : length (targets g (at S i)) ≤ t.next =
+      as (λ _. IsAhead P i e ⊎ IsPassed B least i (at (targets g (at S i)) e) (mark M (at (targets g (at S i)) e))) [
+        | inr q ↦ inr q
+        | inl a ↦ elim (ahead-cases g M S B P done least t s i e a)
+            as (λ _. IsAhead P i e ⊎ IsPassed B least i (at (targets g (at S i)) e) (mark M (at (targets g (at S i)) e))) [
+              | inl b ↦ inl b
+              | inr b ↦
+                  let short : length (targets g (at S i)) ≤ t.next =
                   subst (λ j. length (targets g (at S j)) ≤ t.next) (sym b.0) over in
-              let late = b.1 in
-              absurd (omega arith)
-          ]
+                  let late = b.1 in
+                  absurd (omega arith)
+            ]
       ]
 
   -- no group begins at the entry
@@ -64,11 +64,11 @@ module _ (g : List (List ℕ)) (M : List Mark) (S B : List ℕ) (P : List Turn) 
       not_here : (k : ℕ) → k < length B → at B k ≡ t.place → ⊥
       not_here k h e =
           elim (cases_lt (k + 1) (length B)) [
-            inl more ↦
-              let rise = s.groups_rise k (k + 1) (omega arith) more in
-              let low = groups-before g M S B P done least t s (k + 1) more in
-              omega arith
-          | inr last ↦ inner (k, omega arith, e)
+            | inl more ↦
+                let rise = s.groups_rise k (k + 1) (omega arith) more in
+                let low = groups-before g M S B P done least t s (k + 1) more in
+                omega arith
+            | inr last ↦ inner (k, omega arith, e)
           ]
 
   module _ (M' : List Mark) (S' B' : List ℕ) (done' : ℕ) (least' : Option ℕ) (end : EndsIn B t.place)
@@ -110,30 +110,30 @@ module _ (g : List (List ℕ)) (M : List Mark) (S B : List ℕ) (P : List Turn) 
     was_open : (x i : ℕ) → mark M' x ≡ Open i → mark M x ≡ Open i
     was_open x i h =
         elim (c.others x) [
-          inl e ↦ sym e ∙ h
-        | inr (j, low, high, e) ↦
-            let closed = c.closed j low high in
-            absurd (let clash : Done closed.0 ≡ Open i = sym closed.1 ∙ ap (mark M') e ∙ h in cc)
+          | inl e ↦ sym e ∙ h
+          | inr (j, low, high, e) ↦
+              let closed = c.closed j low high in
+              absurd (let clash : Done closed.0 ≡ Open i = sym closed.1 ∙ ap (mark M') e ∙ h in cc)
         ]
 
     still_open : (i : ℕ) → i < p → mark M' (at S i) ≡ Open i
     still_open i h =
         elim (c.others (at S i)) [
-          inl e ↦ e ∙ s.open_marked i (omega (arith, inside))
-        | inr (j, low, high, e) ↦
-            let same : Open j ≡ Open i = sym (s.open_marked j high) ∙ ap (mark M) e ∙ s.open_marked i (omega (arith, inside)) in
-            let place : j ≡ i = cc in
-            absurd (omega arith)
+          | inl e ↦ e ∙ s.open_marked i (omega (arith, inside))
+          | inr (j, low, high, e) ↦
+              let same : Open j ≡ Open i = sym (s.open_marked j high) ∙ ap (mark M) e ∙ s.open_marked i (omega (arith, inside)) in
+              let place : j ≡ i = cc in
+              absurd (omega arith)
         ]
 
     closed-marked_open : (x i : ℕ) → mark M' x ≡ Open i → (i < length S') × (at S' i ≡ x)
     closed-marked_open x i h =
         let old = s.marked_open x i (was_open x i h) in
         elim (cases_lt i p) [
-          inl low ↦ (omega (arith, size-open), open-old i low ∙ old.1)
-        | inr high ↦
-            let closed = c.closed i high old.0 in
-            absurd (let clash : Done closed.0 ≡ Open i = sym closed.1 ∙ ap (mark M') old.1 ∙ h in cc)
+          | inl low ↦ (omega (arith, size-open), open-old i low ∙ old.1)
+          | inr high ↦
+              let closed = c.closed i high old.0 in
+              absurd (let clash : Done closed.0 ≡ Open i = sym closed.1 ∙ ap (mark M') old.1 ∙ h in cc)
         ]
 
     closed-first_group : 0 < length S' → (0 < length B') × (at B' 0 ≡ 0)
@@ -142,11 +142,11 @@ module _ (g : List (List ℕ)) (M : List Mark) (S B : List ℕ) (P : List Turn) 
         let e = end.1 in
         let f = end.2 in
         elim (cases_eq k 0) [
-          inl zero_k ↦
-            absurd (let only : at B 0 ≡ p = ap (at B) (sym zero_k) ∙ f in let first = old.1 in omega (arith, size-open))
-        | inr more ↦
-            let some : 0 < length B' = omega (arith, size-groups) in
-            (some, group-old 0 some ∙ old.1)
+          | inl zero_k ↦
+              absurd (let only : at B 0 ≡ p = ap (at B) (sym zero_k) ∙ f in let first = old.1 in omega (arith, size-open))
+          | inr more ↦
+              let some : 0 < length B' = omega (arith, size-groups) in
+              (some, group-old 0 some ∙ old.1)
         ]
 
     together-more : (j i : ℕ) → i < p → Together B' j i → Together B j i
@@ -154,13 +154,13 @@ module _ (g : List (List ℕ)) (M : List Mark) (S B : List ℕ) (P : List Turn) 
         let e = end.1 in
         let f = end.2 in
         elim (cases_lt l k) [
-          inl before ↦
-            let m : l < length B' = omega (arith, size-groups) in
-            let same = group-old l m in
-            (let late = near l m (omega arith) in omega arith)
-        | inr last ↦
-            let same : l ≡ k = omega arith in
-            (let here = ap (at B) same in omega arith)
+          | inl before ↦
+              let m : l < length B' = omega (arith, size-groups) in
+              let same = group-old l m in
+              (let late = near l m (omega arith) in omega arith)
+          | inr last ↦
+              let same : l ≡ k = omega arith in
+              (let here = ap (at B) same in omega arith)
         ]
 
     together-fewer : (j i : ℕ) → Together B j i → Together B' j i
@@ -173,18 +173,19 @@ module _ (g : List (List ℕ)) (M : List Mark) (S B : List ℕ) (P : List Turn) 
     closed-reach i j h l near =
         let low : i < p = omega (arith, size-open) in
         let low_j : j < p = omega (arith, size-open) in
-        let old = s.reach i j (omega (arith, inside)) (omega (arith, inside)) (together-more j i low near) in
-        (old.0,
-        subst (λ y. leads g old.0 y (at S' j) ≡ true) (sym (open-old i low))
-        (subst (λ y. leads g old.0 (at S i) y ≡ true) (sym (open-old j low_j)) old.1))
+        let old = s.reach i j (omega (arith, inside)) (omega (arith, inside)) (together-more j i low near) in (
+          old.0,
+          subst (λ y. leads g old.0 y (at S' j) ≡ true) (sym (open-old i low))
+              (subst (λ y. leads g old.0 (at S i) y ≡ true) (sym (open-old j low_j)) old.1),
+        )
 
     keep_passed : (i y : ℕ) → IsPassed B least i y (mark M y) → IsPassed B' least' i y (mark M' y)
     keep_passed i y h =
         elim (c.others y) [
-          inl e ↦ subst (λ m. IsPassed B' least' i y m) (sym e) (go (mark M y) h)
-        | inr (j, low, high, e) ↦
-            let closed = c.closed j low high in
-            subst (λ m. IsPassed B' least' i y m) (sym (ap (mark M') (sym e) ∙ closed.1)) tt
+          | inl e ↦ subst (λ m. IsPassed B' least' i y m) (sym e) (go (mark M y) h)
+          | inr (j, low, high, e) ↦
+              let closed = c.closed j low high in
+              subst (λ m. IsPassed B' least' i y m) (sym (ap (mark M') (sym e) ∙ closed.1)) tt
         ]
       where
         go : (m : Mark) → IsPassed B least i y m → IsPassed B' least' i y m
@@ -200,9 +201,9 @@ module _ (g : List (List ℕ)) (M : List Mark) (S B : List ℕ) (P : List Turn) 
         subst
         (λ y. IsAhead P i e ⊎ IsPassed B' least' i (at (targets g y) e) (mark M' (at (targets g y) e))) (sym same)
         (elim (now_passed i e (omega (arith, inside)) (subst (λ y. e < length (targets g y)) same l))
-          as (λ _. IsAhead P i e ⊎ IsPassed B' least' i (at (targets g (at S i)) e) (mark M' (at (targets g (at S i)) e))) [
-          inl a ↦ inl a
-        | inr q ↦ inr (keep_passed i (at (targets g (at S i)) e) q)
+        as (λ _. IsAhead P i e ⊎ IsPassed B' least' i (at (targets g (at S i)) e) (mark M' (at (targets g (at S i)) e))) [
+          | inl a ↦ inl a
+          | inr q ↦ inr (keep_passed i (at (targets g (at S i)) e) q)
         ])
 
     -- where an edge of a closed entry leads
@@ -212,9 +213,9 @@ module _ (g : List (List ℕ)) (M : List Mark) (S B : List ℕ) (P : List Turn) 
         let found = place_among y (targets g (at S i)) h in
         let e = found.0 in
         elim (now_passed i e high found.1) [
-          inl (l, m, place, n) ↦
-            absurd (let before = path-before g M S B P done least t s l m in omega arith)
-        | inr q ↦ subst (λ z. IsPassed B least i z (mark M z)) found.2 q
+          | inl (l, m, place, n) ↦
+              absurd (let before = path-before g M S B P done least t s l m in omega arith)
+          | inr q ↦ subst (λ z. IsPassed B least i z (mark M z)) found.2 q
         ]
 
     not_none : (x : ℕ) → IsAtMost least' x → least' ≡ None → ⊥
@@ -237,37 +238,37 @@ module _ (g : List (List ℕ)) (M : List Mark) (S B : List ℕ) (P : List Turn) 
         let f = end.1 in
         let last = end.2 in
         let after : p ≤ j =
-            elim (cases_lt j p) [
-              inl before ↦ absurd (let apart = h.0 k (omega arith) (omega arith) in omega arith)
-            | inr l ↦ l
-            ] in
+        elim (cases_lt j p) [
+          | inl before ↦ absurd (let apart = h.0 k (omega arith) (omega arith) in omega arith)
+          | inr l ↦ l
+        ] in
         let closed = c.closed j after place.0 in
         (closed.0, ap (mark M') (sym place.1) ∙ closed.1, λ none. absurd (not_none y (c.least_kept y h.1) none))
     target_done i y r late (Done q) e low high h =
         elim (c.others y) [
-          inl same ↦ (q, same ∙ e, λ none. (let before = s.ranks_below y q e in omega arith))
-        | inr (j, below, above, f) ↦
-            absurd (let clash : Open j ≡ Done q = sym (s.open_marked j above) ∙ ap (mark M) f ∙ e in cc)
+          | inl same ↦ (q, same ∙ e, λ none. (let before = s.ranks_below y q e in omega arith))
+          | inr (j, below, above, f) ↦
+              absurd (let clash : Open j ≡ Done q = sym (s.open_marked j above) ∙ ap (mark M) f ∙ e in cc)
         ]
 
     closed-done_closed : (x y r : ℕ) → mark M' x ≡ Done r → is_among y (targets g x) ≡ true
         → (q : ℕ) × (mark M' y ≡ Done q) × (least' ≡ None → q < r)
     closed-done_closed x y r h l =
         elim (c.others x) [
-          inl same ↦
-            let old = s.done_closed x y r (sym same ∙ h) l in
-            elim (c.others y) [
-              inl e ↦ (old.0, e ∙ old.1, λ none. old.2 (was_none none))
-            | inr (j, low, high, f) ↦
-                absurd (let clash : Open j ≡ Done old.0 = sym (s.open_marked j high) ∙ ap (mark M) f ∙ old.1 in cc)
-            ]
-        | inr (i, low, high, e) ↦
-            let closed = c.closed i low high in
-            let same : Done closed.0 ≡ Done r = sym closed.1 ∙ ap (mark M') e ∙ h in
-            let rank : closed.0 ≡ r = cc in
-            let late : done ≤ r = (let old = closed.2 in omega arith) in
-            target_done i y r late (mark M y) refl low high
-            (edge-passed i y low high (subst (λ z. is_among y (targets g z) ≡ true) (sym e) l))
+          | inl same ↦
+              let old = s.done_closed x y r (sym same ∙ h) l in
+              elim (c.others y) [
+                | inl e ↦ (old.0, e ∙ old.1, λ none. old.2 (was_none none))
+                | inr (j, low, high, f) ↦
+                    absurd (let clash : Open j ≡ Done old.0 = sym (s.open_marked j high) ∙ ap (mark M) f ∙ old.1 in cc)
+              ]
+          | inr (i, low, high, e) ↦
+              let closed = c.closed i low high in
+              let same : Done closed.0 ≡ Done r = sym closed.1 ∙ ap (mark M') e ∙ h in
+              let rank : closed.0 ≡ r = cc in
+              let late : done ≤ r = (let old = closed.2 in omega arith) in
+              target_done i y r late (mark M y) refl low high
+              (edge-passed i y low high (subst (λ z. is_among y (targets g z) ≡ true) (sym e) l))
         ]
 
     -- a single entry that no edge leads back to isn't on a cycle
@@ -280,10 +281,10 @@ module _ (g : List (List ℕ)) (M : List Mark) (S B : List ℕ) (P : List Turn) 
         let last = end.2 in
         let l = place.0 in
         elim (cases_lt j p) [
-          inl before ↦ absurd (let apart = h.0 k (omega arith) (omega arith) in omega arith)
-        | inr after ↦
-            let same : j ≡ p = omega arith in
-            absurd (other (ap (at S) (sym same) ∙ place.1))
+          | inl before ↦ absurd (let apart = h.0 k (omega arith) (omega arith) in omega arith)
+          | inr after ↦
+              let same : j ≡ p = omega arith in
+              absurd (other (ap (at S) (sym same) ∙ place.1))
         ]
     single y (Done q) e one other h = (q, e)
 
@@ -309,19 +310,19 @@ module _ (g : List (List ℕ)) (M : List Mark) (S B : List ℕ) (P : List Turn) 
     closed-done_least : (x r : ℕ) → mark M' x ≡ Done r → IsOnCycle g x → IsAtMost least' x
     closed-done_least x r h cyclic =
         elim (c.others x) [
-          inl same ↦ c.least_kept x (s.done_least x r (sym same ∙ h) cyclic)
-        | inr (i, low, high, e) ↦ elim (cases_lt (p + 1) (length S)) [
-              inl several ↦ subst (IsAtMost least') e (c.noted_all i low high several)
+          | inl same ↦ c.least_kept x (s.done_least x r (sym same ∙ h) cyclic)
+          | inr (i, low, high, e) ↦ elim (cases_lt (p + 1) (length S)) [
+            | inl several ↦ subst (IsAtMost least') e (c.noted_all i low high several)
             | inr few ↦
                 let one : p + 1 ≡ length S = omega arith in
                 let here : i ≡ p = omega arith in
                 let top : at S p ≡ x = ap (at S) (sym here) ∙ e in
                 subst (IsAtMost least') top (elim (cases_Bool (is_among (at S p) (targets g (at S p)))) [
-                  inl edge ↦
-                    c.least_kept (at S p) (own_edge (mark M (at S p)) refl (edge-passed p (at S p) (omega arith) inside edge))
-                | inr no_edge ↦ absurd (off one no_edge (subst (IsOnCycle g) (sym top) cyclic))
+                  | inl edge ↦
+                      c.least_kept (at S p) (own_edge (mark M (at S p)) refl (edge-passed p (at S p) (omega arith) inside edge))
+                  | inr no_edge ↦ absurd (off one no_edge (subst (IsOnCycle g) (sym top) cyclic))
                 ])
-            ]
+          ]
         ]
 
     apart : (i j : ℕ) → i < length S → j < length S → i ≢ j → at S i ≢ at S j
@@ -340,23 +341,23 @@ module _ (g : List (List ℕ)) (M : List Mark) (S B : List ℕ) (P : List Turn) 
     closed-least_on : (l : ℕ) → least' ≡ Some l → IsOnCycle g l
     closed-least_on l h =
         elim (c.noted_only l h) [
-          inl e ↦ s.least_on l e
-        | inr (several, i, low, high, e) ↦
-            subst (IsOnCycle g) e (elim (cases_eq i p) [
-              inl here ↦ with_other i (p + 1) low high (omega arith) several (λ f. omega (arith, f))
-            | inr other ↦ with_other i p low high (omega arith) inside other
-            ])
+          | inl e ↦ s.least_on l e
+          | inr (several, i, low, high, e) ↦
+              subst (IsOnCycle g) e (elim (cases_eq i p) [
+                | inl here ↦ with_other i (p + 1) low high (omega arith) several (λ f. omega (arith, f))
+                | inr other ↦ with_other i p low high (omega arith) inside other
+              ])
         ]
 
     closed-ranks_below : (x r : ℕ) → mark M' x ≡ Done r → r < done'
     closed-ranks_below x r h =
         elim (c.others x) [
-          inl same ↦ (let old = s.ranks_below x r (sym same ∙ h) in omega (arith, c.more_done))
-        | inr (i, low, high, e) ↦
-            let closed = c.closed i low high in
-            let same : Done closed.0 ≡ Done r = sym closed.1 ∙ ap (mark M') e ∙ h in
-            let rank : closed.0 ≡ r = cc in
-            (let below = closed.3 in omega arith)
+          | inl same ↦ (let old = s.ranks_below x r (sym same ∙ h) in omega (arith, c.more_done))
+          | inr (i, low, high, e) ↦
+              let closed = c.closed i low high in
+              let same : Done closed.0 ≡ Done r = sym closed.1 ∙ ap (mark M') e ∙ h in
+              let rank : closed.0 ≡ r = cc in
+              (let below = closed.3 in omega arith)
         ]
 
     closed-counted : count_new M' + length S' + done' ≡ length g
@@ -384,7 +385,7 @@ module _ (g : List (List ℕ)) (M : List Mark) (S B : List ℕ) (P : List Turn) 
       path_groups = λ i h.
           (let e = end.1 in
           let on_path = path_groups-before g M S B P done least t s i (omega (arith, size-groups))
-              (λ f. omega (arith, group-before i h, f)) in
+          (λ f. omega (arith, group-before i h, f)) in
           (on_path.0, on_path.1, on_path.2 ∙ sym (group-old i h)));
       done_closed = closed-done_closed;
       done_least = closed-done_least;

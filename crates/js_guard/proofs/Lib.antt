@@ -2,8 +2,8 @@ pub mod RowsLemmas
 pub mod EdgesLemmas
 pub mod Pushes
 pub mod Counts
-pub mod Entering
 pub mod Turns
+pub mod Entering
 pub mod Passing
 pub mod Leaving
 pub mod Closing

@@ -1,5 +1,5 @@
 -- One edge more is linked, and the sources of an entry are read off.
-use Rattle.std.proofs.Common.{◌≡◌, ℕ, zero, suc, ◌+◌, ◌-◌, ◌<◌, ◌≤◌, ◌⊎◌, ◌≢◌, List, [], ◌∷◌, ◌++◌, map, take, drop, length, get_or, set, replicate, inl, inr, Bool, true, false, ◌||◌, nat_eq, refl, sym, ap, ◌∙◌, subst, add-one, arith, true≢false}
+use Rattle.std.proofs.Common.{◌≡◌, ℕ, zero, suc, ◌+◌, ◌<◌, ◌≤◌, ◌⊎◌, List, [], ◌∷◌, ◌++◌, map, take, drop, length, get_or, set, replicate, inl, inr, true, false, nat_eq, refl, sym, ap, ◌∙◌, subst, add-one, arith, true≢false}
 use Rattle.std.proofs.lemmas.Bool.{cases_eq, cases_lt, or_cases, or_left, or_right, eqb-true, eq-eqb}
 use Rattle.std.proofs.lemmas.List.{length-set, get_or-set_same, get_or-set_other, append_assoc, take_more, drop_more, drop_all, take_all, map-append, append-nil, get_or_past, get_or-replicate, length-replicate}
 use Rattle.schemas.specs.Guarded.{targets, is_among}
@@ -41,8 +41,8 @@ module _ (L : List (ℕ × ℕ)) (y : ℕ × ℕ) where
         within = (let w = u.within in omega (arith, push-length L y no_pair));
         none_after = λ e low high same.
             elim (push-cases L y no_pair e high) [
-              inl l ↦ old.none_after e low l same
-            | inr f ↦ other (sym (ap (λ l. l.1) (ap (pair_at L') f ∙ push-new L y no_pair)) ∙ same)
+              | inl l ↦ old.none_after e low l same
+              | inr f ↦ other (sym (ap (λ l. l.1) (ap (pair_at L') f ∙ push-new L y no_pair)) ∙ same)
             ];
         last = old.last;
       }
@@ -82,41 +82,41 @@ module _ (L : List (ℕ × ℕ)) (n : ℕ) (last : List ℕ) (E : List Source) (
   linked-sources : (e : ℕ) → e < length (L' L y) → (source_at E' e).entry ≡ (pair_at (L' L y) e).0
   linked-sources e l =
       elim (push-cases L y no_pair e l) [
-        inl m ↦
-          ap (λ s. s.entry) (source-old e m) ∙ h.sources e m ∙ sym (ap (λ l. l.0) (pair-old L y e m))
-      | inr f ↦
-          ap (λ s. s.entry) (source-new e f) ∙ sym (ap (λ l. l.0) (ap (pair_at (L' L y)) f ∙ push-new L y no_pair))
+        | inl m ↦
+            ap (λ s. s.entry) (source-old e m) ∙ h.sources e m ∙ sym (ap (λ l. l.0) (pair-old L y e m))
+        | inr f ↦
+            ap (λ s. s.entry) (source-new e f) ∙ sym (ap (λ l. l.0) (ap (pair_at (L' L y)) f ∙ push-new L y no_pair))
       ]
 
   linked-last_at : (u : ℕ) → u < n → IsUpToLast (L' L y) (length (L' L y)) u (get_or last' u 0)
   linked-last_at u l =
       elim (cases_eq u t) [
-        inl e ↦
-          let heads = h.heads in
-          let size = h.same_length in
-          let now : get_or last' u 0 ≡ length E + 1 =
-              ap (λ v. get_or last' v 0) e ∙ get_or-set_same last t (length E + 1) 0 (omega arith) in
-          upto-here L y u (get_or last' u 0) (sym e) (omega arith)
-      | inr ne ↦
-          subst (λ p. IsUpToLast (L' L y) (length (L' L y)) u p)
-          (sym (get_or-set_other last t u (length E + 1) 0 ne))
-          (upto-other L y u (get_or last u 0) (λ e. ne (sym e)) (h.last_at u l))
+        | inl e ↦
+            let heads = h.heads in
+            let size = h.same_length in
+            let now : get_or last' u 0 ≡ length E + 1 =
+            ap (λ v. get_or last' v 0) e ∙ get_or-set_same last t (length E + 1) 0 (omega arith) in
+            upto-here L y u (get_or last' u 0) (sym e) (omega arith)
+        | inr ne ↦
+            subst (λ p. IsUpToLast (L' L y) (length (L' L y)) u p)
+            (sym (get_or-set_other last t u (length E + 1) 0 ne))
+            (upto-other L y u (get_or last u 0) (λ e. ne (sym e)) (h.last_at u l))
       ]
 
   linked-before_at : (e : ℕ) → e < length (L' L y)
       → IsUpToLast (L' L y) e (pair_at (L' L y) e).1 (source_at E' e).before
   linked-before_at e l =
       elim (push-cases L y no_pair e l) [
-        inl m ↦
-          subst (λ p. IsUpToLast (L' L y) e p.1 (source_at E' e).before) (sym (pair-old L y e m))
-          (subst (λ s. IsUpToLast (L' L y) e (pair_at L e).1 s.before) (sym (source-old e m))
-          (upto-more L y e (pair_at L e).1 (source_at E e).before (omega arith) (h.before_at e m)))
-      | inr f ↦
-          subst (λ p. IsUpToLast (L' L y) e p.1 (source_at E' e).before)
-          (sym (ap (pair_at (L' L y)) f ∙ push-new L y no_pair))
-          (subst (λ s. IsUpToLast (L' L y) e t s.before) (sym (source-new e f))
-          (subst (λ k. IsUpToLast (L' L y) k t (get_or last t 0)) (sym f)
-          (upto-more L y (length L) t (get_or last t 0) (omega arith) (h.last_at t inside))))
+        | inl m ↦
+            subst (λ p. IsUpToLast (L' L y) e p.1 (source_at E' e).before) (sym (pair-old L y e m))
+            (subst (λ s. IsUpToLast (L' L y) e (pair_at L e).1 s.before) (sym (source-old e m))
+            (upto-more L y e (pair_at L e).1 (source_at E e).before (omega arith) (h.before_at e m)))
+        | inr f ↦
+            subst (λ p. IsUpToLast (L' L y) e p.1 (source_at E' e).before)
+            (sym (ap (pair_at (L' L y)) f ∙ push-new L y no_pair))
+            (subst (λ s. IsUpToLast (L' L y) e t s.before) (sym (source-new e f))
+            (subst (λ k. IsUpToLast (L' L y) k t (get_or last t 0)) (sym f)
+            (upto-more L y (length L) t (get_or last t 0) (omega arith) (h.last_at t inside))))
       ]
 
   pub linked-push : IsLinked (L ++ (x, t) ∷ []) n last' E'
@@ -134,10 +134,10 @@ linked-none n last size none = record {
   same_length = refl;
   sources = λ e h. absurd (omega (arith, h));
   last_at = λ t h. record {
-      within = omega (arith, none t);
-      none_after = λ e low high same. omega (arith, high);
-      last = λ q f. absurd (omega (arith, none t));
-    };
+    within = omega (arith, none t);
+    none_after = λ e low high same. omega (arith, high);
+    last = λ q f. absurd (omega (arith, none t));
+  };
   before_at = λ e h. absurd (omega (arith, h));
 }
 
@@ -147,8 +147,8 @@ pub among-push : (x y : ℕ) (row : List ℕ) → is_among x row ≡ true → is
 among-push x y [] h = absurd (true≢false (sym h))
 among-push x y (z ∷ row) h =
     elim (or_cases (nat_eq z x) (is_among x row) h) [
-      inl e ↦ or_left (nat_eq z x) _ e
-    | inr k ↦ or_right (nat_eq z x) _ (among-push x y row k)
+      | inl e ↦ or_left (nat_eq z x) _ e
+      | inr k ↦ or_right (nat_eq z x) _ (among-push x y row k)
     ]
 
 pub among-new : (y : ℕ) (row : List ℕ) → is_among y (row ++ y ∷ []) ≡ true
@@ -160,8 +160,8 @@ among-cases x y [] h =
     elim (or_cases (nat_eq y x) false h) [ inl e ↦ inr (eqb-true y x e) | inr none ↦ absurd (true≢false (sym none)) ]
 among-cases x y (z ∷ row) h =
     elim (or_cases (nat_eq z x) (is_among x (row ++ y ∷ [])) h) [
-      inl e ↦ inl (or_left (nat_eq z x) _ e)
-    | inr k ↦ elim (among-cases x y row k) [ inl e ↦ inl (or_right (nat_eq z x) _ e) | inr e ↦ inr e ]
+      | inl e ↦ inl (or_left (nat_eq z x) _ e)
+      | inr k ↦ elim (among-cases x y row k) [ inl e ↦ inl (or_right (nat_eq z x) _ e) | inr e ↦ inr e ]
     ]
 
 -- the sources that are read: those of the edges from place p on, where the edge before p leads to t
@@ -183,9 +183,9 @@ module _ (L : List (ℕ × ℕ)) (n : ℕ) (last : List ℕ) (E : List Source) (
       let u = h.last_at t l in
       record {
         sources = record {
-            all = λ e low high same. absurd (u.none_after e low high same);
-            only = λ x k. absurd (true≢false (sym k));
-          };
+          all = λ e low high same. absurd (u.none_after e low high same);
+          only = λ x k. absurd (true≢false (sym k));
+        };
         last = u.last;
       }
 
@@ -199,21 +199,21 @@ module _ (L : List (ℕ × ℕ)) (n : ℕ) (last : List ℕ) (E : List Source) (
       let u = h.before_at q inside in
       record {
         sources = record {
-            all = λ e low high same.
-                elim (cases_eq e q) [
-                  inl f ↦
+          all = λ e low high same.
+              elim (cases_eq e q) [
+                | inl f ↦
                     subst (λ z. is_among z (row ++ x ∷ []) ≡ true) (source ∙ ap (λ i. (pair_at L i).0) (sym f)) (among-new x row)
                 | inr ne ↦ elim (cases_lt e q) [
-                      inl before ↦ absurd (u.none_after e low before (same ∙ sym here))
-                    | inr after ↦ among-push (pair_at L e).0 x row (r.sources.all e (omega arith) high same)
-                    ]
-                ];
-            only = λ z k.
-                elim (among-cases z x row k) [
-                  inl old ↦ r.sources.only z old
+                  | inl before ↦ absurd (u.none_after e low before (same ∙ sym here))
+                  | inr after ↦ among-push (pair_at L e).0 x row (r.sources.all e (omega arith) high same)
+                ]
+              ];
+          only = λ z k.
+              elim (among-cases z x row k) [
+                | inl old ↦ r.sources.only z old
                 | inr f ↦ (q, inside, sym source ∙ f, here)
-                ];
-          };
+              ];
+        };
         last = λ i f. u.last i f ∙ here;
       }
 
@@ -227,8 +227,8 @@ pairs-row : (k : ℕ) (ts : List ℕ) (L : List (ℕ × ℕ)) (y : ℕ) → is_a
 pairs-row k [] L y h = absurd (true≢false (sym h))
 pairs-row k (t ∷ ts) L y h =
     elim (or_cases (nat_eq t y) (is_among y ts) h) [
-      inl e ↦ (0, omega arith, ap (λ z. (k, z)) (eqb-true t y e))
-    | inr m ↦ let later = pairs-row k ts L y m in (suc later.0, (let l = later.1 in omega arith), later.2)
+      | inl e ↦ (0, omega arith, ap (λ z. (k, z)) (eqb-true t y e))
+      | inr m ↦ let later = pairs-row k ts L y m in (suc later.0, (let l = later.1 in omega arith), later.2)
     ]
 
 skip-row : (k : ℕ) (ts : List ℕ) (L : List (ℕ × ℕ)) (e : ℕ) → e < length L
@@ -251,14 +251,14 @@ pairs-has k (ts ∷ g) (suc x) y h =
 
 in-row : (k : ℕ) (ts : List ℕ) (L : List (ℕ × ℕ)) (e : ℕ) → e < length (map (λ t. (k, t)) ts ++ L)
     → (((pair_at (map (λ t. (k, t)) ts ++ L) e).0 ≡ k)
-      × (is_among (pair_at (map (λ t. (k, t)) ts ++ L) e).1 ts ≡ true))
+    × (is_among (pair_at (map (λ t. (k, t)) ts ++ L) e).1 ts ≡ true))
     ⊎ ((f : ℕ) × (f < length L) × (pair_at (map (λ t. (k, t)) ts ++ L) e ≡ pair_at L f))
 in-row k [] L e h = inr (e, h, refl)
 in-row k (t ∷ ts) L zero h = inl (refl, or_left (nat_eq t t) _ (eq-eqb t t refl))
 in-row k (t ∷ ts) L (suc e) h =
     elim (in-row k ts L e (omega arith)) [
-      inl (a, b) ↦ inl (a, or_right (nat_eq t (pair_at (map (λ t. (k, t)) ts ++ L) e).1) _ b)
-    | inr later ↦ inr later
+      | inl (a, b) ↦ inl (a, or_right (nat_eq t (pair_at (map (λ t. (k, t)) ts ++ L) e).1) _ b)
+      | inr later ↦ inr later
     ]
 
 pub pairs-only : (k : ℕ) (g : List (List ℕ)) (e : ℕ) → e < length (pairs k g)
@@ -266,11 +266,13 @@ pub pairs-only : (k : ℕ) (g : List (List ℕ)) (e : ℕ) → e < length (pairs
 pairs-only k [] e h = absurd (omega (arith, h))
 pairs-only k (ts ∷ g) e h =
     elim (in-row k ts (pairs (suc k) g) e h) [
-      inl (a, b) ↦ (0, a ∙ omega arith, b)
-    | inr (f, l, same) ↦
-        let later = pairs-only (suc k) g f l in
-        (suc later.0, ap (λ p. p.0) same ∙ later.1 ∙ omega arith,
-        subst (λ p. is_among p.1 (targets g later.0) ≡ true) (sym same) later.2)
+      | inl (a, b) ↦ (0, a ∙ omega arith, b)
+      | inr (f, l, same) ↦
+          let later = pairs-only (suc k) g f l in (
+            suc later.0,
+            ap (λ p. p.0) same ∙ later.1 ∙ omega arith,
+            subst (λ p. is_among p.1 (targets g later.0) ≡ true) (sym same) later.2,
+          )
     ]
 
 -- rows, edge by edge
@@ -287,13 +289,13 @@ row-more L n last last' E E' x i k b row h inside below read size lasts edges =
     let t = get_or row i 0 in
     let now = linked-push (L ++ edges_of x (take i row)) n last E x t h below in
     let made : L ++ edges_of x (take (i + 1) row) ≡ (L ++ edges_of x (take i row)) ++ (x, t) ∷ [] =
-        ap (λ r. L ++ edges_of x r) (take_more row i 0 inside)
-        ∙ ap (λ r. L ++ r) (map-append (λ t. (x, t)) (take i row) (t ∷ []))
-        ∙ sym (append_assoc L (edges_of x (take i row)) ((x, t) ∷ [])) in
+    ap (λ r. L ++ edges_of x r) (take_more row i 0 inside)
+    ∙ ap (λ r. L ++ r) (map-append (λ t. (x, t)) (take i row) (t ∷ []))
+    ∙ sym (append_assoc L (edges_of x (take i row)) ((x, t) ∷ [])) in
     subst (λ l. IsLinked l n last' E') (sym made)
     (subst (λ l. IsLinked ((L ++ edges_of x (take i row)) ++ (x, t) ∷ []) n l E') (sym (lasts ∙ ap (set last t) size))
     (subst (λ e. IsLinked ((L ++ edges_of x (take i row)) ++ (x, t) ∷ []) n (set last t (length E + 1)) e)
-      (sym (edges ∙ ap (λ p. E ++ record { entry = x; before = p } ∷ []) read)) now))
+    (sym (edges ∙ ap (λ p. E ++ record { entry = x; before = p } ∷ []) read)) now))
 
 -- the edges of one entry more
 pub entry-more : (g : List (List ℕ)) (x : ℕ) (L : List (ℕ × ℕ)) → x < length g → L ++ pairs x (drop x g) ≡ pairs 0 g
@@ -329,13 +331,13 @@ sources-more g back back' n row s e h = record {
   rows = λ t l.
       subst (λ b. HasSources (pairs 0 g) t 0 (targets b t)) (sym e)
       (elim (cases_lt t n) as (λ _. HasSources (pairs 0 g) t 0 (targets (back ++ row ∷ []) t)) [
-        inl before ↦
-          subst (HasSources (pairs 0 g) t 0) (sym (push-old back row [] t (let size = s.size in omega arith))) (s.rows t before)
-      | inr after ↦
-          let top : t ≡ n = omega arith in
-          let place : t ≡ length back = (let size = s.size in omega arith) in
-          subst (λ k. HasSources (pairs 0 g) k 0 (targets (back ++ row ∷ []) t)) (sym top)
-          (subst (HasSources (pairs 0 g) n 0) (sym (ap (λ k. targets (back ++ row ∷ []) k) place ∙ push-new back row [])) h)
+        | inl before ↦
+            subst (HasSources (pairs 0 g) t 0) (sym (push-old back row [] t (let size = s.size in omega arith))) (s.rows t before)
+        | inr after ↦
+            let top : t ≡ n = omega arith in
+            let place : t ≡ length back = (let size = s.size in omega arith) in
+            subst (λ k. HasSources (pairs 0 g) k 0 (targets (back ++ row ∷ []) t)) (sym top)
+            (subst (HasSources (pairs 0 g) n 0) (sym (ap (λ k. targets (back ++ row ∷ []) k) place ∙ push-new back row [])) h)
       ]);
 }
 
@@ -360,9 +362,9 @@ sources-all g back n closed e s = record {
     in-back : (x y : ℕ) → is_among x (targets back y) ≡ true → y < n
     in-back x y h =
         elim (cases_lt y (length back)) [
-          inl l ↦ (let size = s.size in omega arith)
-        | inr l ↦
-            absurd (true≢false (sym (subst (λ r. is_among x r ≡ true) (get_or_past back y [] l) h)))
+          | inl l ↦ (let size = s.size in omega arith)
+          | inr l ↦
+              absurd (true≢false (sym (subst (λ r. is_among x r ≡ true) (get_or_past back y [] l) h)))
         ]
 
 -- a list of nothing but 0
@@ -375,6 +377,6 @@ zeros-length n = length-replicate {A = ℕ} n 0
 pub zeros-at : (n t d : ℕ) → d ≡ 0 → get_or (zero_list n) t d ≡ d
 zeros-at n t d e =
     elim (cases_lt t n) [
-      inl l ↦ get_or-replicate {A = ℕ} n t 0 d l ∙ sym e
-    | inr l ↦ get_or_past (zero_list n) t d (omega (arith, zeros-length n))
+      | inl l ↦ get_or-replicate {A = ℕ} n t 0 d l ∙ sym e
+      | inr l ↦ get_or_past (zero_list n) t d (omega (arith, zeros-length n))
     ]

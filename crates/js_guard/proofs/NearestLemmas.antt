@@ -1,5 +1,5 @@
 -- The best of all entries of a row is the nearest.
-use Rattle.std.proofs.Common.{◌≡◌, ℕ, suc, ◌<◌, ◌≤◌, List, length, get_or, true, Option, Some, None, refl, sym, ap, ◌∙◌, subst, arith}
+use Rattle.std.proofs.Common.{◌≡◌, ℕ, ◌≤◌, List, length, true, Option, Some, None, refl, sym, ap, ◌∙◌, subst, arith}
 use Rattle.schemas.specs.Guarded.{is_among}
 use Rattle.schema_laws.proofs.Ways.{is_among-at, place_among}
 use Rattle.js_guard.specs.declared.cycle.Candidate.{Candidate}

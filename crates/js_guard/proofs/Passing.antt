@@ -1,14 +1,14 @@
 -- A search goes on when an edge is passed, and when groups are joined along an edge that leads back.
-use Rattle.std.proofs.Common.{◌≡◌, ℕ, zero, suc, ◌+◌, ◌-◌, ◌<◌, ◌≤◌, ◌⊎◌, ◌≢◌, List, [], ◌∷◌, ◌++◌, length, get_or, min, inl, inr, Bool, true, false, Option, Some, None, refl, sym, ap, ◌∙◌, subst, arith}
+use Rattle.std.proofs.Common.{◌≡◌, ℕ, ◌+◌, ◌-◌, ◌<◌, ◌≤◌, ◌⊎◌, List, [], ◌∷◌, ◌++◌, length, min, inl, inr, true, Option, Some, None, sym, ap, ◌∙◌, subst, arith}
 use Rattle.std.proofs.lemmas.Bool.{cases_lt, cases_eq}
-use Rattle.schemas.specs.Guarded.{targets, is_among, leads, IsOnCycle}
+use Rattle.schemas.specs.Guarded.{targets, is_among, IsOnCycle}
 use Rattle.schema_laws.proofs.Ways.{is_among-at}
 use Rattle.js_guard.specs.declared.search.Mark.{Mark}
 use Rattle.js_guard.specs.declared.search.Mark.TheVariants.{New, Open, Done}
 use Rattle.js_guard.specs.declared.search.Turn.{Turn}
 use Rattle.js_guard.specs.Searching.{mark, at, turn_at, noted, Reaches, Together, IsAtMost, IsPassed, IsAhead, IsJoined, IsSearch}
 use Rattle.js_guard.proofs.Pushes.{push-length, push-old, push-new, push-cases}
-use Rattle.js_guard.proofs.Turns.{no_turn, Reaches-join, Reaches-edge, on_cycle-target, turn-within, path-before, groups-before, together-after, reach-turn, ahead-cases, path_rises-before}
+use Rattle.js_guard.proofs.Turns.{no_turn, Reaches-join, Reaches-edge, on_cycle-target, reach-turn, ahead-cases}
 
 pub noted-keeps : (least : Option ℕ) (x y : ℕ) → IsAtMost least y → IsAtMost (noted least x) y
 noted-keeps None x y h = absurd h
@@ -23,8 +23,8 @@ noted-is None x l h = inr (let e : x ≡ l = cc in sym e)
 noted-is (Some m) x l h =
     let e : min m x ≡ l = cc in
     elim (cases_lt m x) [
-      inl less ↦ inl (ap Some (omega arith))
-    | inr more ↦ inr (omega arith)
+      | inl less ↦ inl (ap Some (omega arith))
+      | inr more ↦ inr (omega arith)
     ]
 
 pub noted-some : (least : Option ℕ) (x : ℕ) → noted least x ≡ None → ⊥
@@ -50,25 +50,31 @@ module _ (g : List (List ℕ)) (M : List Mark) (S B : List ℕ) (P : List Turn) 
   same_place : (k : ℕ) → k < length Q' → (turn_at Q' k).place ≡ (turn_at Q k).place
   same_place k h =
       elim (push-cases P (turn p (n + 1)) no_turn k h) [
-        inl l ↦
-          ap (λ u. u.place) (push-old P (turn p (n + 1)) no_turn k l)
-          ∙ sym (ap (λ u. u.place) (push-old P (turn p n) no_turn k l))
-      | inr e ↦
-          ap (λ i. (turn_at Q' i).place) e ∙ ap (λ u. u.place) (push-new P (turn p (n + 1)) no_turn)
-          ∙ sym (ap (λ i. (turn_at Q i).place) e ∙ ap (λ u. u.place) (push-new P (turn p n) no_turn))
+        | inl l ↦
+            ap (λ u. u.place) (push-old P (turn p (n + 1)) no_turn k l)
+            ∙ sym (ap (λ u. u.place) (push-old P (turn p n) no_turn k l))
+        | inr e ↦
+            ap (λ i. (turn_at Q' i).place) e ∙ ap (λ u. u.place) (push-new P (turn p (n + 1)) no_turn)
+            ∙ sym (ap (λ i. (turn_at Q i).place) e ∙ ap (λ u. u.place) (push-new P (turn p n) no_turn))
       ]
 
   ahead : (i e : ℕ) → IsAhead P i e → IsAhead Q' i e
   ahead i e (k, l, q, m) =
-      let same = push-old P (turn p (n + 1)) no_turn k l in
-      (k, omega (arith, push-length P (turn p (n + 1)) no_turn), ap (λ u. u.place) same ∙ q,
-      subst (λ u. u.next ≤ e) (sym same) m)
+      let same = push-old P (turn p (n + 1)) no_turn k l in (
+        k,
+        omega (arith, push-length P (turn p (n + 1)) no_turn),
+        ap (λ u. u.place) same ∙ q,
+        subst (λ u. u.next ≤ e) (sym same) m,
+      )
 
   ahead-here : (i e : ℕ) → i ≡ p → n + 1 ≤ e → IsAhead Q' i e
   ahead-here i e f h =
-      let same = push-new P (turn p (n + 1)) no_turn in
-      (length P, omega (arith, push-length P (turn p (n + 1)) no_turn), ap (λ u. u.place) same ∙ sym f,
-      subst (λ u. u.next ≤ e) (sym same) h)
+      let same = push-new P (turn p (n + 1)) no_turn in (
+        length P,
+        omega (arith, push-length P (turn p (n + 1)) no_turn),
+        ap (λ u. u.place) same ∙ sym f,
+        subst (λ u. u.next ≤ e) (sym same) h,
+      )
 
   abbrev Passes : ℕ → ℕ → Type 0
   Passes i e = IsPassed B least i (at (targets g (at S i)) e) (mark M (at (targets g (at S i)) e))
@@ -76,14 +82,14 @@ module _ (g : List (List ℕ)) (M : List Mark) (S B : List ℕ) (P : List Turn) 
   past : (i e : ℕ) → i < length S → e < length (targets g (at S i)) → IsAhead Q' i e ⊎ Passes i e
   past i e h k =
       elim (s.passed i e h k) as (λ _. IsAhead Q' i e ⊎ Passes i e) [
-        inr q ↦ inr q
-      | inl a ↦ elim (ahead-cases g M S B P done least (turn p n) s i e a) as (λ _. IsAhead Q' i e ⊎ Passes i e) [
-            inl b ↦ inl (ahead i e b)
+        | inr q ↦ inr q
+        | inl a ↦ elim (ahead-cases g M S B P done least (turn p n) s i e a) as (λ _. IsAhead Q' i e ⊎ Passes i e) [
+          | inl b ↦ inl (ahead i e b)
           | inr b ↦ elim (cases_eq e n) as (λ _. IsAhead Q' i e ⊎ Passes i e) [
-                inl f ↦ inr (subst (λ j. Passes j e) (sym b.0) (subst (λ j. Passes p j) (sym f) over))
-              | inr ne ↦ inl (ahead-here i e b.0 (let after = b.1 in omega arith))
-              ]
+            | inl f ↦ inr (subst (λ j. Passes j e) (sym b.0) (subst (λ j. Passes p j) (sym f) over))
+            | inr ne ↦ inl (ahead-here i e b.0 (let after = b.1 in omega arith))
           ]
+        ]
       ]
 
   pub stepped : IsSearch g M S B Q' done least
@@ -131,11 +137,11 @@ module _ (g : List (List ℕ)) (M : List Mark) (S B B' : List ℕ) (P : List Tur
   low_group k h =
       let f = joins.fewer in
       elim (cases_lt (k + 1) (length B')) [
-        inl more ↦
-          let top = joins.last (length B' - 1) (omega arith) in
-          let rise = s.groups_rise k (length B' - 1) (omega arith) (omega arith) in
-          omega arith
-      | inr end ↦ joins.last k (omega arith)
+        | inl more ↦
+            let top = joins.last (length B' - 1) (omega arith) in
+            let rise = s.groups_rise k (length B' - 1) (omega arith) (omega arith) in
+            omega arith
+        | inr end ↦ joins.last k (omega arith)
       ]
 
   fewer : (i q : ℕ) → Together B q i → Together B' q i
@@ -153,29 +159,29 @@ module _ (g : List (List ℕ)) (M : List Mark) (S B B' : List ℕ) (P : List Tur
       near : Together B q j
       near k l less =
           elim (cases_lt k (length B')) [
-            inl a ↦
-              let kept = joins.kept k a in
-              let low = low_group k a in
-              absurd (let late = t k a (omega arith) in omega arith)
-          | inr a ↦ joins.past k a l
+            | inl a ↦
+                let kept = joins.kept k a in
+                let low = low_group k a in
+                absurd (let late = t k a (omega arith) in omega arith)
+            | inr a ↦ joins.past k a l
           ]
 
   joined-reach : (i q : ℕ) → i < length S → q < length S → Together B' q i → Reaches g (at S i) (at S q)
   joined-reach i q h k t =
       elim (cases_lt j i) [
-        inl after ↦
-          Reaches-join g (at S i) w (at S q)
-          (Reaches-join g (at S i) (at S p) w (reach-turn g M S B P done least (turn p n) s i h)
-          (Reaches-edge g (at S p) w target))
-          (from_w i q after k t)
-      | inr before ↦ s.reach i q h k (near before)
+        | inl after ↦
+            Reaches-join g (at S i) w (at S q)
+            (Reaches-join g (at S i) (at S p) w (reach-turn g M S B P done least (turn p n) s i h)
+            (Reaches-edge g (at S p) w target))
+            (from_w i q after k t)
+        | inr before ↦ s.reach i q h k (near before)
       ]
     where
       near : i ≤ j → Together B q i
       near before m l less =
           elim (cases_lt m (length B')) [
-            inl a ↦ (let kept = joins.kept m a in let late = t m a (omega arith) in omega arith)
-          | inr a ↦ (let late = joins.past m a l in omega arith)
+            | inl a ↦ (let kept = joins.kept m a in let late = t m a (omega arith) in omega arith)
+            | inr a ↦ (let late = joins.past m a l in omega arith)
           ]
 
   joined-passed : (i y : ℕ) (m : Mark) → IsPassed B least i y m → IsPassed B' least' i y m
@@ -187,27 +193,27 @@ module _ (g : List (List ℕ)) (M : List Mark) (S B B' : List ℕ) (P : List Tur
       → IsAhead (P ++ turn p n ∷ []) i e ⊎ IsPassed B' least' i (at (targets g (at S i)) e) (mark M (at (targets g (at S i)) e))
   joined-past i e h k =
       elim (s.passed i e h k)
-        as (λ _. IsAhead (P ++ turn p n ∷ []) i e ⊎ IsPassed B' least' i (at (targets g (at S i)) e) (mark M (at (targets g (at S i)) e))) [
-        inl a ↦ inl a
-      | inr q ↦ inr (joined-passed i (at (targets g (at S i)) e) (mark M (at (targets g (at S i)) e)) q)
+      as (λ _. IsAhead (P ++ turn p n ∷ []) i e ⊎ IsPassed B' least' i (at (targets g (at S i)) e) (mark M (at (targets g (at S i)) e))) [
+        | inl a ↦ inl a
+        | inr q ↦ inr (joined-passed i (at (targets g (at S i)) e) (mark M (at (targets g (at S i)) e)) q)
       ]
 
   joined-first : 0 < length S → (0 < length B') × (at B' 0 ≡ 0)
   joined-first h =
       let old = s.first_group h in
       elim (cases_lt 0 (length B')) [
-        inl a ↦ (a, joins.kept 0 a ∙ old.1)
-      | inr none ↦ absurd (let late = joins.past 0 none old.0 in let e = old.1 in omega arith)
+        | inl a ↦ (a, joins.kept 0 a ∙ old.1)
+        | inr none ↦ absurd (let late = joins.past 0 none old.0 in let e = old.1 in omega arith)
       ]
 
   joined-least_on : (l : ℕ) → least' ≡ Some l → IsOnCycle g l
   joined-least_on l h =
       elim (noted-is least w l h) [
-        inl e ↦ s.least_on l e
-      | inr e ↦
-          subst (IsOnCycle g) (sym e)
-          (on_cycle-target g (at S p) w target
-          (subst (λ y. Reaches g y (at S p)) place.1 (reach-turn g M S B P done least (turn p n) s j place.0)))
+        | inl e ↦ s.least_on l e
+        | inr e ↦
+            subst (IsOnCycle g) (sym e)
+            (on_cycle-target g (at S p) w target
+            (subst (λ y. Reaches g y (at S p)) place.1 (reach-turn g M S B P done least (turn p n) s j place.0)))
       ]
 
   pub joined : IsSearch g M S B' (P ++ turn p n ∷ []) done least'

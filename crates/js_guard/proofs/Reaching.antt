@@ -1,5 +1,5 @@
 -- Entries are reached in the order of their distances.
-use Rattle.std.proofs.Common.{◌≡◌, ℕ, zero, suc, ◌+◌, ◌-◌, ◌<◌, ◌≤◌, ◌⊎◌, ◌≢◌, List, [], ◌∷◌, ◌++◌, length, get_or, set, replicate, inl, inr, Bool, true, false, cond, Option, Some, None, is_none, count_by, refl, sym, ap, ◌∙◌, subst, arith, true≢false}
+use Rattle.std.proofs.Common.{◌≡◌, ℕ, zero, suc, ◌+◌, ◌<◌, ◌≤◌, ◌≢◌, List, [], ◌∷◌, ◌++◌, length, set, replicate, inl, inr, true, cond, Option, Some, None, is_none, count_by, refl, sym, ap, ◌∙◌, subst, arith}
 use Rattle.std.proofs.lemmas.Bool.{cases_eq, cases_lt}
 use Rattle.std.proofs.lemmas.List.{length-set, get_or-set_same, get_or-set_other, get_or-replicate, get_or_past, length-replicate}
 use Rattle.std.proofs.lemmas.List.Sums.{sum_by-set}
@@ -29,7 +29,7 @@ unknown-set : (D : List (Option ℕ)) (x d : ℕ) → x < length D → get_dista
     → unknown (set D x (Some d)) + 1 ≡ unknown D
 unknown-set D x d h none =
     let swap : unknown (set D x (Some d)) + one (get_distance D x) ≡ unknown D + one (Some d) =
-        sum_by-set one D x (Some d) None h in
+    sum_by-set one D x (Some d) None h in
     let was : one (get_distance D x) ≡ one None = ap one none in
     omega arith
 
@@ -76,27 +76,33 @@ module _ (g : List (List ℕ)) (D : List (Option ℕ)) (Q : List Reached) (h y :
       → (i : ℕ) × (i < length Q') × ((item Q' i).entry ≡ x) × ((item Q' i).distance ≡ e)
   more-queued x e k =
       elim (cases_eq x y) [
-        inl f ↦
-          let value : Some (d + 1) ≡ Some e = sym now ∙ ap (get_distance D') (sym f) ∙ k in
-          let same : d + 1 ≡ e = cc in
-          (length Q, omega (arith, longer), ap (λ q. q.entry) (item-new (length Q) refl) ∙ sym f,
-          ap (λ q. q.distance) (item-new (length Q) refl) ∙ same)
-      | inr ne ↦
-          let old = s.queued x e (sym (other x ne) ∙ k) in
-          let l = old.1 in
-          (old.0, omega (arith, longer), ap (λ q. q.entry) (item-old old.0 l) ∙ old.2,
-          ap (λ q. q.distance) (item-old old.0 l) ∙ old.3)
+        | inl f ↦
+            let value : Some (d + 1) ≡ Some e = sym now ∙ ap (get_distance D') (sym f) ∙ k in
+            let same : d + 1 ≡ e = cc in (
+              length Q,
+              omega (arith, longer),
+              ap (λ q. q.entry) (item-new (length Q) refl) ∙ sym f,
+              ap (λ q. q.distance) (item-new (length Q) refl) ∙ same,
+            )
+        | inr ne ↦
+            let old = s.queued x e (sym (other x ne) ∙ k) in
+            let l = old.1 in (
+              old.0,
+              omega (arith, longer),
+              ap (λ q. q.entry) (item-old old.0 l) ∙ old.2,
+              ap (λ q. q.distance) (item-old old.0 l) ∙ old.3,
+            )
       ]
 
   more-reached : (i : ℕ) → i < length Q' → get_distance D' (item Q' i).entry ≡ Some (item Q' i).distance
   more-reached i l =
       elim (push-cases Q last no_item i l) [
-        inl m ↦
-          let old = s.reached i m in
-          ap (λ q. get_distance D' q.entry) (item-old i m) ∙ still (item Q i).entry (item Q i).distance old
-          ∙ ap (λ q. Some q.distance) (sym (item-old i m))
-      | inr e ↦
-          ap (λ q. get_distance D' q.entry) (item-new i e) ∙ now ∙ ap (λ q. Some q.distance) (sym (item-new i e))
+        | inl m ↦
+            let old = s.reached i m in
+            ap (λ q. get_distance D' q.entry) (item-old i m) ∙ still (item Q i).entry (item Q i).distance old
+            ∙ ap (λ q. Some q.distance) (sym (item-old i m))
+        | inr e ↦
+            ap (λ q. get_distance D' q.entry) (item-new i e) ∙ now ∙ ap (λ q. Some q.distance) (sym (item-new i e))
       ]
 
   more-way : (i : ℕ) → i < length Q' → leads g (item Q' i).distance (item Q' 0).entry (item Q' i).entry ≡ true
@@ -104,38 +110,38 @@ module _ (g : List (List ℕ)) (D : List (Option ℕ)) (Q : List Reached) (h y :
       let first = item-old 0 s.begun in
       subst (λ f. leads g (item Q' i).distance f.entry (item Q' i).entry ≡ true) (sym first)
       (elim (push-cases Q last no_item i l) as (λ _. leads g (item Q' i).distance (item Q 0).entry (item Q' i).entry ≡ true) [
-        inl m ↦
-          subst (λ q. leads g q.distance (item Q 0).entry q.entry ≡ true) (sym (item-old i m)) (s.way i m)
-      | inr e ↦
-          let edge_way = leads-edge g 0 (item Q h).entry y y edge (leads-here g y) in
-          subst (λ q. leads g q.distance (item Q 0).entry q.entry ≡ true) (sym (item-new i e))
-          (leads-join g d 1 (d + 1) (item Q 0).entry (item Q h).entry y refl (s.way h here) edge_way)
+        | inl m ↦
+            subst (λ q. leads g q.distance (item Q 0).entry q.entry ≡ true) (sym (item-old i m)) (s.way i m)
+        | inr e ↦
+            let edge_way = leads-edge g 0 (item Q h).entry y y edge (leads-here g y) in
+            subst (λ q. leads g q.distance (item Q 0).entry q.entry ≡ true) (sym (item-new i e))
+            (leads-join g d 1 (d + 1) (item Q 0).entry (item Q h).entry y refl (s.way h here) edge_way)
       ])
 
   more-rising : (i j : ℕ) → i < j → j < length Q' → (item Q' i).distance ≤ (item Q' j).distance
   more-rising i j less l =
       elim (push-cases Q last no_item j l) [
-        inl m ↦
-          let k : i < length Q = omega arith in
-          omega (arith, s.rising i j less m, ap (λ q. q.distance) (item-old i k), ap (λ q. q.distance) (item-old j m))
-      | inr e ↦
-          let k : i < length Q = omega arith in
-          omega (arith, s.near i k here, ap (λ q. q.distance) (item-old i k), ap (λ q. q.distance) (item-new j e))
+        | inl m ↦
+            let k : i < length Q = omega arith in
+            omega (arith, s.rising i j less m, ap (λ q. q.distance) (item-old i k), ap (λ q. q.distance) (item-old j m))
+        | inr e ↦
+            let k : i < length Q = omega arith in
+            omega (arith, s.near i k here, ap (λ q. q.distance) (item-old i k), ap (λ q. q.distance) (item-new j e))
       ]
 
   more-near : (i : ℕ) → i < length Q' → h < length Q' → (item Q' i).distance ≤ suc (item Q' h).distance
   more-near i l m =
       elim (push-cases Q last no_item i l) [
-        inl k ↦
-          omega (arith, s.near i k here, ap (λ q. q.distance) (item-old i k), ap (λ q. q.distance) (item-old h here))
-      | inr e ↦ omega (arith, ap (λ q. q.distance) (item-new i e), ap (λ q. q.distance) (item-old h here))
+        | inl k ↦
+            omega (arith, s.near i k here, ap (λ q. q.distance) (item-old i k), ap (λ q. q.distance) (item-old h here))
+        | inr e ↦ omega (arith, ap (λ q. q.distance) (item-new i e), ap (λ q. q.distance) (item-old h here))
       ]
 
   more-small : (i : ℕ) → i < length Q' → (item Q' i).distance ≤ i
   more-small i l =
       elim (push-cases Q last no_item i l) [
-        inl k ↦ omega (arith, s.small i k, ap (λ q. q.distance) (item-old i k))
-      | inr e ↦ omega (arith, s.small h here, ap (λ q. q.distance) (item-new i e))
+        | inl k ↦ omega (arith, s.small i k, ap (λ q. q.distance) (item-old i k))
+        | inr e ↦ omega (arith, s.small h here, ap (λ q. q.distance) (item-new i e))
       ]
 
   more-followed : (i z : ℕ) → i < h → i < length Q' → is_among z (targets g (item Q' i).entry) ≡ true
@@ -216,7 +222,7 @@ module _ (g : List (List ℕ)) (s s' : Frontier) (h y : ℕ) (search : IsReachin
 -- all edges of the entry at place h are followed
 pub follow-all : (g : List (List ℕ)) (D : List (Option ℕ)) (Q : List Reached) (h : ℕ) → h < length Q → IsReaching g D Q h
     → ((y : ℕ) → is_among y (targets g (item Q h).entry) ≡ true
-      → (d : ℕ) × (get_distance D y ≡ Some d) × (d ≤ suc (item Q h).distance))
+    → (d : ℕ) × (get_distance D y ≡ Some d) × (d ≤ suc (item Q h).distance))
     → IsReaching g D Q (h + 1)
 follow-all g D Q h here s all = record {
   known = s.known;
@@ -229,11 +235,11 @@ follow-all g D Q h here s all = record {
   small = s.small;
   followed = λ i y before l k.
       elim (cases_lt i h) [
-        inl less ↦ s.followed i y less l k
-      | inr more ↦
-          let same : i ≡ h = omega arith in
-          subst (λ j. (d : ℕ) × (get_distance D y ≡ Some d) × (d ≤ suc (item Q j).distance)) (sym same)
-          (all y (subst (λ j. is_among y (targets g (item Q j).entry) ≡ true) same k))
+        | inl less ↦ s.followed i y less l k
+        | inr more ↦
+            let same : i ≡ h = omega arith in
+            subst (λ j. (d : ℕ) × (get_distance D y ≡ Some d) × (d ≤ suc (item Q j).distance)) (sym same)
+            (all y (subst (λ j. is_among y (targets g (item Q j).entry) ≡ true) same k))
       ];
   counted = s.counted;
 }
@@ -253,16 +259,18 @@ module _ (g : List (List ℕ)) (D : List (Option ℕ)) (Q : List Reached) (h : �
 
   end-fewest : (n x : ℕ) → leads g n f x ≡ true → (d : ℕ) × (get_distance D x ≡ Some d) × (d ≤ n)
   end-fewest zero x k =
-      let same = leads-same g f x k in
-      ((item Q 0).distance, subst (λ z. get_distance D z ≡ Some (item Q 0).distance) same (s.reached 0 s.begun),
-      s.small 0 s.begun)
+      let same = leads-same g f x k in (
+        (item Q 0).distance,
+        subst (λ z. get_distance D z ≡ Some (item Q 0).distance) same (s.reached 0 s.begun),
+        s.small 0 s.begun,
+      )
   end-fewest (suc n) x k =
       let last = leads-last g n f x k in
       let before = end-fewest n last.0 last.1 in
       let found = s.queued last.0 before.0 before.1 in
       let l = found.1 in
       let next = s.followed found.0 x (omega arith) l
-          (subst (λ z. is_among x (targets g z) ≡ true) (sym found.2) last.2) in
+      (subst (λ z. is_among x (targets g z) ≡ true) (sym found.2) last.2) in
       let a = before.2 in
       let b = found.3 in
       let c = next.2 in
@@ -279,8 +287,8 @@ nowhere n = replicate n None
 nowhere-at : (n x : ℕ) → get_distance (nowhere n) x ≡ None
 nowhere-at n x =
     elim (cases_lt x n) [
-      inl l ↦ get_or-replicate {A = Option ℕ} n x None None l
-    | inr l ↦ get_or_past (nowhere n) x None (omega (arith, length-replicate {A = Option ℕ} n None))
+      | inl l ↦ get_or-replicate {A = Option ℕ} n x None None l
+      | inr l ↦ get_or_past (nowhere n) x None (omega (arith, length-replicate {A = Option ℕ} n None))
     ]
 
 unknown-all : (n : ℕ) → unknown (nowhere n) ≡ n
@@ -296,14 +304,14 @@ module _ (g : List (List ℕ)) (x : ℕ) (inside : x < length g) where
   alone : (y d : ℕ) → get_distance (set A x (Some 0)) y ≡ Some d → (x ≡ y) × (0 ≡ d)
   alone y d h =
       elim (cases_eq y x) [
-        inl e ↦
-          let here = get_or-set_same A x (Some 0) None (omega (arith, size)) in
-          let value : Some 0 ≡ Some d = sym here ∙ ap (get_distance (set A x (Some 0))) (sym e) ∙ h in
-          let same : 0 ≡ d = cc in
-          (sym e, same)
-      | inr ne ↦
-          let other = get_or-set_other A x y (Some 0) None ne in
-          absurd (let clash : None ≡ Some d = sym (nowhere-at (length g) y) ∙ sym other ∙ h in cc)
+        | inl e ↦
+            let here = get_or-set_same A x (Some 0) None (omega (arith, size)) in
+            let value : Some 0 ≡ Some d = sym here ∙ ap (get_distance (set A x (Some 0))) (sym e) ∙ h in
+            let same : 0 ≡ d = cc in
+            (sym e, same)
+        | inr ne ↦
+            let other = get_or-set_other A x y (Some 0) None ne in
+            absurd (let clash : None ≡ Some d = sym (nowhere-at (length g) y) ∙ sym other ∙ h in cc)
       ]
 
   abbrev start : List Reached
@@ -337,6 +345,8 @@ module _ (g : List (List ℕ)) (x : ℕ) (inside : x < length g) where
     where
       go : ReachesAt None s s' x 0 → IsReachingWith g s' 0 × ((item s'.queue.items 0).entry ≡ x)
       go (distances, queue) =
-          let queued = queue ∙ ap (λ q. q ++ reached x 0 ∷ []) f in
-          (reaching-same g (set A x (Some 0)) s'.distances.items start s'.queue.items 0
-          (distances ∙ ap (λ m. set m x (Some 0)) e) queued reached-first, ap (λ q. (item q 0).entry) queued)
+          let queued = queue ∙ ap (λ q. q ++ reached x 0 ∷ []) f in (
+            reaching-same g (set A x (Some 0)) s'.distances.items start s'.queue.items 0
+                (distances ∙ ap (λ m. set m x (Some 0)) e) queued reached-first,
+            ap (λ q. (item q 0).entry) queued,
+          )

@@ -1,10 +1,10 @@
 -- A search that rests: no entry is open. It begins so, and it ends so with all entries done.
-use Rattle.std.proofs.Common.{◌≡◌, ℕ, zero, suc, ◌+◌, ◌-◌, ◌<◌, ◌≤◌, ◌⊎◌, ◌≢◌, List, [], ◌∷◌, ◌++◌, map, length, get_or, replicate, inl, inr, Bool, true, false, ◌&&◌, nat_lt, Option, Some, None, refl, sym, ap, ◌∙◌, subst, arith, true≢false}
+use Rattle.std.proofs.Common.{◌≡◌, ℕ, zero, suc, ◌<◌, List, [], ◌∷◌, map, length, inl, inr, Bool, true, nat_lt, Option, Some, None, refl, sym, ap, ◌∙◌, subst, arith}
 use Rattle.std.proofs.lemmas.Bool.{cases_lt, and_from, lt-ltb}
-use Rattle.std.proofs.lemmas.List.{length-map, get_or_past}
+use Rattle.std.proofs.lemmas.List.{length-map}
 use Rattle.documents.specs.Tests.{every}
-use Rattle.schemas.specs.Guarded.{targets, is_among, leads, IsOnCycle, IsLeastOnCycle, fall, are_ranks}
-use Rattle.schema_laws.proofs.Ways.{is_among-at, leads-first}
+use Rattle.schemas.specs.Guarded.{targets, is_among, IsLeastOnCycle, fall, are_ranks}
+use Rattle.schema_laws.proofs.Ways.{is_among-at}
 use Rattle.js_guard.specs.declared.search.Mark.{Mark}
 use Rattle.js_guard.specs.declared.search.Mark.TheVariants.{New, Open, Done}
 use Rattle.js_guard.specs.declared.search.Search.{Search}
@@ -18,11 +18,11 @@ pub rest-none : (g : List (List ℕ)) (M : List Mark) (S B : List ℕ) (done : �
     → IsSearch g M S B [] done least → length S ≡ 0
 rest-none g M S B done least s =
     elim (cases_lt 0 (length S)) [
-      inl some ↦
-        let first = s.first_group some in
-        let on_path = s.path_groups 0 first.0 in
-        absurd (let none = on_path.1 in omega arith)
-    | inr none ↦ omega arith
+      | inl some ↦
+          let first = s.first_group some in
+          let on_path = s.path_groups 0 first.0 in
+          absurd (let none = on_path.1 in omega arith)
+      | inr none ↦ omega arith
     ]
 
 -- what stands once a root is met
@@ -67,7 +67,7 @@ fall-from ranks (r ∷ rs) [] e h = absurd (omega (arith, e))
 fall-from ranks (r ∷ rs) (ts ∷ g) e h =
     and_from (every (λ y. nat_lt (at ranks y) r) ts) (fall ranks rs g)
     (every-from (λ y. nat_lt (at ranks y) r) ts
-      (λ i l. lt-ltb (at ranks (at ts i)) r (h 0 (at ts i) (omega arith) (is_among-at ts i l))))
+    (λ i l. lt-ltb (at ranks (at ts i)) r (h 0 (at ts i) (omega arith) (is_among-at ts i l))))
     (fall-from ranks rs g (omega (arith, e)) (λ x y l k. h (suc x) y (omega arith) k))
 
 at-rank : (M : List Mark) (x : ℕ) → at (map rank_of M) x ≡ rank_of (mark M x)

@@ -1,14 +1,14 @@
 -- The steps of the program keep a search.
-use Rattle.std.proofs.Common.{◌≡◌, ℕ, zero, suc, ◌+◌, ◌-◌, ◌*◌, ◌<◌, ◌≤◌, ◌⊎◌, ◌≢◌, List, [], ◌∷◌, ◌++◌, length, get_or, set, inl, inr, Bool, true, false, Option, Some, None, refl, sym, ap, ◌∙◌, subst, arith, true≢false}
+use Rattle.std.proofs.Common.{◌≡◌, ℕ, ◌+◌, ◌-◌, ◌<◌, ◌≤◌, List, [], ◌∷◌, ◌++◌, length, inl, inr, Bool, true, false, Option, refl, sym, ap, ◌∙◌, subst, arith, true≢false}
 use Rattle.std.proofs.lemmas.List.{length_push, get_or-set_same}
-use Rattle.schemas.specs.Guarded.{targets, is_among, leads, IsOnCycle}
+use Rattle.schemas.specs.Guarded.{targets, is_among}
 use Rattle.schema_laws.proofs.Ways.{is_among-at}
 use Rattle.js_guard.specs.declared.search.Mark.{Mark}
 use Rattle.js_guard.specs.declared.search.Mark.TheVariants.{New, Open, Done}
 use Rattle.js_guard.specs.declared.search.Turn.{Turn}
 use Rattle.js_guard.specs.declared.search.Search.{Search}
 use Rattle.js_guard.specs.Rows.{AreClosed}
-use Rattle.js_guard.specs.Searching.{mark, is_new, count_new, at, noted, Reaches, IsPassed, IsJoined, IsSearch}
+use Rattle.js_guard.specs.Searching.{mark, is_new, count_new, at, noted, Reaches, IsPassed, IsSearch}
 use Rattle.js_guard.specs.Steps.{IsSearchWith, Keeps, work, Enters, PassesAt, PassesEdges, ClosesLast, Leaves}
 use Rattle.js_guard.proofs.Turns.{Reaches-join, Reaches-edge, reach-turn}
 use Rattle.js_guard.proofs.Entering.{entered, entered-keeps, entered-fewer}
@@ -34,9 +34,9 @@ module _ (g : List (List ℕ)) (s s' : Search) (P : List Turn) (p n : ℕ)
   passes-at New e h = absurd (true≢false h.0)
   passes-at (Open j) e (it_is, joins, same) =
       let now = joined g s.marks.items s.opened.items s.groups.items s'.groups.items P s.done s.least p n j search edge e
-          joins in
+      joins in
       let over = joined-edge g s.marks.items s.opened.items s.groups.items s'.groups.items P s.done s.least p n j search
-          edge e joins in
+      edge e joins in
       let next = stepped g s.marks.items s.opened.items s'.groups.items P s.done (noted s.least w) p n now over in
       record {
         marks = ap (λ t. t.marks) same;
@@ -147,32 +147,32 @@ module _ (g : List (List ℕ)) (s s' : Search) (P : List Turn) (p n : ℕ)
         (closed g s.marks.items s.opened.items s.groups.items P s.done s.least (turn p n) search over s'.marks.items
         s'.opened.items s'.groups.items s'.done s'.least c.ends c.groups c.opened c.closes);
     keeps = λ x h. elim (c.closes.others x) [
-          inl same ↦ sym same ∙ h
-        | inr (i, low, high, e) ↦
-            let now = c.closes.closed i low high in
-            absurd (let clash : Done now.0 ≡ New = sym now.1 ∙ ap (mark s'.marks.items) e ∙ h in cc)
-        ];
+      | inl same ↦ sym same ∙ h
+      | inr (i, low, high, e) ↦
+          let now = c.closes.closed i low high in
+          absurd (let clash : Done now.0 ≡ New = sym now.1 ∙ ap (mark s'.marks.items) e ∙ h in cc)
+    ];
   }
 
   pub leaving : Leaves s s' p → GoesOn g s s'
   leaving h =
       elim h [
-        inl (same, inner) ↦
-          let now = left g s.marks.items s.opened.items s.groups.items P s.done s.least (turn p n) search over inner in
-          record {
-            search = subst (λ t. IsSearchWith g t t.path.items) (sym same) (subst (λ q. IsSearchWith g s q) (sym path) now);
-            keeps = λ x k. subst (λ t. mark t.marks.items x ≡ New) same k;
-          }
-      | inr c ↦ leaving-last c
+        | inl (same, inner) ↦
+            let now = left g s.marks.items s.opened.items s.groups.items P s.done s.least (turn p n) search over inner in
+            record {
+              search = subst (λ t. IsSearchWith g t t.path.items) (sym same) (subst (λ q. IsSearchWith g s q) (sym path) now);
+              keeps = λ x k. subst (λ t. mark t.marks.items x ≡ New) same k;
+            }
+        | inr c ↦ leaving-last c
       ]
 
   pub leaving-work : Leaves s s' p → work s' ≡ work s
   leaving-work h =
       elim h [
-        inl (same, inner) ↦ ap work same
-      | inr c ↦
-          let counted = c.closes.counted (λ i low high. ap is_new (search.open_marked i high)) in
-          omega (arith, ap (λ v. length v.items) c.path)
+        | inl (same, inner) ↦ ap work same
+        | inr c ↦
+            let counted = c.closes.counted (λ i low high. ap is_new (search.open_marked i high)) in
+            omega (arith, ap (λ v. length v.items) c.path)
       ]
 
 -- edges are passed up to one that leads to a new entry, which is entered: s, t, u and v are what stands before that, after
@@ -239,5 +239,9 @@ module _ (g : List (List ℕ)) (s t v : Search) (p n : ℕ) (e : PassesEdges g s
 
   pub turned-last-work : work v ≤ work s
   turned-last-work =
-      omega (arith, leaving-work g t v s.path.items p n e.search (ap (λ q. q.items) e.path) over leaves,
-      ap (λ m. count_new m.items) e.marks, ap (λ q. length q.items) e.path)
+      omega (
+        arith,
+        leaving-work g t v s.path.items p n e.search (ap (λ q. q.items) e.path) over leaves,
+        ap (λ m. count_new m.items) e.marks,
+        ap (λ q. length q.items) e.path,
+      )

@@ -1,13 +1,13 @@
 -- What a search knows of the entry whose turn it is: it stands in the last group, and each open entry leads to it.
-use Rattle.std.proofs.Common.{◌≡◌, ℕ, zero, suc, ◌+◌, ◌<◌, ◌≤◌, ◌⊎◌, ◌≢◌, List, [], ◌∷◌, ◌++◌, length, get_or, inl, inr, Bool, true, false, Option, Some, None, refl, sym, ap, ◌∙◌, subst, arith}
+use Rattle.std.proofs.Common.{◌≡◌, ℕ, suc, ◌+◌, ◌<◌, ◌≤◌, ◌⊎◌, ◌≢◌, List, [], ◌∷◌, ◌++◌, length, get_or, inl, inr, true, Option, refl, sym, ap, ◌∙◌, subst, arith}
 use Rattle.std.proofs.lemmas.Bool.{cases_lt}
-use Rattle.std.proofs.lemmas.List.{get_or_past}
-use Rattle.schemas.specs.Guarded.{targets, is_among, leads, IsOnCycle}
+use Rattle.std.proofs.lemmas.List.{get_or_past, get_or_read}
+use Rattle.schemas.specs.Guarded.{targets, is_among, IsOnCycle}
 use Rattle.schema_laws.proofs.Ways.{leads-here, leads-edge, leads-join}
 use Rattle.js_guard.specs.declared.search.Mark.{Mark}
-use Rattle.js_guard.specs.declared.search.Mark.TheVariants.{New, Open, Done}
+use Rattle.js_guard.specs.declared.search.Mark.TheVariants.{New, Open}
 use Rattle.js_guard.specs.declared.search.Turn.{Turn}
-use Rattle.js_guard.specs.Searching.{mark, at, turn_at, Reaches, Together, IsAtMost, IsPassed, IsAhead, IsSearch}
+use Rattle.js_guard.specs.Searching.{mark, at, turn_at, Reaches, Together, IsAhead, IsSearch}
 use Rattle.js_guard.proofs.Pushes.{push-length, push-old, push-new, push-cases}
 
 abbrev pub no_turn : Turn
@@ -50,8 +50,8 @@ module _ (g : List (List ℕ)) (M : List Mark) (S B : List ℕ) (P : List Turn) 
   groups-before k h =
       let on_path = s.path_groups k h in
       elim (push-cases P t no_turn on_path.0 on_path.1) [
-        inl l ↦ omega (arith, path-before on_path.0 l, ap (λ u. u.place) (turn-before on_path.0 l), on_path.2)
-      | inr e ↦ omega (arith, ap (λ k. (turn_at (P ++ t ∷ []) k).place) e, ap (λ u. u.place) turn-here, on_path.2)
+        | inl l ↦ omega (arith, path-before on_path.0 l, ap (λ u. u.place) (turn-before on_path.0 l), on_path.2)
+        | inr e ↦ omega (arith, ap (λ k. (turn_at (P ++ t ∷ []) k).place) e, ap (λ u. u.place) turn-here, on_path.2)
       ]
 
   -- no group begins past the turn's place
@@ -68,29 +68,33 @@ module _ (g : List (List ℕ)) (M : List Mark) (S B : List ℕ) (P : List Turn) 
   pub ahead-cases : (i e : ℕ) → IsAhead (P ++ t ∷ []) i e → IsAhead P i e ⊎ ((i ≡ t.place) × (t.next ≤ e))
   ahead-cases i e (k, l, p, n) =
       elim (push-cases P t no_turn k l) [
-        inl m ↦
-          let same = turn-before k m in
-          inl (k, m, sym (ap (λ u. u.place) same) ∙ p, subst (λ u. u.next ≤ e) same n)
-      | inr f ↦
-          let same = ap (turn_at (P ++ t ∷ [])) f ∙ turn-here in
-          inr (sym p ∙ ap (λ u. u.place) same, subst (λ u. u.next ≤ e) same n)
+        | inl m ↦
+            let same = turn-before k m in
+            inl (k, m, sym (ap (λ u. u.place) same) ∙ p, subst (λ u. u.next ≤ e) same n)
+        | inr f ↦
+            let same = ap (turn_at (P ++ t ∷ [])) f ∙ turn-here in
+            inr (sym p ∙ ap (λ u. u.place) same, subst (λ u. u.next ≤ e) same n)
       ]
 
   -- the path without the turn
   pub path_rises-before : (k l : ℕ) → k < l → l < length P → (turn_at P k).place < (turn_at P l).place
   path_rises-before k l less h =
       let below : k < length P = omega arith in
-      omega (arith, s.path_rises k l less (omega (arith, push-length P t no_turn)),
-      ap (λ u. u.place) (turn-before k below), ap (λ u. u.place) (turn-before l h))
+      omega (
+        arith,
+        s.path_rises k l less (omega (arith, push-length P t no_turn)),
+        ap (λ u. u.place) (turn-before k below),
+        ap (λ u. u.place) (turn-before l h),
+      )
 
   pub path_groups-before : (k : ℕ) → k < length B → (at B k ≡ t.place → ⊥)
       → (l : ℕ) × (l < length P) × ((turn_at P l).place ≡ at B k)
   path_groups-before k h other =
       let on_path = s.path_groups k h in
       elim (push-cases P t no_turn on_path.0 on_path.1) [
-        inl l ↦ (on_path.0, l, sym (ap (λ u. u.place) (turn-before on_path.0 l)) ∙ on_path.2)
-      | inr e ↦
-          absurd (other (sym on_path.2 ∙ ap (λ k. (turn_at (P ++ t ∷ []) k).place) e ∙ ap (λ u. u.place) turn-here))
+        | inl l ↦ (on_path.0, l, sym (ap (λ u. u.place) (turn-before on_path.0 l)) ∙ on_path.2)
+        | inr e ↦
+            absurd (other (sym on_path.2 ∙ ap (λ k. (turn_at (P ++ t ∷ []) k).place) e ∙ ap (λ u. u.place) turn-here))
       ]
 
 -- an entry with another mark than `New` has one
@@ -104,3 +108,20 @@ open-inside g M S B P done least s i h =
     let inside = mark-inside M (at S i) (λ e. (let clash : Open i ≡ New = sym (s.open_marked i h) ∙ e in cc)) in
     let size = s.marked in
     omega arith
+
+-- the row of the entry whose turn it is, and that the entry is one of the table
+module _ (g : List (List ℕ)) (M : List Mark) (S B : List ℕ) (P : List Turn) (done : ℕ) (least : Option ℕ)
+    (t : Turn) (s : IsSearch g M S B (P ++ t ∷ []) done least) (x : ℕ) (read : x ≡ get_or S t.place x) where
+  turn-entry : x ≡ at S t.place
+  turn-entry = get_or_read S t.place x (turn-within g M S B P done least t s) read 0
+
+  pub turn-inside : x < length g
+  turn-inside =
+      omega (
+        arith,
+        turn-entry,
+        open-inside g M S B (P ++ t ∷ []) done least s t.place (turn-within g M S B P done least t s),
+      )
+
+  pub turn-row : (row T : List ℕ) → row ≡ targets g x → T ≡ S → row ≡ targets g (at T t.place)
+  turn-row row T e same = e ∙ ap (targets g) (turn-entry ∙ ap (λ o. at o t.place) (sym same))

@@ -1,5 +1,5 @@
 -- Distances from one entry.
-use Rattle.std.specs.Prelude.{◌≡◌, ℕ, suc, ◌+◌, ◌<◌, ◌≤◌, List, [], ◌∷◌, ◌++◌, length, get_or, set, Bool, true, Option, Some, None, is_none, count_by}
+use Rattle.std.specs.Prelude.{◌≡◌, ℕ, suc, ◌+◌, ◌<◌, ◌≤◌, List, [], ◌∷◌, ◌++◌, length, get_or, set, true, Option, Some, None, is_none, count_by}
 use Rattle.schemas.specs.Guarded.{targets, is_among, leads}
 use Rattle.js_guard.specs.declared.distances.Reached.{Reached}
 use Rattle.js_guard.specs.declared.distances.Frontier.{Frontier}

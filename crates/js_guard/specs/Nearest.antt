@@ -27,4 +27,4 @@ IsBest D row n None = (k : ℕ) → k < n → get_distance D (get_or row k 0) �
 IsBest D row n (Some b) =
     ((k : ℕ) × (k < n) × (get_or row k 0 ≡ b.entry)) × (get_distance D b.entry ≡ Some b.distance)
     × ((k e : ℕ) → k < n → get_distance D (get_or row k 0) ≡ Some e
-      → (b.distance ≤ e) × (e ≡ b.distance → b.entry ≤ get_or row k 0))
+    → (b.distance ≤ e) × (e ≡ b.distance → b.entry ≤ get_or row k 0))

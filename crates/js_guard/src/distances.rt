@@ -25,7 +25,11 @@ pub(crate) struct Frontier {
 }
 
 /// The fewest edges from `first` to each entry, None where no way leads there.
-pub(crate) fn distances_from(alloc: Global, edges: &Edges, first: u32) -> Result<Vec<Option<u32>>, Memory>
+pub(crate) fn distances_from(
+    alloc: Global,
+    edges: &Edges,
+    first: u32,
+) -> Result<Vec<Option<u32>>, Memory>
     requires closed { AreClosed edges.now }
     requires small { length edges.now < 2 ^ 32 }
     requires first { first < length edges.now }

@@ -100,10 +100,7 @@ fn add_form(row: &mut Vec<u32>, form: &Form) -> Result<(), Memory>
     match form {
         Form::Always => Ok(()),
         Form::Never => Ok(()),
-        Form::Ref(target) => {
-            row.push(*target)?;
-            Ok(())
-        }
+        Form::Ref(target) => Ok(row.push(*target)?),
         Form::Keywords(keywords) => add_keywords(row, keywords),
     }
 }
@@ -134,6 +131,7 @@ fn add_list(row: &mut Vec<u32>, list: &Option<EntryList>) -> Result<(), Memory>
     Ok(())
 }
 
+/// Adds the schemas of dependencies. The names that a dependency needs are no schemas.
 fn add_dependencies(row: &mut Vec<u32>, dependencies: &DependencyList) -> Result<(), Memory>
     ensures { OnOk result (row.new.items ≡ row.old.items ++ of_needs (map dependency_view dependencies.now)) }
 {

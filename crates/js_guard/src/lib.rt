@@ -18,13 +18,12 @@ mod ranks;
 mod reverse;
 mod search;
 
-pub use fault::GuardFault;
-pub use ranks::Ranks;
-
 use crate::cycle::least_cycle;
 use crate::edges::Edges;
 use crate::search::{Found, search_all};
+pub use fault::GuardFault;
 use js_schema::{EntryList, Schema};
+pub use ranks::Ranks;
 use std::alloc::Global;
 
 /// Ranks for the entries of a schema, or the cycle that is told of it. In-place edges lead to the target of `$ref` and to

@@ -1,5 +1,5 @@
 -- Each entry has a next one, which is nearer.
-use Rattle.std.proofs.Common.{◌≡◌, ◌<◌, ◌∷◌, ◌++◌, [], length, ap, ◌∙◌, sym, subst, arith}
+use Rattle.std.proofs.Common.{◌∷◌, ◌++◌, [], ap, ◌∙◌, sym, subst, arith}
 use Rattle.js_guard.proofs.Walking.{IsWalk, cycle-inside, nearest-read, some-read, row-within, size-distances, next-inside, some-next, some-first, nearer-next, walk-first, walk-more, walk-end}
 use Rattle.js_guard.proofs.cycle.least_cycle.Goals as goal
 
@@ -60,8 +60,8 @@ nearest-next-requires-in-loop-next-clause-some c =
     let D = c.in_ok-distances.distances.items in
     let known = c.loop-next.invariant.known in
     let (z, e, among, has, less) =
-        some-next g c.in_ok-back.back c.args.first D c.in_ok-back.ensures c.in_ok-distances.ensures c.loop-next.next known.0
-        c.loop-next-test.true known.1 in
+    some-next g c.in_ok-back.back c.args.first D c.in_ok-back.ensures c.in_ok-distances.ensures c.loop-next.next known.0
+    c.loop-next-test.true known.1 in
     some-read D c.deref-in-loop-next.result.now c.row-in-loop-next.result.now _ c.deref-in-loop-next.ensures.value
     c.row-in-loop-next.ensures (z, e, among, has)
 
@@ -72,7 +72,7 @@ loop-next-smaller c =
     let known = c.loop-next.invariant.known in
     let next = c.nearest-next-in-loop-next.result in
     let near = nearest-read D c.deref-in-loop-next.result.now c.row-in-loop-next.result.now _ next
-        c.deref-in-loop-next.ensures.value c.row-in-loop-next.ensures c.nearest-next-in-loop-next.ensures in
+    c.deref-in-loop-next.ensures.value c.row-in-loop-next.ensures c.nearest-next-in-loop-next.ensures in
     nearer-next g c.in_ok-back.back c.args.first D c.in_ok-back.ensures c.in_ok-distances.ensures c.loop-next.next known.0
     next c.loop-next-test.true known.1 near
 
@@ -83,7 +83,7 @@ loop-next-preserved c =
     let D = c.in_ok-distances.distances.items in
     let next = c.nearest-next-in-loop-next.result in
     let near = nearest-read D c.deref-in-loop-next.result.now c.row-in-loop-next.result.now _ next
-        c.deref-in-loop-next.ensures.value c.row-in-loop-next.ensures c.nearest-next-in-loop-next.ensures in
+    c.deref-in-loop-next.ensures.value c.row-in-loop-next.ensures c.nearest-next-in-loop-next.ensures in
     subst (λ l. IsWalk g f D l next) (sym c.in_ok-push-2.ensures.items)
     (walk-more g c.in_ok-back.back f D c.in_ok-back.ensures c.in_ok-distances.ensures c.loop-next.cycle.items
     c.loop-next.next next c.loop-next-test.true c.loop-next.invariant near)

@@ -1,5 +1,5 @@
 -- The best of all is the nearest, and there is one.
-use Rattle.std.proofs.Common.{◌≡◌, arith, subst}
+use Rattle.std.proofs.Common.{arith, subst}
 use Rattle.js_guard.specs.Nearest.{IsBest}
 use Rattle.js_guard.proofs.NearestLemmas.{best-some, best-nearest}
 use Rattle.js_guard.proofs.cycle.nearest.Goals as goal

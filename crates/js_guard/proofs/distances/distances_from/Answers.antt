@@ -1,5 +1,5 @@
 -- All that can be reached is.
-use Rattle.std.proofs.Common.{◌≡◌, subst, arith}
+use Rattle.std.proofs.Common.{subst, arith}
 use Rattle.js_guard.specs.Distances.{AreDistances}
 use Rattle.js_guard.proofs.Reaching.{all-reached}
 use Rattle.js_guard.proofs.distances.distances_from.Goals as goal

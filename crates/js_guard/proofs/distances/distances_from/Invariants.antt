@@ -1,5 +1,5 @@
 -- The edges of the entries so far are followed.
-use Rattle.std.proofs.Common.{◌≡◌, ◌-◌, ◌≤◌, length}
+use Rattle.std.proofs.Common.{◌≡◌, ◌-◌, length}
 use Rattle.js_guard.specs.Distances.{item, IsReachingWith}
 use Rattle.js_guard.proofs.distances.distances_from.Given as goal
 

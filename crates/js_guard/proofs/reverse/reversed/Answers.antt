@@ -1,5 +1,5 @@
 -- The sources of one entry more.
-use Rattle.std.proofs.Common.{◌≡◌, ◌+◌, ◌<◌, ◌∷◌, ◌++◌, [], length, get_or, sym, ap, ◌∙◌, refl, subst, arith}
+use Rattle.std.proofs.Common.{sym, subst, arith}
 use Rattle.js_guard.specs.Linked.{pairs, IsLinked, HasSources}
 use Rattle.js_guard.proofs.Linking.{sources-more, sources-all}
 use Rattle.js_guard.proofs.reverse.reversed.Goals as goal

@@ -1,5 +1,5 @@
 -- All entries are done.
-use Rattle.std.proofs.Common.{◌≡◌, ℕ, ◌<◌, length, sym, ap, ◌∙◌, subst, arith, true}
+use Rattle.std.proofs.Common.{◌≡◌, sym, subst, arith, true}
 use Rattle.schemas.specs.Guarded.{are_ranks}
 use Rattle.js_guard.proofs.Resting.{found_ranks, found_least}
 use Rattle.js_guard.proofs.search.search_all.Goals as goal

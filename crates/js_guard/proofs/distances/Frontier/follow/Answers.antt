@@ -1,5 +1,5 @@
 -- One edge more is followed.
-use Rattle.std.proofs.Common.{◌≡◌, ℕ, suc, ◌+◌, ◌<◌, ◌≤◌, length, get_or, Some, inl, inr, ap, ◌∙◌, sym, subst, true, arith}
+use Rattle.std.proofs.Common.{◌≡◌, ◌+◌, ◌<◌, length, get_or, Some, inl, inr, ap, ◌∙◌, sym, subst, true, arith}
 use Rattle.std.proofs.lemmas.List.{get_or_read}
 use Rattle.std.proofs.lemmas.Bool.{cases_lt}
 use Rattle.schemas.specs.Guarded.{targets, is_among}
@@ -44,10 +44,10 @@ loop-target-preserved c =
     let same : y ≡ get_or (targets g x) i 0 = ap (λ r. get_or r i 0) row in
     let inside : y < length g = omega (arith, target-inside g x i c.requires.closed edge) in
     let among : is_among y (targets g (item now.queue.items c.args.at).entry) ≡ true =
-        subst (λ q. is_among y (targets g q.entry) ≡ true) (sym kept.here)
-        (subst (λ z. is_among z (targets g x) ≡ true) (sym same) (is_among-at (targets g x) i edge)) in
+    subst (λ q. is_among y (targets g q.entry) ≡ true) (sym kept.here)
+    (subst (λ z. is_among z (targets g x) ≡ true) (sym same) (is_among-at (targets g x) i edge)) in
     let taken = subst (λ q. ReachesAt (get_distance now.distances.items y) now c.reach.new.self y (q.distance + 1))
-        (sym kept.here) c.in_ok-reach.ensures in
+    (sym kept.here) c.in_ok-reach.ensures in
     let on = steps g now c.reach.new.self c.args.at y kept.search kept.at inside among taken in
     let first = kept.search.begun in
     let (e, has, low) = on.has in
@@ -58,13 +58,15 @@ loop-target-preserved c =
       first = on.kept 0 first ∙ kept.first;
       so_far = λ k l.
           elim (cases_lt k i) [
-            inl before ↦
-              let (d, old, near) = kept.so_far k before in
-              (d, on.keeps (get_or items k 0) d old, near)
-          | inr after ↦
-              let here : k ≡ i = omega arith in
-              (e, subst (λ j. get_distance c.reach.new.self.distances.items (get_or items j 0) ≡ Some e) (sym here) has,
-              omega (arith, low, ap (λ q. q.distance) kept.here))
+            | inl before ↦
+                let (d, old, near) = kept.so_far k before in
+                (d, on.keeps (get_or items k 0) d old, near)
+            | inr after ↦
+                let here : k ≡ i = omega arith in (
+                  e,
+                  subst (λ j. get_distance c.reach.new.self.distances.items (get_or items j 0) ≡ Some e) (sym here) has,
+                  omega (arith, low, ap (λ q. q.distance) kept.here),
+                )
           ];
     }
 
@@ -77,9 +79,11 @@ returns-clause-search c =
     let row = c.row-target-items.ensures in
     follow-all g now.distances.items now.queue.items c.args.at kept.at kept.search
     (λ y h.
-      (let found = place_among y (targets g reached.entry) (subst (λ q. is_among y (targets g q.entry) ≡ true) kept.here h) in
-      let l = found.1 in
-      let (d, has, low) = kept.so_far found.0 (omega (arith, ap length row)) in
-      let same = ap (λ r. get_or r found.0 0) row ∙ found.2 in
-      (d, subst (λ z. get_distance now.distances.items z ≡ Some d) same has,
-      omega (arith, low, ap (λ q. q.distance) kept.here))))
+    (let found = place_among y (targets g reached.entry) (subst (λ q. is_among y (targets g q.entry) ≡ true) kept.here h) in
+    let l = found.1 in
+    let (d, has, low) = kept.so_far found.0 (omega (arith, ap length row)) in
+    let same = ap (λ r. get_or r found.0 0) row ∙ found.2 in (
+      d,
+      subst (λ z. get_distance now.distances.items z ≡ Some d) same has,
+      omega (arith, low, ap (λ q. q.distance) kept.here),
+    )))

@@ -12,5 +12,5 @@ invariant-loop-target l =
       first : item l.self.queue.items 0 ≡ item l.fn.self.queue.items 0;
       so_far : (i : ℕ) → i < l.target-index
           → (d : ℕ) × (get_distance l.self.distances.items (get_or l.target-items i 0) ≡ Some d)
-            × (d ≤ suc l.reached.distance);
+          × (d ≤ suc l.reached.distance);
     }

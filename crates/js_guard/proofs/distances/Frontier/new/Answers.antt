@@ -1,5 +1,5 @@
 -- The first entry is reached.
-use Rattle.std.proofs.Common.{◌≡◌, ap, length, ◌∙◌, rules, arith}
+use Rattle.std.proofs.Common.{◌≡◌, ap, ◌∙◌, rules}
 use Rattle.js_guard.specs.declared.distances.Frontier.{Frontier}
 use Rattle.js_guard.proofs.Reaching.{nowhere, reaching-first}
 use Rattle.js_guard.proofs.distances.Frontier.new.Goals as goal

@@ -1,5 +1,5 @@
 -- One entry's edges more.
-use Rattle.std.proofs.Common.{◌≡◌, ◌∷◌, ◌++◌, [], length, sym, ap, ◌∙◌, subst, arith}
+use Rattle.std.proofs.Common.{◌≡◌, ◌++◌, length, sym, ap, ◌∙◌, subst, arith}
 use Rattle.schemas.specs.Schema.{in_place}
 use Rattle.schema_laws.proofs.TableLaws.{is_table-length}
 use Rattle.js_schema.specs.View.{form_view}
@@ -11,8 +11,8 @@ use Rattle.js_guard.proofs.edges.Edges.of.Goals as goal
 pub loop-entry-preserved : goal.loop-entry-preserved
 loop-entry-preserved c =
     let row : c.deref.result.now ≡ in_place (form_view c.form.result.now) =
-        c.deref.ensures.value ∙ c.in_ok-add_form.ensures
-        ∙ ap (λ r. r ++ in_place (form_view c.form.result.now)) c.clear.ensures.items in
+    c.deref.ensures.value ∙ c.in_ok-add_form.ensures
+    ∙ ap (λ r. r ++ in_place (form_view c.form.result.now)) c.clear.ensures.items in
     c.in_ok-push_row.ensures
     ∙ edges-more (schema_view c.args.schema.now) c.loop-entry.entry (form_view c.form.result.now) c.deref.result.now
     c.loop-entry.edges (omega arith) c.form.ensures row c.loop-entry.invariant

@@ -11,7 +11,7 @@ invariant_of-self-in_err-push c =
     let old = c.self.inside in
     let ts = c.extend_from_slice.new.self.items in
     let longer : length old.targets.items ≤ length ts =
-        omega (arith, ap length c.in_ok-extend_from_slice.ensures.items, length-append old.targets.items c.args.row.now) in
+    omega (arith, ap length c.in_ok-extend_from_slice.ensures.items, length-append old.targets.items c.args.row.now) in
     subst (λ rows. every (is_inside (length ts)) rows ≡ true) (sym c.in_err-push.ensures.items)
     (all_inside-more (length old.targets.items) (length ts) old.rows.items longer c.self.invariant)
 

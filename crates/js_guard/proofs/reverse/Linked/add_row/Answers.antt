@@ -1,5 +1,5 @@
 -- One edge more is linked.
-use Rattle.std.proofs.Common.{◌≡◌, ◌+◌, ◌<◌, length, get_or, sym, ap, ◌∙◌, refl, arith}
+use Rattle.std.proofs.Common.{◌≡◌, ◌+◌, ◌<◌, length, get_or, ◌∙◌, refl, arith}
 use Rattle.std.proofs.lemmas.List.{length-set, get_or_read}
 use Rattle.js_guard.proofs.Linking.{row-more, row-all}
 use Rattle.js_guard.proofs.reverse.Linked.add_row.Goals as goal

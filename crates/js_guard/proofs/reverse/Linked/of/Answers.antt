@@ -1,5 +1,5 @@
 -- The edges of one entry more.
-use Rattle.std.proofs.Common.{◌≡◌, ℕ, List, [], ◌∷◌, ◌++◌, map, ◌<◌, length, get_or, sym, ap, ◌∙◌, refl, subst, arith}
+use Rattle.std.proofs.Common.{[], ◌++◌, map, ◌<◌, length, get_or, sym, ap, refl, subst, arith}
 use Rattle.schemas.specs.Guarded.{targets}
 use Rattle.js_guard.specs.Linked.{IsLinked}
 use Rattle.js_guard.proofs.Linking.{linked-none, entry-more, zero_list, zeros-length, zeros-at}
@@ -11,10 +11,12 @@ loop-entry-init c =
     let n = length c.args.edges.now in
     let made = c.in_ok-vec.ensures.items_if_clones_equal (λ y e. e) in
     let none = linked-none n (zero_list c.len.result) (omega (arith, zeros-length c.len.result))
-        (λ t. zeros-at c.len.result t 0 refl) in
-    ([],
-    subst (λ l. IsLinked [] n l c.new.result.items) (sym made)
-    (subst (IsLinked [] n (zero_list c.len.result)) (sym c.new.ensures.items) none), refl)
+    (λ t. zeros-at c.len.result t 0 refl) in (
+      [],
+      subst (λ l. IsLinked [] n l c.new.result.items) (sym made)
+          (subst (IsLinked [] n (zero_list c.len.result)) (sym c.new.ensures.items) none),
+      refl,
+    )
 
 pub add_row-requires : goal.add_row-requires
 add_row-requires c = λ i h.
@@ -30,8 +32,9 @@ loop-entry-preserved c =
     let g = c.args.edges.now in
     let (L, linked, made) = c.loop-entry.invariant in
     let x = c.loop-entry.entry in
-    let now = c.in_ok-add_row.ensures L (length g) linked in
-    (L ++ map (λ t. (x, t)) (targets g x),
-    subst (λ r. IsLinked (L ++ map (λ t. (x, t)) r) (length g) c.add_row.new.self.last.items c.add_row.new.self.edges.items)
-    c.row.ensures now,
-    entry-more g x L (omega arith) made)
+    let now = c.in_ok-add_row.ensures L (length g) linked in (
+      L ++ map (λ t. (x, t)) (targets g x),
+      subst (λ r. IsLinked (L ++ map (λ t. (x, t)) r) (length g) c.add_row.new.self.last.items c.add_row.new.self.edges.items)
+          c.row.ensures now,
+      entry-more g x L (omega arith) made,
+    )

@@ -1,7 +1,6 @@
 -- One source more is read.
-use Rattle.std.proofs.Common.{◌≡◌, suc, ◌-◌, ◌<◌, ◌≤◌, [], ◌∷◌, ◌++◌, length, get_or, sym, ap, ◌∙◌, subst, arith}
+use Rattle.std.proofs.Common.{◌≡◌, suc, ◌-◌, ◌<◌, [], ◌∷◌, ◌++◌, length, sym, ap, subst, arith}
 use Rattle.std.proofs.lemmas.List.{get_or_read}
-use Rattle.js_guard.specs.Linked.{source_at}
 use Rattle.js_guard.proofs.Linking.{IsReading, before-within, reading-more, no_source}
 use Rattle.js_guard.proofs.reverse.Linked.read_sources.Goals as goal
 

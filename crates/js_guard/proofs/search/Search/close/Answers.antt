@@ -1,5 +1,5 @@
 -- One entry more is done.
-use Rattle.std.proofs.Common.{◌≡◌, ◌+◌, ◌<◌, length, set, nat_lt, refl, sym, ap, ap₂, ◌∙◌, arith}
+use Rattle.std.proofs.Common.{◌≡◌, ◌+◌, ◌<◌, length, set, nat_lt, refl, ap, ap₂, ◌∙◌, arith}
 use Rattle.std.proofs.lemmas.List.{get_or_read}
 use Rattle.js_guard.specs.declared.search.Mark.TheVariants.{Done}
 use Rattle.js_guard.specs.Searching.{at}
@@ -23,7 +23,7 @@ loop-i-preserved c =
     let marked = kept.closes.marked in
     let inside : x < length now.marks.items = omega (arith, c.requires.within c.loop-i.i before) in
     let more = closed-more old.marks.items old.opened.items old.done old.least now.marks.items now.done now.least
-        c.args.place c.loop-i.i several kept.closes kept.after inside refl in
+    c.args.place c.loop-i.i several kept.closes kept.after inside refl in
     record {
       opened = f.opened ∙ kept.opened;
       groups = f.groups ∙ kept.groups;

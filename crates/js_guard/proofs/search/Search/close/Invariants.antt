@@ -1,5 +1,5 @@
 -- The open entries so far are done.
-use Rattle.std.proofs.Common.{◌≡◌, ◌≤◌, length}
+use Rattle.std.proofs.Common.{◌≡◌, ◌≤◌}
 use Rattle.js_guard.specs.Steps.{IsClosed}
 use Rattle.js_guard.proofs.search.Search.close.Given as goal
 

@@ -16,15 +16,15 @@ loop-turn-init c =
     let marked = c.requires.resting.search.marked in
     let within : root < length s.marks.items = omega arith in
     let read : c.index.result.now ≡ mark s.marks.items root =
-        get_or_read s.marks.items root c.index.result.now within c.index.ensures New in
+    get_or_read s.marks.items root c.index.result.now within c.index.ensures New in
     let met : HasMet g s c.match-index.self root =
-        elim c.match-index.branch [
-          in-New+in_ok-enter w ↦
-            subst (λ t. HasMet g s t root) (sym w.self-is)
-            (met-entered g s root c.requires.resting w.enter.new.self c.requires.root (sym read ∙ w.in-New.is)
-            w.in_ok-enter.ensures)
-        | in_default w ↦
-            subst (λ t. HasMet g s t root) (sym w.self-is)
-            (met-already g s root c.requires.resting (λ e. w.in_default.not-New (read ∙ e)))
-        ] in
+    elim c.match-index.branch [
+      | in-New+in_ok-enter w ↦
+          subst (λ t. HasMet g s t root) (sym w.self-is)
+          (met-entered g s root c.requires.resting w.enter.new.self c.requires.root (sym read ∙ w.in-New.is)
+          w.in_ok-enter.ensures)
+      | in_default w ↦
+          subst (λ t. HasMet g s t root) (sym w.self-is)
+          (met-already g s root c.requires.resting (λ e. w.in_default.not-New (read ∙ e)))
+    ] in
     record { search = met.search; keeps = met.keeps; met = met.met }

@@ -1,6 +1,5 @@
 -- The edges before `next` are passed, and nothing but groups and the least entry on a cycle has changed.
 use Rattle.std.proofs.Common.{◌≡◌, ◌-◌, ◌++◌, ◌∷◌, [], length}
-use Rattle.js_guard.specs.declared.search.Turn.{Turn}
 use Rattle.js_guard.specs.Steps.{IsSearchWith}
 use Rattle.js_guard.proofs.Passing.{turn}
 use Rattle.js_guard.proofs.search.Search.pass_edges.Given as goal
