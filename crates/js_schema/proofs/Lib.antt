@@ -1,6 +1,7 @@
 pub mod TreeTestsLemmas
 pub mod EntriesLemmas
 pub mod Soundness
-pub mod WordsLemmas
-pub mod ShapesLemmas
-pub mod MemberLemmas
+pub mod PlaceLemmas
+pub mod PlacesLemmas
+pub mod HoldingLemmas
+pub mod MembersLemmas

@@ -9,7 +9,7 @@ use Rattle.schemas.specs.Entries.{entries_at}
 use Rattle.schemas.specs.Schema.{is_table}
 use Rattle.schema_laws.specs.Sound.{IsSound}
 use Rattle.schema_laws.proofs.TableLaw.{is_table-entries}
-use Rattle.js_schema.specs.Reading.{rules}
+use Rattle.js_keywords.specs.Reading.{rules}
 
 pub rules_sound : (root : Json) → is_json root ≡ true → IsSound rules root
 rules_sound root h = record {

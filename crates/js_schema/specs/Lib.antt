@@ -1,11 +1,9 @@
--- What a reader must believe: the entries that the program's values stand for, and the names that reports print.
-pub mod Names
+-- What a reader must believe: the entries that the program's values stand for.
 pub mod TreeTests
 pub mod Patterns
 pub mod View
 pub mod SchemaView
-pub mod Reading
-pub mod FaultView
-pub mod Words
-pub mod Member
-pub mod Failing
+pub mod Keys
+pub mod KeyLaws
+pub mod PlacesView
+pub mod Holding

@@ -3,8 +3,7 @@ use Rattle.std.specs.Prelude.{ℕ, List, map, option_map}
 use Rattle.documents.specs.Document as D
 use Rattle.js_doc.specs.View.{view, list_view}
 use Rattle.schemas.specs.Entry as E
-use Rattle.js_schema.specs.declared.part.TypeName.{TypeName}
-use Rattle.js_schema.specs.declared.part.TypeName.TheVariants as T
+use Rattle.js_keywords.specs.TypeView.{type_view}
 use Rattle.js_schema.specs.declared.part.ItemsPart.{ItemsPart}
 use Rattle.js_schema.specs.declared.part.ItemsPart.TheVariants as I
 use Rattle.js_schema.specs.declared.part.Property.{Property}
@@ -18,15 +17,6 @@ use Rattle.js_schema.specs.declared.entry.Form.{Form}
 use Rattle.js_schema.specs.declared.entry.Form.TheVariants as F
 use Rattle.js_schema.specs.declared.entry.Entry.{Entry}
 use Rattle.js_schema.specs.Patterns.{source_of}
-
-abbrev pub type_view : TypeName → E.TypeName
-type_view T.Null = E.Null
-type_view T.Boolean = E.Boolean
-type_view T.Object = E.Object
-type_view T.Array = E.Array
-type_view T.Number = E.Number
-type_view T.Text = E.Text
-type_view T.Integer = E.Integer
 
 abbrev pub items_view : ItemsPart → E.ItemsPart
 items_view (I.Each e) = E.Each e

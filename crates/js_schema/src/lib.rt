@@ -7,23 +7,20 @@
 
 mod constraints;
 mod entry;
-mod fault;
-mod keyword;
+mod holding;
 mod lists;
-mod member;
+mod members;
 mod part;
 mod pattern;
-mod shapes;
+mod place;
+mod places;
 mod table;
-#[cfg(test)]
-mod tests;
-mod whole;
+mod weight;
 
 pub use constraints::Keywords;
 pub use entry::Form;
-pub use fault::SchemaFault;
-pub use keyword::Keyword;
+pub use js_keywords::{Keyword, SchemaFault, TypeName};
 pub use lists::{DependencyList, EntryList, PatternPropertyList, PropertyList, TypeList};
-pub use part::{Dependency, ItemsPart, Needs, PatternProperty, Property, TypeName};
+pub use part::{Dependency, ItemsPart, Needs, PatternProperty, Property};
 pub use pattern::PatternText;
 pub use table::Schema;

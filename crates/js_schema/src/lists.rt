@@ -3,7 +3,8 @@
 
 ghost use Rattle.std.specs.Prelude.{◌≡◌};
 
-use crate::part::{Dependency, PatternProperty, Property, TypeName};
+use crate::part::{Dependency, PatternProperty, Property};
+use js_keywords::TypeName;
 use std::marker::Model;
 
 /// A list of entry numbers.
@@ -49,7 +50,7 @@ pub struct TypeList {
 
 impl Model for TypeList {
     ghost use Rattle.std.specs.Prelude.{List};
-    ghost use Rattle.js_schema.specs.declared.part.TypeName.{TypeName};
+    ghost use Rattle.js_keywords.specs.declared.type_name.TypeName.{TypeName};
 
     ghost Value = { List TypeName };
 

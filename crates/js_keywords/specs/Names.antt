@@ -1,0 +1,37 @@
+-- The names of keywords.
+use Rattle.std.specs.Prelude.{ℕ, List, codes}
+use Rattle.js_keywords.specs.declared.keyword.Keyword.{Keyword}
+use Rattle.js_keywords.specs.declared.keyword.Keyword.TheVariants as K
+
+abbrev pub keyword_name : Keyword → List ℕ
+keyword_name K.Id = codes "$id"
+keyword_name K.Ref = codes "$ref"
+keyword_name K.AdditionalItems = codes "additionalItems"
+keyword_name K.AdditionalProperties = codes "additionalProperties"
+keyword_name K.AllOf = codes "allOf"
+keyword_name K.AnyOf = codes "anyOf"
+keyword_name K.Const = codes "const"
+keyword_name K.Contains = codes "contains"
+keyword_name K.Dependencies = codes "dependencies"
+keyword_name K.Enum = codes "enum"
+keyword_name K.ExclusiveMaximum = codes "exclusiveMaximum"
+keyword_name K.ExclusiveMinimum = codes "exclusiveMinimum"
+keyword_name K.Items = codes "items"
+keyword_name K.MaxItems = codes "maxItems"
+keyword_name K.MaxLength = codes "maxLength"
+keyword_name K.MaxProperties = codes "maxProperties"
+keyword_name K.Maximum = codes "maximum"
+keyword_name K.MinItems = codes "minItems"
+keyword_name K.MinLength = codes "minLength"
+keyword_name K.MinProperties = codes "minProperties"
+keyword_name K.Minimum = codes "minimum"
+keyword_name K.MultipleOf = codes "multipleOf"
+keyword_name K.Not = codes "not"
+keyword_name K.OneOf = codes "oneOf"
+keyword_name K.Pattern = codes "pattern"
+keyword_name K.PatternProperties = codes "patternProperties"
+keyword_name K.Properties = codes "properties"
+keyword_name K.PropertyNames = codes "propertyNames"
+keyword_name K.Required = codes "required"
+keyword_name K.Type = codes "type"
+keyword_name K.UniqueItems = codes "uniqueItems"

@@ -1,0 +1,56 @@
+//! The places of a file that are done, in the order in which they were met, each found by its pointer.
+//!
+//! A look-up takes time in proportion to the pointer, by hashing.
+
+ghost use Rattle.std.specs.Prelude.{◌≡◌, ◌≤◌, ◌<◌, ◌++◌, ◌∷◌, [], false, length, OnOk};
+ghost use Rattle.schemas.specs.Places.{has_place};
+ghost use Rattle.schemas.specs.Entries.{number_of};
+ghost use Rattle.js_schema.specs.Keys.{pointer_of};
+
+use crate::place::{Key, Place};
+use indexmap::IndexMap;
+use js_doc::{Json, Memory};
+use std::alloc::Global;
+
+/// Places in their order, no two of them the same.
+#[derive(Drop)]
+pub(crate) struct Places<'a> {
+    map: IndexMap<Key, &'a Json>,
+}
+
+impl<'a> Places<'a> {
+    ghost use Rattle.js_schema.specs.PlacesView.{place_view, places_view};
+
+    pub(crate) fn new(alloc: Global) -> Places<'a>
+        ensures { places_view result ≡ [] }
+    {
+        Places {
+            map: IndexMap::new(alloc),
+        }
+    }
+
+    pub(crate) fn has(&self, key: &Key) -> bool
+        ensures { result ≡ has_place (places_view self.now) (pointer_of key.now) }
+    {
+        self.map.contains_key(key)
+    }
+
+    /// The number of the place, or how many there are where it isn't among them.
+    pub(crate) fn number(&self, key: &Key) -> usize
+        ensures { result ≡ number_of (places_view self.now) (pointer_of key.now) }
+    {
+        match self.map.get_index_of(key) {
+            Some(number) => number,
+            None => self.map.len(),
+        }
+    }
+
+    /// Adds a place that isn't there.
+    pub(crate) fn add(&mut self, place: Place<'a>) -> Result<(), Memory>
+        requires { has_place (places_view self.old) (pointer_of place.key) ≡ false }
+        ensures { OnOk result (places_view self.new ≡ places_view self.old ++ place_view place.entry ∷ []) }
+    {
+        self.map.insert(place.key, place.value)?;
+        Ok(())
+    }
+}
