@@ -7,3 +7,4 @@ pub mod Keys
 pub mod KeyLaws
 pub mod PlacesView
 pub mod Holding
+pub mod FileView

@@ -5,8 +5,10 @@
 //! stand on this crate.
 #![tactic(auto)]
 
+mod children;
 mod constraints;
 mod entry;
+mod file;
 mod holding;
 mod lists;
 mod members;
