@@ -8,3 +8,5 @@ pub mod KeyLaws
 pub mod PlacesView
 pub mod Holding
 pub mod FileView
+pub mod Visiting
+pub mod Walking

@@ -17,6 +17,8 @@ mod pattern;
 mod place;
 mod places;
 mod table;
+mod visit;
+mod walk;
 mod weight;
 
 pub use constraints::Keywords;
