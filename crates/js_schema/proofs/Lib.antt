@@ -7,3 +7,4 @@ pub mod HoldingLemmas
 pub mod MembersLemmas
 pub mod VisitLemmas
 pub mod WalkLemmas
+pub mod ValuesLemmas

@@ -95,3 +95,12 @@ seen-inserted see m k v fs e h =
     ap (seen see (pointer_of k))
     (e ∙ insert_entry-new (λ a b. same_pointer (pointer_of a) (pointer_of b)) m k v absent)
     ∙ seen-append see (pointer_of k) m.entries ((k, v) ∷ [])
+
+-- a number is at most that of places
+pub number_of-most : (cs : List Place) (p : Pointer) → number_of cs p ≤ length cs
+number_of-most [] p = omega arith
+number_of-most (c ∷ cs) p = go (same_pointer p c.0) (number_of-most cs p)
+  where
+    go : (b : Bool) → number_of cs p ≤ length cs → cond b 0 (suc (number_of cs p)) ≤ suc (length cs)
+    go true h = omega arith
+    go false h = omega (arith, h)

@@ -10,3 +10,6 @@ pub mod Holding
 pub mod FileView
 pub mod Visiting
 pub mod Walking
+pub mod NumbersView
+pub mod ObjectView
+pub mod Faultless

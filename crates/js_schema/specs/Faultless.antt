@@ -1,0 +1,18 @@
+-- What has nothing wrong in it.
+use Rattle.std.specs.Prelude.{ℕ, List, Bool, false, is_none}
+use Rattle.documents.specs.Json.{Json, string, Members, null}
+use Rattle.schemas.specs.Places.{Pointer}
+use Rattle.schemas.specs.Fault.{pattern_fault}
+use Rattle.schemas.specs.Reading.{members_fault}
+use Rattle.js_keywords.specs.Reading.{rules}
+
+-- nothing is wrong in the members of an object without a reference, whatever the file is that they stand in
+abbrev pub is_faultless : Pointer → Members → Bool
+is_faultless p ms = is_none (members_fault rules null ms p ms)
+
+abbrev pub is_pattern : List ℕ → Bool
+is_pattern w = is_none (pattern_fault rules w)
+
+abbrev pub is_pattern_word : Json → Bool
+is_pattern_word (string w) = is_pattern w
+is_pattern_word _ = false

@@ -1,0 +1,61 @@
+//! The places of a schema with their numbers, which are those of its entries.
+
+ghost use Rattle.std.specs.Prelude.{◌≡◌, ◌≤◌, ◌++◌, ◌∷◌, [], length, chars, IfOk, OnOk};
+ghost use Rattle.schemas.specs.Places.{index_token};
+ghost use Rattle.schemas.specs.Entries.{number_of};
+ghost use Rattle.js_schema.specs.Keys.{pointer_of};
+ghost use Rattle.js_schema.specs.PlacesView.{places_view};
+
+use crate::place::Key;
+use crate::places::Places;
+use js_doc::Memory;
+
+/// All places of a schema. There are few enough for 32 bits.
+#[derive(Drop)]
+pub(crate) struct Numbers<'a> {
+    places: Places<'a>,
+    ghost few: { length (places_view places) ≤ 2147483647 },
+}
+
+impl<'a> Numbers<'a> {
+    ghost use Rattle.js_schema.specs.NumbersView.{numbered};
+
+    pub(crate) fn new(places: Places<'a>) -> Numbers<'a>
+        requires { length (places_view places) ≤ 2147483647 }
+        ensures { numbered result ≡ places_view places.entry }
+    {
+        Numbers { places }
+    }
+
+    /// The number of a place, or how many there are where it isn't among them.
+    pub(crate) fn number(&self, key: &Key) -> u32
+        ensures { result ≡ number_of (numbered self.now) (pointer_of key.now) }
+    {
+        self.places.number(key) as u32
+    }
+
+    /// The number of the element at `index` of the value at `at`.
+    #[tactic(auto, using(crate::proofs::MembersLemmas::index_tokens))]
+    pub(crate) fn element(&self, at: &mut Key, index: usize) -> Result<u32, Memory>
+        ensures number { IfOk result
+            (λ n. n ≡ number_of (numbered self.now) (pointer_of at.old ++ index_token index ∷ [])) }
+        ensures same { OnOk result (pointer_of at.new ≡ pointer_of at.old) }
+    {
+        at.pointer.push_index(index)?;
+        let number = self.number(at);
+        at.pointer.pop();
+        Ok(number)
+    }
+
+    /// The number of the member of that name of the value at `at`.
+    pub(crate) fn member(&self, at: &mut Key, name: &str) -> Result<u32, Memory>
+        ensures number { IfOk result
+            (λ n. n ≡ number_of (numbered self.now) (pointer_of at.old ++ chars name.now ∷ [])) }
+        ensures same { OnOk result (pointer_of at.new ≡ pointer_of at.old) }
+    {
+        at.pointer.push_name(name)?;
+        let number = self.number(at);
+        at.pointer.pop();
+        Ok(number)
+    }
+}
