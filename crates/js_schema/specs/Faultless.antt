@@ -1,6 +1,7 @@
 -- What has nothing wrong in it.
-use Rattle.std.specs.Prelude.{ℕ, List, Bool, false, is_none}
-use Rattle.documents.specs.Json.{Json, string, Members, null}
+use Rattle.std.specs.Prelude.{ℕ, List, Bool, true, false, is_none}
+use Rattle.documents.specs.Tests.{every}
+use Rattle.documents.specs.Json.{Json, string, object, Members, null, entries}
 use Rattle.schemas.specs.Places.{Pointer}
 use Rattle.schemas.specs.Fault.{pattern_fault}
 use Rattle.schemas.specs.Reading.{members_fault}
@@ -16,3 +17,11 @@ is_pattern w = is_none (pattern_fault rules w)
 abbrev pub is_pattern_word : Json → Bool
 is_pattern_word (string w) = is_pattern w
 is_pattern_word _ = false
+
+-- each name is a pattern
+abbrev pub names_are_patterns : Members → Bool
+names_are_patterns ms = every (λ m. is_pattern m.0) (entries ms)
+
+abbrev pub are_patterns : Json → Bool
+are_patterns (object ms) = names_are_patterns ms
+are_patterns _ = true

@@ -13,3 +13,4 @@ pub mod Walking
 pub mod NumbersView
 pub mod ObjectView
 pub mod Faultless
+pub mod Links

@@ -10,6 +10,7 @@ mod constraints;
 mod entry;
 mod file;
 mod holding;
+mod links;
 mod lists;
 mod members;
 mod numbers;
