@@ -8,3 +8,5 @@ pub mod MembersLemmas
 pub mod VisitLemmas
 pub mod WalkLemmas
 pub mod ValuesLemmas
+pub mod FieldsLemmas
+pub mod FaultlessLemmas

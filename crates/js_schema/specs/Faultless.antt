@@ -1,8 +1,9 @@
 -- What has nothing wrong in it.
-use Rattle.std.specs.Prelude.{ℕ, List, Bool, true, false, is_none}
+use Rattle.std.specs.Prelude.{ℕ, List, Bool, true, false, Option, Some, is_none}
 use Rattle.documents.specs.Tests.{every}
 use Rattle.documents.specs.Json.{Json, string, object, Members, null, entries}
 use Rattle.schemas.specs.Places.{Pointer}
+use Rattle.schemas.specs.Keyword.{Shape, Count, PositiveNumber}
 use Rattle.schemas.specs.Fault.{pattern_fault}
 use Rattle.schemas.specs.Reading.{members_fault}
 use Rattle.js_keywords.specs.Reading.{rules}
@@ -25,3 +26,9 @@ names_are_patterns ms = every (λ m. is_pattern m.0) (entries ms)
 abbrev pub are_patterns : Json → Bool
 are_patterns (object ms) = names_are_patterns ms
 are_patterns _ = true
+
+-- a number that isn't below 0
+abbrev pub is_natural : Option Shape → Bool
+is_natural (Some Count) = true
+is_natural (Some PositiveNumber) = true
+is_natural _ = false

@@ -8,6 +8,7 @@
 mod children;
 mod constraints;
 mod entry;
+mod fields;
 mod file;
 mod holding;
 mod links;

@@ -49,13 +49,13 @@ module _ {P R : Type 0} (rules : Rules P R) (k : List ℕ) (q : Pointer) where
   whole_held (number n) h = holds (is_held n) _ h
   whole_held _ h = absurd (none-some _ (sym h))
 
-  count_held : (v : Json) → count_fault rules k q v ≡ None → is_count (natural v) ≡ true
+  pub count_held : (v : Json) → count_fault rules k q v ≡ None → is_count (natural v) ≡ true
   count_held (number n) h =
       let none = neither (unless (is_held n) _) (unless (int_le (pos 0) n) _) h in
       held_count n (holds (is_held n) _ none.0) (holds (int_le (pos 0) n) _ none.1)
   count_held _ h = absurd (none-some _ (sym h))
 
-  multiple_held : (v : Json) → positive_fault rules k q v ≡ None → is_multiple (natural v) ≡ true
+  pub multiple_held : (v : Json) → positive_fault rules k q v ≡ None → is_multiple (natural v) ≡ true
   multiple_held (number n) h =
       let none = neither (unless (is_held n) _) (unless (int_lt (pos 0) n) _) h in
       held_multiple n (holds (is_held n) _ none.0) (holds (int_lt (pos 0) n) _ none.1)
