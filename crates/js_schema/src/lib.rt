@@ -11,6 +11,7 @@ mod entry;
 mod fields;
 mod file;
 mod holding;
+mod keywords;
 mod links;
 mod lists;
 mod members;
