@@ -10,3 +10,5 @@ pub mod WalkLemmas
 pub mod ValuesLemmas
 pub mod FieldsLemmas
 pub mod FaultlessLemmas
+pub mod FormsLemmas
+pub mod ReadLemmas

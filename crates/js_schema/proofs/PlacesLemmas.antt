@@ -85,6 +85,12 @@ module _ {V : Type 0} (see : V → Json) (p : Pointer) where
   seen-append [] fs = refl
   seen-append (e ∷ es) fs = ap (λ cs. (pointer_of e.0, see e.1) ∷ cs) (seen-append es fs)
 
+-- the pointers of the keys are those of the places
+pub pointers-seen : {V : Type 0} (see : V → Json) (p : Pointer) (es : List (Key × V))
+    → map pointer_of (keys_of es) ≡ map (λ c. c.0) (seen see p es)
+pointers-seen see p [] = refl
+pointers-seen see p (e ∷ es) = ap (λ ps. pointer_of e.0 ∷ ps) (pointers-seen see p es)
+
 -- a key that isn't there goes last
 pub seen-inserted : {V S : Type 0} (see : V → Json) (m : IndexMap Key V S) (k : Key) (v : V) (fs : List (Key × V))
     → fs ≡ insert_entry (λ a b. same_pointer (pointer_of a) (pointer_of b)) m.entries k v

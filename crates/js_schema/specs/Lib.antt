@@ -14,3 +14,4 @@ pub mod NumbersView
 pub mod ObjectView
 pub mod Faultless
 pub mod Links
+pub mod Answering

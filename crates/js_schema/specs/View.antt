@@ -74,7 +74,7 @@ abbrev pub form_view : Form → E.Form
 form_view F.Always = E.Always
 form_view F.Never = E.Never
 form_view (F.Ref e) = E.Ref e
-form_view (F.Keywords k) = E.Asks (keywords_view k)
+form_view (F.Keywords k) = E.Asks (keywords_view k.value)
 
 abbrev pub entry_view : Entry → E.Entry
 entry_view e = E.entry e.pointer (form_view e.form)

@@ -1,4 +1,6 @@
 //! An entry of a schema: where its place is, and what it accepts.
+//!
+//! Keywords stand in a box, so that the other forms take little memory.
 
 use crate::constraints::Keywords;
 use js_json::Pointer;
@@ -9,7 +11,7 @@ pub enum Form {
     Always,
     Never,
     Ref(u32),
-    Keywords(Keywords),
+    Keywords(Box<Keywords>),
 }
 
 #[derive(Drop)]

@@ -17,6 +17,7 @@ use js_keywords::Keyword;
 use std::alloc::Global;
 
 /// The value of a text, with its `$id` where it has one that is a string.
+#[derive(Drop)]
 pub(crate) struct File<'a> {
     root: &'a Json,
     id: Option<&'a str>,

@@ -1,14 +1,16 @@
 //! The places of a schema with their numbers, which are those of its entries.
 
-ghost use Rattle.std.specs.Prelude.{◌≡◌, ◌≤◌, ◌++◌, ◌∷◌, [], length, chars, IfOk, OnOk};
+ghost use Rattle.std.specs.Prelude.{◌≡◌, ◌≤◌, ◌<◌, ◌++◌, ◌∷◌, [], map, length, get_or, chars, IfOk, OnOk};
 ghost use Rattle.schemas.specs.Places.{index_token};
 ghost use Rattle.schemas.specs.Entries.{number_of};
+ghost use Rattle.js_doc.specs.JsonView.{view};
 ghost use Rattle.js_schema.specs.Keys.{pointer_of};
 ghost use Rattle.js_schema.specs.PlacesView.{places_view};
 
 use crate::place::Key;
 use crate::places::Places;
-use js_doc::Memory;
+use indexmap::map::IntoKeys;
+use js_doc::{Json, Memory};
 
 /// All places of a schema. There are few enough for 32 bits.
 #[derive(Drop)]
@@ -57,5 +59,28 @@ impl<'a> Numbers<'a> {
         let number = self.number(at);
         at.pointer.pop();
         Ok(number)
+    }
+
+    pub(crate) fn len(&self) -> usize
+        ensures { result ≡ length (numbered self.now) }
+    {
+        self.places.len()
+    }
+
+    /// The place with that number.
+    pub(crate) fn place(&self, number: usize) -> (&Key, &'a Json)
+        requires { number < length (numbered self.now) }
+        ensures { (pointer_of result.0.now, view result.1.now) ≡ get_or (numbered self.now) number
+            (pointer_of result.0.now, view result.1.now) }
+    {
+        self.places.place(number)
+    }
+
+    /// The keys in their order.
+    pub(crate) fn into_keys(self) -> IntoKeys<Key, &'a Json>
+        ensures { map pointer_of result ≡ map (λ c. c.0) (numbered self.entry) }
+    {
+        let Numbers { places } = self;
+        places.into_keys()
     }
 }

@@ -12,6 +12,7 @@ use js_json::Pointer;
 use js_keywords::Keyword;
 
 /// The object and its place. Which file it stands in is of no matter to its members.
+#[derive(Drop)]
 pub(crate) struct Object<'a> {
     place: &'a Pointer,
     members: &'a JsonMap,

@@ -2,13 +2,15 @@
 //!
 //! A look-up takes time in proportion to the pointer, by hashing.
 
-ghost use Rattle.std.specs.Prelude.{◌≡◌, ◌≤◌, ◌<◌, ◌++◌, ◌∷◌, [], false, length, OnOk};
+ghost use Rattle.std.specs.Prelude.{◌≡◌, ◌<◌, ◌++◌, ◌∷◌, [], false, map, length, get_or, OnOk};
 ghost use Rattle.schemas.specs.Places.{has_place};
 ghost use Rattle.schemas.specs.Entries.{number_of};
+ghost use Rattle.js_doc.specs.JsonView.{view};
 ghost use Rattle.js_schema.specs.Keys.{pointer_of};
 
 use crate::place::{Key, Place};
 use indexmap::IndexMap;
+use indexmap::map::IntoKeys;
 use js_doc::{Json, Memory};
 use std::alloc::Global;
 
@@ -52,5 +54,30 @@ impl<'a> Places<'a> {
     {
         self.map.insert(place.key, place.value)?;
         Ok(())
+    }
+
+    pub(crate) fn len(&self) -> usize
+        ensures { result ≡ length (places_view self.now) }
+    {
+        self.map.len()
+    }
+
+    /// The place with that number.
+    pub(crate) fn place(&self, number: usize) -> (&Key, &'a Json)
+        requires { number < length (places_view self.now) }
+        ensures { (pointer_of result.0.now, view result.1.now) ≡ get_or (places_view self.now) number
+            (pointer_of result.0.now, view result.1.now) }
+    {
+        match self.map.get_index(number) {
+            Some((key, value)) => (key, *value),
+            None => unreachable!(),
+        }
+    }
+
+    /// The keys in their order.
+    pub(crate) fn into_keys(self) -> IntoKeys<Key, &'a Json>
+        ensures { map pointer_of result ≡ map (λ c. c.0) (places_view self.entry) }
+    {
+        self.map.into_keys()
     }
 }
