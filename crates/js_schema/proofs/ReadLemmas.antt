@@ -1,15 +1,22 @@
 -- From the places of a schema to its entries.
-use Rattle.std.proofs.Common.{◌≡◌, ℕ, zero, suc, ◌<◌, ◌≤◌, List, [], ◌∷◌, map, length, get_or, inl, inr, true, None, refl, sym, ap, subst, ◌∙◌, arith}
+use Rattle.std.proofs.Common.{◌≡◌, ℕ, zero, suc, ◌<◌, ◌≤◌, List, [], ◌∷◌, map, length, get_or, inl, inr, true, None, Ok, refl, sym, ap, subst, ◌∙◌, arith}
+use Rattle.std.proofs.Math.ListN.{length-map}
 use Rattle.documents.specs.Json.{Json}
 use Rattle.documents.specs.WellFormed.{is_json}
 use Rattle.schemas.specs.Places.{Place}
 use Rattle.schemas.specs.Walk.{places}
 use Rattle.schemas.specs.Reading.{fault_at, first_fault}
+use Rattle.schemas.specs.Entry.{Form, Entry, entry}
+use Rattle.schemas.specs.Entries.{number_of, form_at, entry_at, entries_at, entries_or, read}
+use Rattle.schemas.specs.Schema.{is_table}
 use Rattle.schema_laws.specs.Values.{IsIn}
 use Rattle.schema_laws.proofs.Walks.{all_places}
 use Rattle.schema_laws.proofs.Faultless.{faultless}
 use Rattle.schema_laws.proofs.WellFormedLaws.{values_well_formed}
+use Rattle.schema_laws.proofs.TableLaws.{is_table-length}
 use Rattle.js_keywords.specs.Reading.{rules}
+use Rattle.js_schema.specs.Answering.{entries_by}
+use Rattle.js_schema.proofs.Soundness.{is_table-read}
 
 in_list : {A : Type 0} (xs : List A) (i : ℕ) (x : A) → i < length xs → x ≡ get_or xs i x → IsIn x xs
 in_list [] i x l h = absurd (omega (arith, l))
@@ -29,3 +36,36 @@ module _ (root : Json) (cs : List Place) (all : places rules root ≡ cs) where
   pub place_faultless : (i : ℕ) (c : Place) → i < length cs → c ≡ get_or cs i c → first_fault rules root ≡ None
       → fault_at rules root c ≡ None
   place_faultless i c l h none = faultless rules root c none (place_among i c l h)
+
+-- ---- all of them
+
+entries_by-places : (f : Place → Form) (cs : List Place)
+    → entries_by (map (λ c. c.0) cs) (map f cs) ≡ map (λ c. entry c.0 (f c)) cs
+entries_by-places f [] = refl
+entries_by-places f (c ∷ cs) = ap (λ es. entry c.0 (f c) ∷ es) (entries_by-places f cs)
+
+module _ (root : Json) (cs : List Place) (well : is_json root ≡ true) (none : first_fault rules root ≡ None)
+    (all : places rules root ≡ cs) where
+  -- there are few places
+  pub few_places : length cs ≤ 2147483647
+  few_places =
+      let few = is_table-length (entries_at rules root (places rules root)) (is_table-read root well none) in
+      let same = length-map (places rules root) (entry_at rules root (number_of (places rules root))) in
+      let here = ap length all in
+      omega (arith, few.1, same, here)
+
+  -- entries that are made of forms at their pointers are those of the places
+  pub entries_made : (es : List Entry) (fs : List Form) → es ≡ entries_by (map (λ c. c.0) cs) fs
+      → fs ≡ map (form_at rules root (number_of cs)) cs → es ≡ entries_at rules root (places rules root)
+  entries_made es fs made forms =
+      made ∙ ap (entries_by (map (λ c. c.0) cs)) forms ∙ entries_by-places (form_at rules root (number_of cs)) cs
+      ∙ ap (entries_at rules root) (sym all)
+
+  pub table_made : (es : List Entry) (fs : List Form) → es ≡ entries_by (map (λ c. c.0) cs) fs
+      → fs ≡ map (form_at rules root (number_of cs)) cs → is_table es ≡ true
+  table_made es fs made forms = ap is_table (entries_made es fs made forms) ∙ is_table-read root well none
+
+  pub schema_made : (es : List Entry) (fs : List Form) → es ≡ entries_by (map (λ c. c.0) cs) fs
+      → fs ≡ map (form_at rules root (number_of cs)) cs → read rules root ≡ Ok es
+  schema_made es fs made forms =
+      ap (entries_or rules root) none ∙ ap Ok (sym (entries_made es fs made forms))
