@@ -1,12 +1,6 @@
 pub mod TreeTestsLemmas
 pub mod EntriesLemmas
 pub mod Soundness
-pub mod PlaceLemmas
-pub mod PlacesLemmas
-pub mod HoldingLemmas
-pub mod MembersLemmas
-pub mod VisitLemmas
-pub mod WalkLemmas
 pub mod ValuesLemmas
 pub mod FieldsLemmas
 pub mod FaultlessLemmas

@@ -1,17 +1,11 @@
--- What a reader must believe: the entries that the program's values stand for.
-pub mod TreeTests
-pub mod Patterns
+-- What a reader must believe: the entries that the program's values stand for, and what reading answers.
 pub mod View
 pub mod SchemaView
-pub mod Keys
-pub mod KeyLaws
-pub mod PlacesView
-pub mod Holding
-pub mod FileView
-pub mod Visiting
-pub mod Walking
+pub mod Patterns
+pub mod Answering
+-- Internal: trees as a test, objects in which nothing is wrong, and schemas by their numbers.
+pub mod TreeTests
 pub mod NumbersView
 pub mod ObjectView
 pub mod Faultless
 pub mod Links
-pub mod Answering

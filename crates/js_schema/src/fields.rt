@@ -12,27 +12,26 @@ ghost use Rattle.js_keywords.specs.Names.{keyword_name};
 ghost use Rattle.js_keywords.specs.TypeView.{type_view};
 ghost use Rattle.js_keywords.specs.Words.{shape_by};
 ghost use Rattle.js_schema.specs.Faultless.{is_natural};
-ghost use Rattle.js_schema.specs.Keys.{pointer_of};
+ghost use Rattle.js_walk.specs.Keys.{pointer_of};
 ghost use Rattle.js_schema.specs.NumbersView.{numbered};
 ghost use Rattle.js_schema.specs.ObjectView.{members_of, place_of};
 ghost use Rattle.js_schema.specs.Patterns.{source_of};
 ghost use Rattle.js_schema.specs.View.{items_view, property_view, pattern_properties_view, dependency_view};
 
-use crate::children::below_name;
 use crate::links;
 use crate::lists::{DependencyList, EntryList, PatternPropertyList, PropertyList, TypeList};
 use crate::numbers::Numbers;
 use crate::object::Object;
 use crate::part::ItemsPart;
 use crate::pattern::PatternText;
-use crate::place::Key;
 use crate::values;
 use js_doc::{Doc, DocList, Json, Memory, StrList};
 use js_keywords::Keyword;
+use js_walk::{Key, below_name};
 use std::alloc::Global;
 
 /// The place of the keyword's value.
-#[tactic(auto, using(crate::proofs::MembersLemmas::keyword_names))]
+#[tactic(auto, using(js_walk::proofs::MembersLemmas::keyword_names))]
 fn keyword_place(alloc: Global, object: &Object, keyword: Keyword) -> Result<Key, Memory>
     ensures { IfOk result (λ k. pointer_of k ≡ place_of object.now ++ keyword_name keyword ∷ []) }
 {

@@ -11,20 +11,18 @@ ghost use Rattle.schemas.specs.Entries as E;
 ghost use Rattle.js_doc.specs.JsonView.{view, map_view};
 ghost use Rattle.js_json.specs.Reference.{target_of};
 ghost use Rattle.js_keywords.specs.Reading.{rules};
-ghost use Rattle.js_schema.specs.FileView.{root_of};
+ghost use Rattle.js_walk.specs.FileView.{root_of};
 ghost use Rattle.js_schema.specs.NumbersView.{numbered};
 ghost use Rattle.js_schema.specs.View.{form_view};
 
 use crate::entry::Form;
-use crate::file::File;
 use crate::keywords::keywords;
-use crate::members::value_of;
 use crate::numbers::Numbers;
 use crate::object::Object;
-use crate::place::Key;
 use js_doc::{Json, JsonMap, Memory, Str};
 use js_json::{Pointer, RefFault};
 use js_keywords::Keyword;
+use js_walk::{File, Key, value_of};
 use std::alloc::Global;
 
 /// The form of a place in which nothing is wrong.

@@ -5,29 +5,20 @@
 //! stand on this crate.
 #![tactic(auto)]
 
-mod children;
 mod constraints;
 mod entry;
 mod fields;
-mod file;
 mod forms;
-mod holding;
 mod keywords;
 mod links;
 mod lists;
-mod members;
 mod numbers;
 mod object;
 mod part;
 mod pattern;
-mod place;
-mod places;
 mod read;
 mod table;
 mod values;
-mod visit;
-mod walk;
-mod weight;
 
 pub use constraints::Keywords;
 pub use entry::Form;

@@ -10,7 +10,7 @@ ghost use Rattle.schemas.specs.Places.{elements_under};
 ghost use Rattle.schemas.specs.Entries.{number_of};
 ghost use Rattle.js_doc.specs.JsonView.{view, list_view, map_view, member_view};
 ghost use Rattle.js_schema.specs.Faultless.{is_pattern, names_are_patterns, are_patterns};
-ghost use Rattle.js_schema.specs.Keys.{pointer_of};
+ghost use Rattle.js_walk.specs.Keys.{pointer_of};
 ghost use Rattle.js_schema.specs.NumbersView.{numbered};
 ghost use Rattle.js_schema.specs.Links.{element_numbers, list_at, items_at, names_at, map_at, need_at, needs_at, all_needs_at};
 ghost use Rattle.js_schema.specs.View.{items_view, property_view, pattern_property_view, pattern_properties_view, needs_view, dependency_view};
@@ -18,9 +18,9 @@ ghost use Rattle.js_schema.specs.View.{items_view, property_view, pattern_proper
 use crate::lists::{DependencyList, EntryList, PatternPropertyList, PropertyList};
 use crate::numbers::Numbers;
 use crate::part::{Dependency, ItemsPart, Needs, PatternProperty, Property};
-use crate::place::Key;
 use crate::values::{pattern_text, word_list};
 use js_doc::{Json, JsonList, JsonMap, JsonMember, Memory};
+use js_walk::Key;
 use std::alloc::Global;
 
 /// The elements of a list.

@@ -4,13 +4,12 @@ ghost use Rattle.std.specs.Prelude.{◌≡◌, ◌≤◌, ◌<◌, ◌++◌, ◌
 ghost use Rattle.schemas.specs.Places.{index_token};
 ghost use Rattle.schemas.specs.Entries.{number_of};
 ghost use Rattle.js_doc.specs.JsonView.{view};
-ghost use Rattle.js_schema.specs.Keys.{pointer_of};
-ghost use Rattle.js_schema.specs.PlacesView.{places_view};
+ghost use Rattle.js_walk.specs.Keys.{pointer_of};
+ghost use Rattle.js_walk.specs.PlacesView.{places_view};
 
-use crate::place::Key;
-use crate::places::Places;
 use indexmap::map::IntoKeys;
 use js_doc::{Json, Memory};
+use js_walk::{Key, Places};
 
 /// All places of a schema. There are few enough for 32 bits.
 #[derive(Drop)]
@@ -37,7 +36,7 @@ impl<'a> Numbers<'a> {
     }
 
     /// The number of the element at `index` of the value at `at`.
-    #[tactic(auto, using(crate::proofs::MembersLemmas::index_tokens))]
+    #[tactic(auto, using(js_walk::proofs::MembersLemmas::index_tokens))]
     pub(crate) fn element(&self, at: &mut Key, index: usize) -> Result<u32, Memory>
         ensures number { IfOk result
             (λ n. n ≡ number_of (numbered self.now) (pointer_of at.old ++ index_token index ∷ [])) }

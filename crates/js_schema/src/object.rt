@@ -35,7 +35,7 @@ impl<'a> Object<'a> {
     }
 
     /// The value of the keyword, where the object has it.
-    #[tactic(auto, using(crate::proofs::MembersLemmas::keyword_names, crate::proofs::MembersLemmas::rising_names))]
+    #[tactic(auto, using(js_walk::proofs::MembersLemmas::keyword_names, js_walk::proofs::MembersLemmas::rising_names))]
     pub(crate) fn value(&self, keyword: Keyword) -> Option<&'a Json>
         ensures { option_map (λ j. view j.now) result ≡ D.lookup (keyword_name keyword) (members_of self.now) }
     {

@@ -13,20 +13,18 @@ ghost use Rattle.schemas.specs.Reading.{first_fault};
 ghost use Rattle.schemas.specs.Entries as E;
 ghost use Rattle.js_doc.specs.JsonView.{view};
 ghost use Rattle.js_keywords.specs.Reading.{rules};
-ghost use Rattle.js_schema.specs.FileView.{root_of};
+ghost use Rattle.js_walk.specs.FileView.{root_of};
 ghost use Rattle.js_schema.specs.NumbersView.{numbered};
 ghost use Rattle.js_schema.specs.View.{form_view, entry_view};
 ghost use Rattle.js_schema.specs.Answering.{Answers, entries_by};
 
 use crate::entry::{Entry, Form};
-use crate::file::File;
 use crate::forms::form;
 use crate::numbers::Numbers;
-use crate::place::Key;
 use crate::table::Schema;
-use crate::walk::walk;
 use js_doc::{Json, Memory};
 use js_keywords::SchemaFault;
+use js_walk::{File, Key, walk};
 use std::alloc::Global;
 
 /// The schema that `json` is, or what is wrong in it first, in the order of the walk. `json` is the value of a text, as

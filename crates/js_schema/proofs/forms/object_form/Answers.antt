@@ -1,7 +1,7 @@
 use Rattle.std.proofs.Common.{option_map, sym, ap, ◌∙◌}
 use Rattle.schemas.specs.Entries.{number_of}
 use Rattle.js_doc.specs.JsonView.{view, map_view}
-use Rattle.js_schema.specs.FileView.{root_of}
+use Rattle.js_walk.specs.FileView.{root_of}
 use Rattle.js_schema.specs.NumbersView.{numbered}
 use Rattle.js_schema.proofs.FormsLemmas.{object_form-asks}
 use Rattle.js_schema.proofs.forms.object_form.Goals as goal

@@ -2,7 +2,7 @@ use Rattle.std.proofs.Common.{◌≡◌, ◌++◌, true, map, drop}
 use Rattle.documents.specs.Json.{members_of}
 use Rattle.js_doc.specs.JsonView.{member_view, map_view}
 use Rattle.js_schema.specs.Faultless.{names_are_patterns}
-use Rattle.js_schema.specs.Keys.{pointer_of}
+use Rattle.js_walk.specs.Keys.{pointer_of}
 use Rattle.js_schema.specs.Links.{needs_at}
 use Rattle.js_schema.specs.NumbersView.{numbered}
 use Rattle.js_schema.specs.View.{dependency_view}

@@ -1,7 +1,7 @@
 use Rattle.std.proofs.Common.{◌≡◌, ◌++◌, map, drop}
 use Rattle.documents.specs.Json.{items_of}
 use Rattle.js_doc.specs.JsonView.{view, list_view}
-use Rattle.js_schema.specs.Keys.{pointer_of}
+use Rattle.js_walk.specs.Keys.{pointer_of}
 use Rattle.js_schema.specs.Links.{element_numbers}
 use Rattle.js_schema.specs.NumbersView.{numbered}
 use Rattle.js_schema.proofs.links.elements.Given as goal

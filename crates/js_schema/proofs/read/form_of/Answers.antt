@@ -1,6 +1,6 @@
 use Rattle.js_doc.specs.JsonView.{view}
-use Rattle.js_schema.specs.FileView.{root_of}
-use Rattle.js_schema.specs.Keys.{pointer_of}
+use Rattle.js_walk.specs.FileView.{root_of}
+use Rattle.js_walk.specs.Keys.{pointer_of}
 use Rattle.js_schema.specs.NumbersView.{numbered}
 use Rattle.js_schema.proofs.ReadLemmas.{place_well_formed, place_faultless}
 use Rattle.js_schema.proofs.read.form_of.Goals as goal

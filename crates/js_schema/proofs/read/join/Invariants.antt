@@ -1,6 +1,6 @@
 use Rattle.std.proofs.Common.{◌≡◌, ◌++◌, map, length}
 use Rattle.js_schema.specs.Answering.{entries_by}
-use Rattle.js_schema.specs.Keys.{pointer_of}
+use Rattle.js_walk.specs.Keys.{pointer_of}
 use Rattle.js_schema.specs.NumbersView.{numbered}
 use Rattle.js_schema.specs.View.{form_view, entry_view}
 use Rattle.js_schema.proofs.read.join.Given as goal

@@ -1,9 +1,9 @@
 use Rattle.std.proofs.Common.{map, Ok, sym, ap, ◌∙◌}
 use Rattle.schemas.specs.Entries.{read}
 use Rattle.js_keywords.specs.Reading.{rules}
-use Rattle.js_schema.specs.FileView.{root_of}
+use Rattle.js_walk.specs.FileView.{root_of}
 use Rattle.js_schema.specs.NumbersView.{numbered}
-use Rattle.js_schema.specs.PlacesView.{places_view}
+use Rattle.js_walk.specs.PlacesView.{places_view}
 use Rattle.js_schema.specs.View.{form_view, entry_view}
 use Rattle.js_schema.proofs.ReadLemmas.{few_places, table_made, schema_made}
 use Rattle.js_schema.proofs.read.read_schema.Goals as goal

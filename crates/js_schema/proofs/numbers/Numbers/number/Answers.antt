@@ -1,7 +1,7 @@
 use Rattle.std.proofs.Common.{arith}
-use Rattle.js_schema.specs.Keys.{pointer_of}
+use Rattle.js_walk.specs.Keys.{pointer_of}
 use Rattle.js_schema.specs.NumbersView.{numbered}
-use Rattle.js_schema.proofs.PlacesLemmas.{number_of-most}
+use Rattle.js_walk.proofs.PlacesLemmas.{number_of-most}
 use Rattle.js_schema.proofs.numbers.Numbers.number.Goals as goal
 
 pub overflow_cast-result : goal.overflow_cast-result

@@ -1,0 +1,37 @@
+-- The steps of a walk, as the program makes them.
+use Rattle.std.specs.Prelude.{◌≡◌, ℕ, ◌+◌, ◌≤◌, List, ◌∷◌, ◌++◌, [], map, reverse, Option, Some, None, cond, nat_lt}
+use Rattle.documents.specs.Json.{Json}
+use Rattle.schemas.specs.Places as P
+use Rattle.schemas.specs.Fault.{Fault, TooLarge}
+use Rattle.schemas.specs.Weight.{weight}
+use Rattle.schemas.specs.Walk.{children}
+use Rattle.schemas.specs.Reading.{fault_with}
+use Rattle.js_json.specs.declared.fault.RefFault.{RefFault}
+use Rattle.js_pattern.specs.declared.fault.PatternFault.{PatternFault}
+use Rattle.js_keywords.specs.Reading.{rules}
+use Rattle.js_walk.specs.declared.place.Place.{Place}
+use Rattle.js_walk.specs.PlacesView.{place_view}
+
+-- what waits, the next place first: the last of a stack
+abbrev pub stack_view : List Place → List P.Place
+stack_view ps = reverse (map place_view ps)
+
+-- the next place is the one that is owed, and the stack has those after it
+abbrev pub NextOf : Option (P.Place × List P.Place) → List Place → Option Place → Type 0
+NextOf owed left None = owed ≡ None
+NextOf owed left (Some p) = owed ≡ Some (place_view p, stack_view left)
+
+-- a place whose weight is too much after that of others
+abbrev pub too_large : ℕ → P.Place → Option (Fault PatternFault RefFault)
+too_large before c = cond (nat_lt rules.most_weight (before + weight c)) (Some (TooLarge c.0)) None
+
+-- a place without a fault is done, and what it leads to waits before the others
+pub record Passed (root : Json) (before after : ℕ) (c : P.Place) (old new waited waits : List P.Place) : Type 0 where
+  pub faultless : fault_with rules root before c ≡ None
+  pub weighs : after ≡ before + weight c
+  pub light : after ≤ 2147483647
+  pub done : new ≡ old ++ c ∷ []
+  pub waiting : waits ≡ children rules root c ++ waited
+
+abbrev pub Passes : Json → ℕ → P.Place → (old new waited waits : List P.Place) → ℕ → Type 0
+Passes root before c old new waited waits after = Passed root before after c old new waited waits

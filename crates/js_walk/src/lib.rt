@@ -1,0 +1,22 @@
+//! The walk of a schema: its places in their order, or what is wrong first.
+//!
+//! A place is known by its pointer. The walk comes to each place once, and takes time and memory in proportion to what it
+//! comes to. The reader of schemas, `js_schema`, stands on this crate.
+#![tactic(auto)]
+
+mod children;
+mod file;
+mod holding;
+mod members;
+mod place;
+mod places;
+mod visit;
+mod walk;
+mod weight;
+
+pub use children::below_name;
+pub use file::File;
+pub use members::value_of;
+pub use place::Key;
+pub use places::Places;
+pub use walk::walk;
