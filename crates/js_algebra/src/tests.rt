@@ -67,10 +67,16 @@ fn choices_of_further_kinds(rt: HostRuntime) -> Result<(), Fail> {
     let number = JsonKind::Number;
     let one = rule_choices(rt.alloc(), &core, Signed::plus(Pos(2)), number)?.ok_or("a literal")?;
     assert_eq!(rt; one.as_slice().len(), 3);
-    let second = [Signed::minus(Pos(1)), Signed::plus(Pos(3)), Signed::minus(Pos(4))];
+    let second = [
+        Signed::minus(Pos(1)),
+        Signed::plus(Pos(3)),
+        Signed::minus(Pos(4)),
+    ];
     assert_eq!(rt; one.as_slice()[1].as_slice(), second.as_slice());
 
-    let not_one = rule_choices(rt.alloc(), &core, Signed::minus(Pos(2)), number)?.ok_or("a literal")?;
+    let not_one = rule_choices(rt.alloc(), &core, Signed::minus(Pos(2)), number)?.ok_or(
+        "a literal",
+    )?;
     assert_eq!(rt; not_one.as_slice().len(), 4);
     let pair = [Signed::plus(Pos(1)), Signed::plus(Pos(4))];
     assert_eq!(rt; not_one.as_slice()[2].as_slice(), pair.as_slice());

@@ -12,7 +12,10 @@ use std::io;
 fn main(rt: HostRuntime) -> io::Result<()> {
     for line in rt.lines(rt.alloc()) {
         let line = line?;
-        let (schema, document) = line.as_str().split_once('\t').unwrap_or((line.as_str(), ""));
+        let (schema, document) = line
+            .as_str()
+            .split_once('\t')
+            .unwrap_or((line.as_str(), ""));
         match answer(rt.alloc(), schema, document) {
             Ok(words) => println!(rt; "{words}")?,
             Err(_) => println!(rt; "out of memory")?,

@@ -26,13 +26,13 @@ module _ (atoms : List Atom) where
   one_number : (j k : ℕ) → j < class_count atoms → k < class_count atoms → alike (get_or (class_firsts atoms) j 0) (get_or (class_firsts atoms) k 0) ≡ true → j ≡ k
   one_number j k a b e = elim (cases_lt j k) [
     | inl l ↦
-      let f = apart_from_distinct alike (class_firsts atoms) j k 0 (firsts_distinct atoms) l b in cc (e, f)
+        let f = apart_from_distinct alike (class_firsts atoms) j k 0 (firsts_distinct atoms) l b in cc (e, f)
     | inr l ↦ elim (cases_lt k j) [
-        | inl m ↦
+      | inl m ↦
           let f = apart_from_distinct alike (class_firsts atoms) k j 0 (firsts_distinct atoms) m a in
           let t = laws.symm (get_or (class_firsts atoms) k 0) (get_or (class_firsts atoms) j 0) ∙ e in cc (t, f)
-        | inr m ↦ omega (arith, l, m)
-      ]
+      | inr m ↦ omega (arith, l, m)
+    ]
   ]
 
 pub classes_divide : ClassesDivide
@@ -41,12 +41,13 @@ classes_divide atoms c e =
     let laws = alike_laws (dividers atoms) in
     let h = firsts_have atoms c e in
     let l = place_below same laws c (class_firsts atoms) h in
-    let s : same c (get_or (class_firsts atoms) (class_of atoms c) 0) ≡ true = place_same same laws c 0 (class_firsts atoms) h in
-    ( l
-    , and_from (is_scalar c) (same (get_or (class_firsts atoms) (class_of atoms c) 0) c) e (laws.symm (get_or (class_firsts atoms) (class_of atoms c) 0) c ∙ s)
-    , (λ k m i.
-      let (a, b) = and_parts (is_scalar c) (same (get_or (class_firsts atoms) k 0) c) i in
-      one_number atoms k (class_of atoms c) m l (laws.congr (get_or (class_firsts atoms) k 0) c (get_or (class_firsts atoms) (class_of atoms c) 0) b ∙ s)))
+    let s : same c (get_or (class_firsts atoms) (class_of atoms c) 0) ≡ true = place_same same laws c 0 (class_firsts atoms) h in (
+      l,
+      and_from (is_scalar c) (same (get_or (class_firsts atoms) (class_of atoms c) 0) c) e (laws.symm (get_or (class_firsts atoms) (class_of atoms c) 0) c ∙ s),
+      (λ k m i.
+          let (a, b) = and_parts (is_scalar c) (same (get_or (class_firsts atoms) k 0) c) i in
+          one_number atoms k (class_of atoms c) m l (laws.congr (get_or (class_firsts atoms) k 0) c (get_or (class_firsts atoms) (class_of atoms c) 0) b ∙ s)),
+    )
 
 pub no_later : (c d : ℕ) → (c ≡ d) ⊎ Before c d → comes_no_later c d ≡ true
 no_later c d (inl e) =
@@ -67,9 +68,10 @@ firsts_come_first atoms k c l i =
     let (e, s) = and_parts (is_scalar c) (are_alike sets f c) i in
     let (d, j, t, b) = are.first c e in
     let m : IsIn f (class_firsts atoms) = in_get (class_firsts atoms) k 0 l in
-    let q : f ≡ d = are.apart f d m j (laws.congr f c d s ∙ t) in
-    ( and_from (is_scalar f) (are_alike sets f f) (are.scalar f m) (laws.refl f)
-    , no_later f c (subst (λ z. (z ≡ c) ⊎ Before z c) (sym q) b))
+    let q : f ≡ d = are.apart f d m j (laws.congr f c d s ∙ t) in (
+      and_from (is_scalar f) (are_alike sets f f) (are.scalar f m) (laws.refl f),
+      no_later f c (subst (λ z. (z ≡ c) ⊎ Before z c) (sym q) b),
+    )
 
 rising_at : (L : List ℕ) (j k d : ℕ) → Rising L → j < k → k < length L → Before (get_or L j d) (get_or L k d)
 rising_at [] j k d r l m = absurd (omega (arith, m))

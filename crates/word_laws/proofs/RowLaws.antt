@@ -129,10 +129,11 @@ rows_each_word atoms L [] h = refl
 rows_each_word atoms L (w ∷ K) h = and_from (list_all is_scalar w) (list_all (list_all is_scalar) K) (h w (inl refl)) (rows_each_word atoms L K (λ v i. h v (inr i)))
 
 pub rows_have : RowsHaveAll
-rows_have atoms L rows =
-    ( (L, refl, rows_each_word atoms L L (rows_words atoms L rows), rows_apart atoms L rows)
-    , rows_bound atoms L rows
-    , rows_all atoms L rows)
+rows_have atoms L rows = (
+  (L, refl, rows_each_word atoms L L (rows_words atoms L rows), rows_apart atoms L rows),
+  rows_bound atoms L rows,
+  rows_all atoms L rows,
+)
 
 pub rows_go_on : RowsGoOn
 rows_go_on atoms L rows w s = (row_below atoms L rows w s, row_truth atoms L rows w s, (λ c e. row_next atoms L rows w c s e))
