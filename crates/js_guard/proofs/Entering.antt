@@ -1,5 +1,5 @@
 -- A search goes on when a new entry is entered to which all open ones lead.
-use Rattle.std.proofs.Common.{◌≡◌, ℕ, ◌+◌, ◌<◌, ◌≤◌, ◌⊎◌, ◌≢◌, List, [], ◌∷◌, ◌++◌, length, set, inl, inr, true, Option, None, sym, ap, ◌∙◌, subst, arith}
+use Rattle.std.proofs.Common.{◌≡◌, ℕ, ◌+◌, ◌<◌, ◌≤◌, ◌≢◌, List, [], ◌∷◌, ◌++◌, length, set, inl, inr, true, Option, None, sym, ap, ◌∙◌, subst, arith}
 use Rattle.std.proofs.lemmas.List.{length-set, get_or-set_same, get_or-set_other}
 use Rattle.std.proofs.lemmas.Bool.{cases_lt, cases_eq}
 use Rattle.schemas.specs.Guarded.{targets, is_among, leads}
@@ -7,7 +7,7 @@ use Rattle.schema_laws.proofs.Ways.{leads-here}
 use Rattle.js_guard.specs.declared.search.Mark.{Mark}
 use Rattle.js_guard.specs.declared.search.Mark.TheVariants.{New, Open, Done}
 use Rattle.js_guard.specs.declared.search.Turn.{Turn}
-use Rattle.js_guard.specs.Searching.{mark, count_new, at, turn_at, Reaches, Together, IsPassed, IsAhead, IsSearch}
+use Rattle.js_guard.specs.Searching.{mark, count_new, at, turn_at, Reaches, Together, IsPassed, IsAhead, IsTaken, IsSearch}
 use Rattle.js_guard.proofs.Counts.{count_new-fewer}
 use Rattle.js_guard.proofs.Turns.{no_turn}
 use Rattle.js_guard.proofs.Pushes.{push-length, push-old, push-new, push-cases}
@@ -165,15 +165,15 @@ module _ (g : List (List ℕ)) (M : List Mark) (S B : List ℕ) (P : List Turn) 
       go (Open j) h = (together-new j i inside h.0, h.1)
       go (Done r) h = h
 
-  entered-passed : (i e : ℕ) → i < length S' → e < length (targets g (at S' i))
-      → IsAhead P' i e ⊎ IsPassed B' least i (at (targets g (at S' i)) e) (mark M' (at (targets g (at S' i)) e))
-  entered-passed i e h k =
+  entered-taken : (i e : ℕ) → i < length S' → e < length (targets g (at S' i))
+      → IsTaken g M' B' P' least i (at S' i) e
+  entered-taken i e h k =
       elim (push-cases S x 0 i h) [
         | inl l ↦
             let same = push-old S x 0 i l in
-            subst (λ y. IsAhead P' i e ⊎ IsPassed B' least i (at (targets g y) e) (mark M' (at (targets g y) e))) (sym same)
-            (elim (s.passed i e l (subst (λ y. e < length (targets g y)) same k))
-            as (λ _. IsAhead P' i e ⊎ IsPassed B' least i (at (targets g (at S i)) e) (mark M' (at (targets g (at S i)) e))) [
+            subst (λ y. IsTaken g M' B' P' least i y e) (sym same)
+            (elim (s.taken i e l (subst (λ y. e < length (targets g y)) same k))
+            as (λ _. IsTaken g M' B' P' least i (at S i) e) [
               | inl a ↦ inl (ahead-old i e a)
               | inr p ↦ inr (passed-old i (at (targets g (at S i)) e) l p)
             ])
@@ -209,7 +209,12 @@ module _ (g : List (List ℕ)) (M : List Mark) (S B : List ℕ) (P : List Turn) 
         | inl l ↦
             omega (arith, s.path_within k l, ap (λ t. t.place) (push-old P turn no_turn k l), push-length S x 0)
         | inr e ↦
-            omega (arith, ap (λ i. (turn_at P' i).place) e, ap (λ t. t.place) (push-new P turn no_turn), push-length S x 0)
+            omega (
+              arith,
+              ap (λ i. (turn_at P' i).place) e,
+              ap (λ t. t.place) (push-new P turn no_turn),
+              push-length S x 0,
+            )
       ]
 
   entered-path_groups : (k : ℕ) → k < length B' → (l : ℕ) × (l < length P') × ((turn_at P' l).place ≡ at B' k)
@@ -260,7 +265,7 @@ module _ (g : List (List ℕ)) (M : List Mark) (S B : List ℕ) (P : List Turn) 
     groups_within = entered-groups_within;
     groups_rise = entered-groups_rise;
     reach = entered-reach;
-    passed = entered-passed;
+    taken = entered-taken;
     path_rises = entered-path_rises;
     path_within = entered-path_within;
     path_groups = entered-path_groups;

@@ -1,5 +1,5 @@
 -- A search goes on when all edges of an entry are passed, and its group is done where it begins there.
-use Rattle.std.proofs.Common.{◌≡◌, ℕ, zero, suc, ◌+◌, ◌-◌, ◌<◌, ◌≤◌, ◌⊎◌, ◌≢◌, List, [], ◌∷◌, ◌++◌, length, take, inl, inr, true, false, Option, Some, None, refl, sym, ap, ◌∙◌, subst, arith, true≢false}
+use Rattle.std.proofs.Common.{◌≡◌, ℕ, zero, suc, ◌+◌, ◌-◌, ◌<◌, ◌≤◌, ◌≢◌, List, [], ◌∷◌, ◌++◌, length, take, inl, inr, true, false, Option, Some, None, refl, sym, ap, ◌∙◌, subst, arith, true≢false}
 use Rattle.std.proofs.lemmas.Bool.{cases_lt, cases_eq, cases_Bool}
 use Rattle.std.proofs.lemmas.List.{length-take-le, get_or-take}
 use Rattle.schemas.specs.Guarded.{targets, is_among, leads, IsOnCycle}
@@ -7,7 +7,7 @@ use Rattle.schema_laws.proofs.Ways.{place_among, off_cycle, leads-join, leads-sa
 use Rattle.js_guard.specs.declared.search.Mark.{Mark}
 use Rattle.js_guard.specs.declared.search.Mark.TheVariants.{New, Open, Done}
 use Rattle.js_guard.specs.declared.search.Turn.{Turn}
-use Rattle.js_guard.specs.Searching.{mark, is_new, count_new, at, Reaches, Together, IsAtMost, IsPassed, IsAhead, IsSearch}
+use Rattle.js_guard.specs.Searching.{mark, is_new, count_new, at, Reaches, Together, IsAtMost, IsPassed, IsTaken, IsSearch}
 use Rattle.js_guard.specs.Steps.{IsClosed, EndsIn}
 use Rattle.js_guard.proofs.Turns.{turn-within, path-before, groups-before, reach-after, ahead-cases, path_rises-before, path_groups-before}
 
@@ -20,14 +20,14 @@ module _ (g : List (List ℕ)) (M : List Mark) (S B : List ℕ) (P : List Turn) 
     (t : Turn) (s : IsSearch g M S B (P ++ t ∷ []) done least)
     (over : length (targets g (at S t.place)) ≤ t.next) where
   -- every edge of an open entry is passed, but for those of the path
-  now_passed : (i e : ℕ) → i < length S → e < length (targets g (at S i))
-      → IsAhead P i e ⊎ IsPassed B least i (at (targets g (at S i)) e) (mark M (at (targets g (at S i)) e))
-  now_passed i e h k =
-      elim (s.passed i e h k)
-      as (λ _. IsAhead P i e ⊎ IsPassed B least i (at (targets g (at S i)) e) (mark M (at (targets g (at S i)) e))) [
+  now_taken : (i e : ℕ) → i < length S → e < length (targets g (at S i))
+      → IsTaken g M B P least i (at S i) e
+  now_taken i e h k =
+      elim (s.taken i e h k)
+      as (λ _. IsTaken g M B P least i (at S i) e) [
         | inr q ↦ inr q
         | inl a ↦ elim (ahead-cases g M S B P done least t s i e a)
-            as (λ _. IsAhead P i e ⊎ IsPassed B least i (at (targets g (at S i)) e) (mark M (at (targets g (at S i)) e))) [
+            as (λ _. IsTaken g M B P least i (at S i) e) [
               | inl b ↦ inl b
               | inr b ↦
                   let short : length (targets g (at S i)) ≤ t.next =
@@ -47,7 +47,7 @@ module _ (g : List (List ℕ)) (M : List Mark) (S B : List ℕ) (P : List Turn) 
     groups_within = s.groups_within;
     groups_rise = s.groups_rise;
     reach = s.reach;
-    passed = now_passed;
+    taken = now_taken;
     path_rises = path_rises-before g M S B P done least t s;
     path_within = λ k h.
         (let before = path-before g M S B P done least t s k h in
@@ -121,7 +121,8 @@ module _ (g : List (List ℕ)) (M : List Mark) (S B : List ℕ) (P : List Turn) 
         elim (c.others (at S i)) [
           | inl e ↦ e ∙ s.open_marked i (omega (arith, inside))
           | inr (j, low, high, e) ↦
-              let same : Open j ≡ Open i = sym (s.open_marked j high) ∙ ap (mark M) e ∙ s.open_marked i (omega (arith, inside)) in
+              let same : Open j ≡ Open i =
+              sym (s.open_marked j high) ∙ ap (mark M) e ∙ s.open_marked i (omega (arith, inside)) in
               let place : j ≡ i = cc in
               absurd (omega arith)
         ]
@@ -143,7 +144,8 @@ module _ (g : List (List ℕ)) (M : List Mark) (S B : List ℕ) (P : List Turn) 
         let f = end.2 in
         elim (cases_eq k 0) [
           | inl zero_k ↦
-              absurd (let only : at B 0 ≡ p = ap (at B) (sym zero_k) ∙ f in let first = old.1 in omega (arith, size-open))
+              let only : at B 0 ≡ p = ap (at B) (sym zero_k) ∙ f in
+              absurd (let first = old.1 in omega (arith, size-open))
           | inr more ↦
               let some : 0 < length B' = omega (arith, size-groups) in
               (some, group-old 0 some ∙ old.1)
@@ -193,15 +195,15 @@ module _ (g : List (List ℕ)) (M : List Mark) (S B : List ℕ) (P : List Turn) 
         go (Open j) q = (together-fewer j i q.0, c.least_kept y q.1)
         go (Done r) q = q
 
-    closed-passed : (i e : ℕ) → i < length S' → e < length (targets g (at S' i))
-        → IsAhead P i e ⊎ IsPassed B' least' i (at (targets g (at S' i)) e) (mark M' (at (targets g (at S' i)) e))
-    closed-passed i e h l =
+    closed-taken : (i e : ℕ) → i < length S' → e < length (targets g (at S' i))
+        → IsTaken g M' B' P least' i (at S' i) e
+    closed-taken i e h l =
         let low : i < p = omega (arith, size-open) in
         let same = open-old i low in
         subst
-        (λ y. IsAhead P i e ⊎ IsPassed B' least' i (at (targets g y) e) (mark M' (at (targets g y) e))) (sym same)
-        (elim (now_passed i e (omega (arith, inside)) (subst (λ y. e < length (targets g y)) same l))
-        as (λ _. IsAhead P i e ⊎ IsPassed B' least' i (at (targets g (at S i)) e) (mark M' (at (targets g (at S i)) e))) [
+        (λ y. IsTaken g M' B' P least' i y e) (sym same)
+        (elim (now_taken i e (omega (arith, inside)) (subst (λ y. e < length (targets g y)) same l))
+        as (λ _. IsTaken g M' B' P least' i (at S i) e) [
           | inl a ↦ inl a
           | inr q ↦ inr (keep_passed i (at (targets g (at S i)) e) q)
         ])
@@ -212,7 +214,7 @@ module _ (g : List (List ℕ)) (M : List Mark) (S B : List ℕ) (P : List Turn) 
     edge-passed i y low high h =
         let found = place_among y (targets g (at S i)) h in
         let e = found.0 in
-        elim (now_passed i e high found.1) [
+        elim (now_taken i e high found.1) [
           | inl (l, m, place, n) ↦
               absurd (let before = path-before g M S B P done least t s l m in omega arith)
           | inr q ↦ subst (λ z. IsPassed B least i z (mark M z)) found.2 q
@@ -319,7 +321,8 @@ module _ (g : List (List ℕ)) (M : List Mark) (S B : List ℕ) (P : List Turn) 
                 let top : at S p ≡ x = ap (at S) (sym here) ∙ e in
                 subst (IsAtMost least') top (elim (cases_Bool (is_among (at S p) (targets g (at S p)))) [
                   | inl edge ↦
-                      c.least_kept (at S p) (own_edge (mark M (at S p)) refl (edge-passed p (at S p) (omega arith) inside edge))
+                      c.least_kept (at S p)
+                      (own_edge (mark M (at S p)) refl (edge-passed p (at S p) (omega arith) inside edge))
                   | inr no_edge ↦ absurd (off one no_edge (subst (IsOnCycle g) (sym top) cyclic))
                 ])
           ]
@@ -379,7 +382,7 @@ module _ (g : List (List ℕ)) (M : List Mark) (S B : List ℕ) (P : List Turn) 
           let e = end.1 in
           omega (arith, group-old i below, group-old j h, s.groups_rise i j less (omega (arith, size-groups))));
       reach = closed-reach;
-      passed = closed-passed;
+      taken = closed-taken;
       path_rises = path_rises-before g M S B P done least t s;
       path_within = λ i h. omega (arith, path-before g M S B P done least t s i h, size-open);
       path_groups = λ i h.

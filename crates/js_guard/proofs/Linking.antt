@@ -26,7 +26,8 @@ module _ (L : List (ℕ × ℕ)) (y : ℕ × ℕ) where
   upto-more k t p h u = record {
     within = u.within;
     none_after = λ e low high same.
-        (let inside : e < length L = omega arith in u.none_after e low high (sym (ap (λ l. l.1) (pair-old e inside)) ∙ same));
+        (let inside : e < length L = omega arith in
+        u.none_after e low high (sym (ap (λ l. l.1) (pair-old e inside)) ∙ same));
     last = λ q f.
         (let w = u.within in
         let inside : q < length L = omega (arith, f) in
@@ -202,7 +203,8 @@ module _ (L : List (ℕ × ℕ)) (n : ℕ) (last : List ℕ) (E : List Source) (
           all = λ e low high same.
               elim (cases_eq e q) [
                 | inl f ↦
-                    subst (λ z. is_among z (row ++ x ∷ []) ≡ true) (source ∙ ap (λ i. (pair_at L i).0) (sym f)) (among-new x row)
+                    subst (λ z. is_among z (row ++ x ∷ []) ≡ true) (source ∙ ap (λ i. (pair_at L i).0) (sym f))
+                    (among-new x row)
                 | inr ne ↦ elim (cases_lt e q) [
                   | inl before ↦ absurd (u.none_after e low before (same ∙ sym here))
                   | inr after ↦ among-push (pair_at L e).0 x row (r.sources.all e (omega arith) high same)
@@ -306,7 +308,8 @@ entry-more g x L h e =
   where
     rest : pairs x (drop x g) ≡ edges_of x (targets g x) ++ pairs (x + 1) (drop (x + 1) g)
     rest =
-        ap (pairs x) (drop_more g x [] h) ∙ ap (λ k. edges_of x (targets g x) ++ pairs k (drop (x + 1) g)) (sym (add-one x))
+        ap (pairs x) (drop_more g x [] h)
+        ∙ ap (λ k. edges_of x (targets g x) ++ pairs k (drop (x + 1) g)) (sym (add-one x))
 
 pub entries-all : (g : List (List ℕ)) (x : ℕ) (L : List (ℕ × ℕ)) → length g ≤ x → L ++ pairs x (drop x g) ≡ pairs 0 g
     → L ≡ pairs 0 g
@@ -332,16 +335,19 @@ sources-more g back back' n row s e h = record {
       subst (λ b. HasSources (pairs 0 g) t 0 (targets b t)) (sym e)
       (elim (cases_lt t n) as (λ _. HasSources (pairs 0 g) t 0 (targets (back ++ row ∷ []) t)) [
         | inl before ↦
-            subst (HasSources (pairs 0 g) t 0) (sym (push-old back row [] t (let size = s.size in omega arith))) (s.rows t before)
+            subst (HasSources (pairs 0 g) t 0) (sym (push-old back row [] t (let size = s.size in omega arith)))
+            (s.rows t before)
         | inr after ↦
             let top : t ≡ n = omega arith in
             let place : t ≡ length back = (let size = s.size in omega arith) in
             subst (λ k. HasSources (pairs 0 g) k 0 (targets (back ++ row ∷ []) t)) (sym top)
-            (subst (HasSources (pairs 0 g) n 0) (sym (ap (λ k. targets (back ++ row ∷ []) k) place ∙ push-new back row [])) h)
+            (subst (HasSources (pairs 0 g) n 0)
+            (sym (ap (λ k. targets (back ++ row ∷ []) k) place ∙ push-new back row [])) h)
       ]);
 }
 
-pub sources-all : (g back : List (List ℕ)) (n : ℕ) → AreClosed g → n ≡ length g → AreSources g back n → AreReversed g back
+pub sources-all : (g back : List (List ℕ)) (n : ℕ) → AreClosed g → n ≡ length g → AreSources g back n
+    → AreReversed g back
 sources-all g back n closed e s = record {
   same_length = s.size ∙ e;
   back = λ x y h.

@@ -6,7 +6,7 @@ use Rattle.schema_laws.proofs.Ways.{is_among-at}
 use Rattle.js_guard.specs.declared.search.Mark.{Mark}
 use Rattle.js_guard.specs.declared.search.Mark.TheVariants.{New, Open, Done}
 use Rattle.js_guard.specs.declared.search.Turn.{Turn}
-use Rattle.js_guard.specs.Searching.{mark, at, turn_at, noted, Reaches, Together, IsAtMost, IsPassed, IsAhead, IsJoined, IsSearch}
+use Rattle.js_guard.specs.Searching.{mark, at, turn_at, noted, Reaches, Together, IsAtMost, IsPassed, IsAhead, IsTaken, IsJoined, IsSearch}
 use Rattle.js_guard.proofs.Pushes.{push-length, push-old, push-new, push-cases}
 use Rattle.js_guard.proofs.Turns.{no_turn, Reaches-join, Reaches-edge, on_cycle-target, reach-turn, ahead-cases}
 
@@ -79,17 +79,18 @@ module _ (g : List (List ℕ)) (M : List Mark) (S B : List ℕ) (P : List Turn) 
   abbrev Passes : ℕ → ℕ → Type 0
   Passes i e = IsPassed B least i (at (targets g (at S i)) e) (mark M (at (targets g (at S i)) e))
 
-  past : (i e : ℕ) → i < length S → e < length (targets g (at S i)) → IsAhead Q' i e ⊎ Passes i e
+  past : (i e : ℕ) → i < length S → e < length (targets g (at S i)) → IsTaken g M B Q' least i (at S i) e
   past i e h k =
-      elim (s.passed i e h k) as (λ _. IsAhead Q' i e ⊎ Passes i e) [
+      elim (s.taken i e h k) as (λ _. IsTaken g M B Q' least i (at S i) e) [
         | inr q ↦ inr q
-        | inl a ↦ elim (ahead-cases g M S B P done least (turn p n) s i e a) as (λ _. IsAhead Q' i e ⊎ Passes i e) [
-          | inl b ↦ inl (ahead i e b)
-          | inr b ↦ elim (cases_eq e n) as (λ _. IsAhead Q' i e ⊎ Passes i e) [
-            | inl f ↦ inr (subst (λ j. Passes j e) (sym b.0) (subst (λ j. Passes p j) (sym f) over))
-            | inr ne ↦ inl (ahead-here i e b.0 (let after = b.1 in omega arith))
-          ]
-        ]
+        | inl a ↦ elim (ahead-cases g M S B P done least (turn p n) s i e a)
+            as (λ _. IsTaken g M B Q' least i (at S i) e) [
+              | inl b ↦ inl (ahead i e b)
+              | inr b ↦ elim (cases_eq e n) as (λ _. IsTaken g M B Q' least i (at S i) e) [
+                | inl f ↦ inr (subst (λ j. Passes j e) (sym b.0) (subst (λ j. Passes p j) (sym f) over))
+                | inr ne ↦ inl (ahead-here i e b.0 (let after = b.1 in omega arith))
+              ]
+            ]
       ]
 
   pub stepped : IsSearch g M S B Q' done least
@@ -101,7 +102,7 @@ module _ (g : List (List ℕ)) (M : List Mark) (S B : List ℕ) (P : List Turn) 
     groups_within = s.groups_within;
     groups_rise = s.groups_rise;
     reach = s.reach;
-    passed = past;
+    taken = past;
     path_rises = λ k l less h.
         (let below : k < length Q' = omega arith in
         omega (arith, s.path_rises k l less (omega (arith, same_length)), same_place k below, same_place l h));
@@ -190,10 +191,10 @@ module _ (g : List (List ℕ)) (M : List Mark) (S B B' : List ℕ) (P : List Tur
   joined-passed i y (Done r) h = h
 
   joined-past : (i e : ℕ) → i < length S → e < length (targets g (at S i))
-      → IsAhead (P ++ turn p n ∷ []) i e ⊎ IsPassed B' least' i (at (targets g (at S i)) e) (mark M (at (targets g (at S i)) e))
+      → IsTaken g M B' (P ++ turn p n ∷ []) least' i (at S i) e
   joined-past i e h k =
-      elim (s.passed i e h k)
-      as (λ _. IsAhead (P ++ turn p n ∷ []) i e ⊎ IsPassed B' least' i (at (targets g (at S i)) e) (mark M (at (targets g (at S i)) e))) [
+      elim (s.taken i e h k)
+      as (λ _. IsTaken g M B' (P ++ turn p n ∷ []) least' i (at S i) e) [
         | inl a ↦ inl a
         | inr q ↦ inr (joined-passed i (at (targets g (at S i)) e) (mark M (at (targets g (at S i)) e)) q)
       ]
@@ -229,7 +230,7 @@ module _ (g : List (List ℕ)) (M : List Mark) (S B B' : List ℕ) (P : List Tur
         let below : k < length B' = omega arith in
         omega (arith, s.groups_rise k l less (omega arith), joins.kept k below, joins.kept l h));
     reach = joined-reach;
-    passed = joined-past;
+    taken = joined-past;
     path_rises = s.path_rises;
     path_within = s.path_within;
     path_groups = λ k h.

@@ -109,7 +109,8 @@ module _ (g : List (List ℕ)) (D : List (Option ℕ)) (Q : List Reached) (h y :
   more-way i l =
       let first = item-old 0 s.begun in
       subst (λ f. leads g (item Q' i).distance f.entry (item Q' i).entry ≡ true) (sym first)
-      (elim (push-cases Q last no_item i l) as (λ _. leads g (item Q' i).distance (item Q 0).entry (item Q' i).entry ≡ true) [
+      (elim (push-cases Q last no_item i l)
+      as (λ _. leads g (item Q' i).distance (item Q 0).entry (item Q' i).entry ≡ true) [
         | inl m ↦
             subst (λ q. leads g q.distance (item Q 0).entry q.entry ≡ true) (sym (item-old i m)) (s.way i m)
         | inr e ↦
@@ -220,7 +221,8 @@ module _ (g : List (List ℕ)) (s s' : Frontier) (h y : ℕ) (search : IsReachin
   steps r = steps-at (get_distance D y) refl r
 
 -- all edges of the entry at place h are followed
-pub follow-all : (g : List (List ℕ)) (D : List (Option ℕ)) (Q : List Reached) (h : ℕ) → h < length Q → IsReaching g D Q h
+pub follow-all : (g : List (List ℕ)) (D : List (Option ℕ)) (Q : List Reached) (h : ℕ) → h < length Q
+    → IsReaching g D Q h
     → ((y : ℕ) → is_among y (targets g (item Q h).entry) ≡ true
     → (d : ℕ) × (get_distance D y ≡ Some d) × (d ≤ suc (item Q h).distance))
     → IsReaching g D Q (h + 1)

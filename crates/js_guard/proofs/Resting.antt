@@ -37,7 +37,8 @@ module _ (g : List (List ℕ)) (s : Search) (root : ℕ) (rest : IsResting g s) 
 
   none_open : (x i : ℕ) → i < length s.opened.items → Reaches g (at s.opened.items i) x
   none_open x i h =
-      absurd (let none = rest-none g s.marks.items s.opened.items s.groups.items s.done s.least rest.search in omega arith)
+      let none = rest-none g s.marks.items s.opened.items s.groups.items s.done s.least rest.search in
+      absurd (omega arith)
 
   pub met-entered : (s' : Search) → root < length g → mark s.marks.items root ≡ New → Enters s s' root
       → HasMet g s s' root

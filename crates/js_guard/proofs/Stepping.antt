@@ -1,6 +1,6 @@
 -- The steps of the program keep a search.
-use Rattle.std.proofs.Common.{◌≡◌, ℕ, ◌+◌, ◌-◌, ◌<◌, ◌≤◌, List, [], ◌∷◌, ◌++◌, length, inl, inr, Bool, true, false, Option, refl, sym, ap, ◌∙◌, subst, arith, true≢false}
-use Rattle.std.proofs.lemmas.List.{length_push, get_or-set_same}
+use Rattle.std.proofs.Common.{◌≡◌, ℕ, ◌+◌, ◌-◌, ◌<◌, ◌≤◌, List, [], ◌∷◌, ◌++◌, length, get_or, inl, inr, Bool, true, false, Option, refl, sym, ap, ◌∙◌, subst, arith, true≢false}
+use Rattle.std.proofs.lemmas.List.{length_push, get_or-set_same, get_or_read}
 use Rattle.schemas.specs.Guarded.{targets, is_among}
 use Rattle.schema_laws.proofs.Ways.{is_among-at}
 use Rattle.js_guard.specs.declared.search.Mark.{Mark}
@@ -10,13 +10,30 @@ use Rattle.js_guard.specs.declared.search.Search.{Search}
 use Rattle.js_guard.specs.Rows.{AreClosed}
 use Rattle.js_guard.specs.Searching.{mark, is_new, count_new, at, noted, Reaches, IsPassed, IsSearch}
 use Rattle.js_guard.specs.Steps.{IsSearchWith, Keeps, work, Enters, PassesAt, PassesEdges, ClosesLast, Leaves}
-use Rattle.js_guard.proofs.Turns.{Reaches-join, Reaches-edge, reach-turn}
+use Rattle.js_guard.proofs.Turns.{Reaches-join, Reaches-edge, turn-within, open-inside, reach-turn}
 use Rattle.js_guard.proofs.Entering.{entered, entered-keeps, entered-fewer}
 use Rattle.js_guard.proofs.Leaving.{left, closed}
 use Rattle.js_guard.proofs.Passing.{turn, stepped, joined, joined-edge}
 
-pub target-inside : (g : List (List ℕ)) (x e : ℕ) → AreClosed g → e < length (targets g x) → at (targets g x) e < length g
+pub target-inside : (g : List (List ℕ)) (x e : ℕ) → AreClosed g → e < length (targets g x)
+    → at (targets g x) e < length g
 target-inside g x e closed h = closed x (at (targets g x) e) (is_among-at (targets g x) e h)
+
+-- the entry whose turn it is, as the program reads it, is one of the table, and has its row
+module _ (g : List (List ℕ)) (s : Search) (P : List Turn) (t : Turn) (search : IsSearchWith g s (P ++ t ∷ [])) where
+  pub place-within : t.place < length s.opened.items
+  place-within = turn-within g s.marks.items s.opened.items s.groups.items P s.done s.least t search
+
+  pub turn-inside : (x : ℕ) → x ≡ get_or s.opened.items t.place x → x < length g
+  turn-inside x read =
+      let inside = open-inside g s.marks.items s.opened.items s.groups.items (P ++ t ∷ []) s.done s.least search t.place
+      place-within in
+      omega (arith, get_or_read s.opened.items t.place x place-within read 0)
+
+  pub turn-row : (x : ℕ) (row S : List ℕ) → x ≡ get_or s.opened.items t.place x → row ≡ targets g x
+      → S ≡ s.opened.items → row ≡ targets g (at S t.place)
+  turn-row x row S read e same =
+      e ∙ ap (targets g) (get_or_read s.opened.items t.place x place-within read 0 ∙ ap (λ o. at o t.place) (sym same))
 
 -- what passing an edge leaves
 pub record PassesOn (g : List (List ℕ)) (s s' : Search) (P : List Turn) (p n : ℕ) : Type 0 where
@@ -33,7 +50,8 @@ module _ (g : List (List ℕ)) (s s' : Search) (P : List Turn) (p n : ℕ)
   passes-at : (m : Mark) → mark s.marks.items w ≡ m → PassesAt m s s' w true → PassesOn g s s' P p (n + 1)
   passes-at New e h = absurd (true≢false h.0)
   passes-at (Open j) e (it_is, joins, same) =
-      let now = joined g s.marks.items s.opened.items s.groups.items s'.groups.items P s.done s.least p n j search edge e
+      let now = joined g s.marks.items s.opened.items s.groups.items s'.groups.items P s.done s.least p n j search edge
+      e
       joins in
       let over = joined-edge g s.marks.items s.opened.items s.groups.items s'.groups.items P s.done s.least p n j search
       edge e joins in
@@ -115,11 +133,13 @@ module _ (g : List (List ℕ)) (s s' : Search) (x : ℕ) (search : IsSearchWith 
   pub entering : GoesOn g s s'
   entering = record {
     search =
-        search-same g _ s'.marks.items _ s'.opened.items _ s'.groups.items _ s'.path.items s.done s'.done s.least s'.least
+        search-same g _ s'.marks.items _ s'.opened.items _ s'.groups.items _ s'.path.items s.done s'.done s.least
+        s'.least
         (entered g s.marks.items s.opened.items s.groups.items s.path.items s.done s.least x search inside new to_x)
         e.marks e.opened e.groups e.path e.done e.least;
     keeps = λ y h.
-        entered-keeps g s.marks.items s.opened.items s.groups.items s.path.items s.done s.least x search inside new to_x y
+        entered-keeps g s.marks.items s.opened.items s.groups.items s.path.items s.done s.least x search inside new to_x
+        y
         (subst (λ m. mark m y ≡ New) e.marks h);
   }
 
@@ -132,7 +152,9 @@ module _ (g : List (List ℕ)) (s s' : Search) (x : ℕ) (search : IsSearchWith 
 
   pub entering-work : work s' ≡ work s - 1
   entering-work =
-      let fewer = entered-fewer g s.marks.items s.opened.items s.groups.items s.path.items s.done s.least x search inside new to_x in
+      let fewer =
+      entered-fewer g s.marks.items s.opened.items s.groups.items s.path.items s.done s.least x search inside new
+      to_x in
       let longer = length_push s.path.items (turn (length s.opened.items) 0) in
       omega (arith, ap count_new e.marks, ap length e.path)
 
@@ -158,9 +180,12 @@ module _ (g : List (List ℕ)) (s s' : Search) (P : List Turn) (p n : ℕ)
   leaving h =
       elim h [
         | inl (same, inner) ↦
-            let now = left g s.marks.items s.opened.items s.groups.items P s.done s.least (turn p n) search over inner in
+            let now = left g s.marks.items s.opened.items s.groups.items P s.done s.least (turn p n) search over
+            inner in
             record {
-              search = subst (λ t. IsSearchWith g t t.path.items) (sym same) (subst (λ q. IsSearchWith g s q) (sym path) now);
+              search =
+                  subst (λ t. IsSearchWith g t t.path.items) (sym same)
+                  (subst (λ q. IsSearchWith g s q) (sym path) now);
               keeps = λ x k. subst (λ t. mark t.marks.items x ≡ New) same k;
             }
         | inr c ↦ leaving-last c
@@ -175,8 +200,8 @@ module _ (g : List (List ℕ)) (s s' : Search) (P : List Turn) (p n : ℕ)
             omega (arith, ap (λ v. length v.items) c.path)
       ]
 
--- edges are passed up to one that leads to a new entry, which is entered: s, t, u and v are what stands before that, after
--- it, with the turn put back, and in the end
+-- edges are passed up to one that leads to a new entry, which is entered: s, t, u and v are what stands before that,
+-- after it, with the turn put back, and in the end
 module _ (g : List (List ℕ)) (s t u v : Search) (p n x : ℕ) (closed_g : AreClosed g) (e : PassesEdges g s t p n)
     (same : u ≡ record t { path = u.path }) (pushed : u.path.items ≡ t.path.items ++ turn p n ∷ [])
     (edge : n < length (targets g (at t.opened.items p))) (to : x ≡ at (targets g (at t.opened.items p)) n)

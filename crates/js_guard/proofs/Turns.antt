@@ -1,7 +1,7 @@
 -- What a search knows of the entry whose turn it is: it stands in the last group, and each open entry leads to it.
-use Rattle.std.proofs.Common.{◌≡◌, ℕ, suc, ◌+◌, ◌<◌, ◌≤◌, ◌⊎◌, ◌≢◌, List, [], ◌∷◌, ◌++◌, length, get_or, inl, inr, true, Option, refl, sym, ap, ◌∙◌, subst, arith}
+use Rattle.std.proofs.Common.{◌≡◌, ℕ, suc, ◌+◌, ◌<◌, ◌≤◌, ◌⊎◌, ◌≢◌, List, [], ◌∷◌, ◌++◌, length, inl, inr, true, Option, refl, sym, ap, ◌∙◌, subst, arith}
 use Rattle.std.proofs.lemmas.Bool.{cases_lt}
-use Rattle.std.proofs.lemmas.List.{get_or_past, get_or_read}
+use Rattle.std.proofs.lemmas.List.{get_or_past}
 use Rattle.schemas.specs.Guarded.{targets, is_among, IsOnCycle}
 use Rattle.schema_laws.proofs.Ways.{leads-here, leads-edge, leads-join}
 use Rattle.js_guard.specs.declared.search.Mark.{Mark}
@@ -44,7 +44,12 @@ module _ (g : List (List ℕ)) (M : List Mark) (S B : List ℕ) (P : List Turn) 
 
   pub path-before : (k : ℕ) → k < length P → (turn_at P k).place < t.place
   path-before k h =
-      omega (arith, s.path_rises k (length P) h last_place, ap (λ u. u.place) turn-here, ap (λ u. u.place) (turn-before k h))
+      omega (
+        arith,
+        s.path_rises k (length P) h last_place,
+        ap (λ u. u.place) turn-here,
+        ap (λ u. u.place) (turn-before k h),
+      )
 
   pub groups-before : (k : ℕ) → k < length B → at B k ≤ t.place
   groups-before k h =
@@ -108,20 +113,3 @@ open-inside g M S B P done least s i h =
     let inside = mark-inside M (at S i) (λ e. (let clash : Open i ≡ New = sym (s.open_marked i h) ∙ e in cc)) in
     let size = s.marked in
     omega arith
-
--- the row of the entry whose turn it is, and that the entry is one of the table
-module _ (g : List (List ℕ)) (M : List Mark) (S B : List ℕ) (P : List Turn) (done : ℕ) (least : Option ℕ)
-    (t : Turn) (s : IsSearch g M S B (P ++ t ∷ []) done least) (x : ℕ) (read : x ≡ get_or S t.place x) where
-  turn-entry : x ≡ at S t.place
-  turn-entry = get_or_read S t.place x (turn-within g M S B P done least t s) read 0
-
-  pub turn-inside : x < length g
-  turn-inside =
-      omega (
-        arith,
-        turn-entry,
-        open-inside g M S B (P ++ t ∷ []) done least s t.place (turn-within g M S B P done least t s),
-      )
-
-  pub turn-row : (row T : List ℕ) → row ≡ targets g x → T ≡ S → row ≡ targets g (at T t.place)
-  turn-row row T e same = e ∙ ap (targets g) (turn-entry ∙ ap (λ o. at o t.place) (sym same))

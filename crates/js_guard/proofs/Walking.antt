@@ -69,7 +69,8 @@ pub record IsWalk (g : List (List ℕ)) (f : ℕ) (D : List (Option ℕ)) (cycle
   pub known : (d : ℕ) × (get_distance D next ≡ Some d)
   pub to_end : (ys : List ℕ) → Ends g f next ys → IsLeastCycle g (cycle ++ ys)
 
-module _ (g r : List (List ℕ)) (f : ℕ) (D : List (Option ℕ)) (reverse : AreReversed g r) (distances : AreDistances r f D)
+module _ (g r : List (List ℕ)) (f : ℕ) (D : List (Option ℕ)) (reverse : AreReversed g r)
+    (distances : AreDistances r f D)
   where
     way : (x d : ℕ) → get_distance D x ≡ Some d → leads g d x f ≡ true
     way x d h = leads-back r g (λ y x h. reverse.forth x y h) d f x (distances.way x d h)

@@ -16,8 +16,8 @@ pub record AreDistances (g : List (List ℕ)) (f : ℕ) (D : List (Option ℕ)) 
 abbrev pub item : List Reached → ℕ → Reached
 item Q i = get_or Q i (record { entry = 0; distance = 0 })
 
--- the entries Q that are reached so far, with their distances D from the first of them. The edges of those before place h
--- are followed, and no distance is greater by more than 1 than that of the entry at place h
+-- the entries Q that are reached so far, with their distances D from the first of them. The edges of those before place
+-- h are followed, and no distance is greater by more than 1 than that of the entry at place h
 pub record IsReaching (g : List (List ℕ)) (D : List (Option ℕ)) (Q : List Reached) (h : ℕ) : Type 0 where
   pub known : length D ≡ length g
   pub begun : 0 < length Q

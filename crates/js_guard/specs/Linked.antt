@@ -20,7 +20,8 @@ pub record IsUpToLast (L : List (ℕ × ℕ)) (k t p : ℕ) : Type 0 where
   pub none_after : (e : ℕ) → p ≤ e → e < k → (pair_at L e).1 ≡ t → ⊥
   pub last : (q : ℕ) → p ≡ suc q → (pair_at L q).1 ≡ t
 
--- the edges L, each with those before it that lead to the same entry, and for each of n entries the last that leads there
+-- the edges L, each with those before it that lead to the same entry, and for each of n entries the last that leads
+-- there
 pub record IsLinked (L : List (ℕ × ℕ)) (n : ℕ) (last : List ℕ) (E : List Source) : Type 0 where
   pub heads : length last ≡ n
   pub same_length : length E ≡ length L

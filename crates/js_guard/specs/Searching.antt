@@ -57,6 +57,11 @@ IsPassed B least i w (Done r) = Unit {0}
 abbrev pub IsAhead : List Turn → ℕ → ℕ → Type 0
 IsAhead P i e = (k : ℕ) × (k < length P) × ((turn_at P k).place ≡ i) × ((turn_at P k).next ≤ e)
 
+-- edge e of the entry x, which is open at place i, is passed or still to be followed
+abbrev pub IsTaken : List (List ℕ) → List Mark → List ℕ → List Turn → Option ℕ → ℕ → ℕ → ℕ → Type 0
+IsTaken g M B P least i x e =
+    IsAhead P i e ⊎ IsPassed B least i (at (targets g x) e) (mark M (at (targets g x) e))
+
 -- groups to which those that begin past place p were joined
 pub record IsJoined (B B' : List ℕ) (p : ℕ) : Type 0 where
   pub fewer : length B' ≤ length B
@@ -77,8 +82,7 @@ pub record IsSearch (g : List (List ℕ)) (M : List Mark) (S B : List ℕ) (P : 
   pub groups_rise : (k l : ℕ) → k < l → l < length B → at B k < at B l
   pub reach : (i j : ℕ) → i < length S → j < length S → Together B j i → Reaches g (at S i) (at S j)
   -- edges of open entries
-  pub passed : (i e : ℕ) → i < length S → e < length (targets g (at S i))
-      → IsAhead P i e ⊎ IsPassed B least i (at (targets g (at S i)) e) (mark M (at (targets g (at S i)) e))
+  pub taken : (i e : ℕ) → i < length S → e < length (targets g (at S i)) → IsTaken g M B P least i (at S i) e
   -- the path
   pub path_rises : (k l : ℕ) → k < l → l < length P → (turn_at P k).place < (turn_at P l).place
   pub path_within : (k : ℕ) → k < length P → (turn_at P k).place < length S

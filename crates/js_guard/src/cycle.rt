@@ -1,7 +1,7 @@
 //! The cycle that is told.
 //!
-//! From an entry on a cycle the next is the target with the shortest way back. It costs time and memory in proportion to
-//! the entries and edges.
+//! From an entry on a cycle the next is the target with the shortest way back. It costs time and memory in proportion
+//! to the entries and edges.
 
 ghost use Rattle.std.specs.Prelude.{◌≡◌, ℕ, true, ◌^◌, ◌<◌, length, get_or, IfOk, Option, Some};
 ghost use Rattle.schemas.specs.Guarded.{is_among, IsLeastOnCycle, IsLeastCycle};

@@ -78,7 +78,8 @@ impl Frontier {
     /// Gives an entry that distance, unless it has one.
     fn reach(&mut self, entry: u32, distance: u32) -> Result<(), Memory>
         requires { entry < length self.old.distances.items }
-        ensures { OnOk result (ReachesAt (get_distance self.old.distances.items entry) self.old self.new entry distance) }
+        ensures { OnOk result (ReachesAt (get_distance self.old.distances.items entry) self.old self.new entry
+            distance) }
     {
         if self.distances[entry as usize].is_none() {
             self.queue.push(Reached { entry, distance })?;

@@ -1,8 +1,8 @@
 //! Whether the entries of a schema are asked of the same document in a circle.
 //!
-//! `guard` gives each entry a rank that falls along every in-place edge, or tells a cycle. What a cycle is and which one
-//! is told stands in `schemas` (`Guarded`), what an answer means in `specs/Answer.antt`. The validator and the normal form
-//! go down by ranks.
+//! `guard` gives each entry a rank that falls along every in-place edge, or tells a cycle. What a cycle is and which
+//! one is told stands in `schemas` (`Guarded`), what an answer means in `specs/Answer.antt`. The validator and the
+//! normal form go down by ranks.
 #![tactic(auto)]
 
 ghost use Rattle.std.specs.Prelude.{◌≡◌, true, IfOk, IfErr, OnOk};
@@ -26,9 +26,9 @@ use js_schema::{EntryList, Schema};
 pub use ranks::Ranks;
 use std::alloc::Global;
 
-/// Ranks for the entries of a schema, or the cycle that is told of it. In-place edges lead to the target of `$ref` and to
-/// the schemas under `allOf`, `anyOf`, `oneOf`, `not` and `dependencies`. It costs time and memory in proportion to the
-/// entries and these edges.
+/// Ranks for the entries of a schema, or the cycle that is told of it. In-place edges lead to the target of `$ref` and
+/// to the schemas under `allOf`, `anyOf`, `oneOf`, `not` and `dependencies`. It costs time and memory in proportion to
+/// the entries and these edges.
 pub fn guard(alloc: Global, schema: &Schema) -> Result<Ranks, GuardFault>
     ensures ranks { IfOk result (λ r. are_ranks (edges (schema_view schema.now)) r ≡ true) }
     ensures guarded { OnOk result (IsGuarded (edges (schema_view schema.now))) }

@@ -1,7 +1,7 @@
 //! Edges the other way round.
 //!
-//! Edges are linked by where they lead, in flat arrays, and read off entry by entry. It costs time and memory in proportion
-//! to the entries and edges.
+//! Edges are linked by where they lead, in flat arrays, and read off entry by entry. It costs time and memory in
+//! proportion to the entries and edges.
 
 ghost use Rattle.std.specs.Prelude.{◌≡◌, ℕ, List, ◌^◌, ◌<◌, ◌++◌, length, map, get_or, IfOk, OnOk};
 ghost use Rattle.js_guard.specs.Rows.{AreClosed};

@@ -2,8 +2,8 @@
 //!
 //! Entries are open from when they are met until all that they lead to is done. Open entries stand in groups: those of
 //! one group lead to each other, so where a group has two entries, or an edge leads back into it, they lie on cycles.
-//! Nothing recurses from entry to entry: `path` holds the entries whose edges are being followed. Each edge is looked at
-//! twice at most.
+//! Nothing recurses from entry to entry: `path` holds the entries whose edges are being followed. Each edge is looked
+//! at twice at most.
 
 ghost use Rattle.std.specs.Prelude.{◌≡◌, ◌+◌, ◌*◌, ◌^◌, ◌<◌, ◌≤◌, ◌++◌, ◌∷◌, [], length, map, IfOk, OnOk};
 ghost use Rattle.js_guard.specs.Rows.{AreClosed};
@@ -24,7 +24,8 @@ pub(crate) enum Mark {
     Done(u32),
 }
 
-/// An open entry whose edges are being followed, by its place among the open ones, and the first edge that isn't passed.
+/// An open entry whose edges are being followed, by its place among the open ones, and the first edge that isn't
+/// passed.
 #[derive(Clone, Copy)]
 pub(crate) struct Turn {
     place: u32,
@@ -38,8 +39,8 @@ pub(crate) enum Found {
     Circular(u32),
 }
 
-/// What the search knows: `groups` are the places where groups of open entries begin, `done` counts the entries that are
-/// done, and `least` is the least entry that is known to lie on a cycle.
+/// What the search knows: `groups` are the places where groups of open entries begin, `done` counts the entries that
+/// are done, and `least` is the least entry that is known to lie on a cycle.
 #[derive(Drop)]
 pub(crate) struct Search {
     marks: Vec<Mark>,
@@ -69,7 +70,8 @@ pub(crate) fn search_all(alloc: Global, edges: &Edges) -> Result<Found, Memory>
 impl Search {
     ghost use Rattle.std.specs.Prelude.{ℕ};
     ghost use Rattle.js_guard.specs.Searching.{mark, is_new, rank_of, count_new, at, noted, IsJoined, IsSearch};
-    ghost use Rattle.js_guard.specs.Steps.{IsSearchWith, IsResting, Keeps, work, Enters, PassesAt, Closes, Leaves, Finishes, PassesEdges};
+    ghost use Rattle.js_guard.specs.Steps.{IsSearchWith, IsResting, Keeps, work, Enters, PassesAt, PassesEdges};
+    ghost use Rattle.js_guard.specs.Steps.{Closes, Leaves, Finishes};
     ghost use Rattle.js_guard.specs.declared.search.Mark.TheVariants.{New};
 
     fn new(alloc: Global, edges: &Edges) -> Result<Search, Memory>

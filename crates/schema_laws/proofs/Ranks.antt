@@ -84,8 +84,9 @@ edge-below : (n : ℕ) (es : List Entry) → every (λ e. names_below n e.form) 
 edge-below n [] h x y k = absurd (true≢false (sym k))
 edge-below n (e ∷ es) h zero y k =
     let here = (and_parts (names_below n e.form) (every (λ f. names_below n f.form) es) h).0 in
-    let named = (and_parts (every (λ z. nat_lt z n) (in_place e.form)) (every (λ z. nat_lt z n) (of_parts e.form)) here).0 in
-    ltb-true y n (every-at (λ z. nat_lt z n) (in_place e.form) y named k)
+    let named = and_parts (every (λ z. nat_lt z n) (in_place e.form)) (every (λ z. nat_lt z n) (of_parts e.form))
+    here in
+    ltb-true y n (every-at (λ z. nat_lt z n) (in_place e.form) y named.0 k)
 edge-below n (e ∷ es) h (suc x) y k =
     edge-below n es (and_parts (names_below n e.form) (every (λ f. names_below n f.form) es) h).1 x y k
 

@@ -24,7 +24,8 @@ nearest-next-requires-clause-some c =
     let g = c.args.edges.now in
     let D = c.in_ok-distances.distances.items in
     some-read D c.deref.result.now c.row.result.now _ c.deref.ensures.value c.row.ensures
-    (some-first g c.in_ok-back.back c.args.first D c.in_ok-back.ensures c.in_ok-distances.ensures c.requires.first.on_cycle)
+    (some-first g c.in_ok-back.back c.args.first D c.in_ok-back.ensures c.in_ok-distances.ensures
+    c.requires.first.on_cycle)
 
 pub loop-next-init : goal.loop-next-init
 loop-next-init c =
@@ -32,7 +33,8 @@ loop-next-init c =
     let f = c.args.first in
     let D = c.in_ok-distances.distances.items in
     let next = c.nearest-next.result in
-    let near = nearest-read D c.deref.result.now c.row.result.now _ next c.deref.ensures.value c.row.ensures c.nearest-next.ensures in
+    let near = nearest-read D c.deref.result.now c.row.result.now _ next c.deref.ensures.value c.row.ensures
+    c.nearest-next.ensures in
     let begun = c.in_ok-push.ensures.items ∙ ap (λ l. l ++ f ∷ []) c.new-cycle.ensures.items in
     subst (λ l. IsWalk g f D l next) (sym begun)
     (walk-first g c.in_ok-back.back f D c.in_ok-back.ensures c.in_ok-distances.ensures next c.requires.first near)
@@ -73,7 +75,8 @@ loop-next-smaller c =
     let next = c.nearest-next-in-loop-next.result in
     let near = nearest-read D c.deref-in-loop-next.result.now c.row-in-loop-next.result.now _ next
     c.deref-in-loop-next.ensures.value c.row-in-loop-next.ensures c.nearest-next-in-loop-next.ensures in
-    nearer-next g c.in_ok-back.back c.args.first D c.in_ok-back.ensures c.in_ok-distances.ensures c.loop-next.next known.0
+    nearer-next g c.in_ok-back.back c.args.first D c.in_ok-back.ensures c.in_ok-distances.ensures c.loop-next.next
+    known.0
     next c.loop-next-test.true known.1 near
 
 pub loop-next-preserved : goal.loop-next-preserved

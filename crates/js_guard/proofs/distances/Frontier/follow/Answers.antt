@@ -14,8 +14,10 @@ pub row-target-items-requires : goal.row-target-items-requires
 row-target-items-requires c =
     let s = c.args.self.now in
     let search = c.requires.search in
-    let read = get_or_read s.queue.items c.args.at c.index-reached.result.now c.requires.at c.index-reached.ensures no_item in
-    let inside = entry-inside c.args.edges.now s.distances.items s.queue.items c.args.at search c.args.at c.requires.at in
+    let read = get_or_read s.queue.items c.args.at c.index-reached.result.now c.requires.at c.index-reached.ensures
+    no_item in
+    let inside = entry-inside c.args.edges.now s.distances.items s.queue.items c.args.at search c.args.at
+    c.requires.at in
     subst (λ q. q.entry < length c.args.edges.now) (sym read) inside
 
 pub reach-requires : goal.reach-requires
@@ -79,7 +81,8 @@ returns-clause-search c =
     let row = c.row-target-items.ensures in
     follow-all g now.distances.items now.queue.items c.args.at kept.at kept.search
     (λ y h.
-    (let found = place_among y (targets g reached.entry) (subst (λ q. is_among y (targets g q.entry) ≡ true) kept.here h) in
+    (let found = place_among y (targets g reached.entry)
+    (subst (λ q. is_among y (targets g q.entry) ≡ true) kept.here h) in
     let l = found.1 in
     let (d, has, low) = kept.so_far found.0 (omega (arith, ap length row)) in
     let same = ap (λ r. get_or r found.0 0) row ∙ found.2 in (

@@ -34,7 +34,8 @@ loop-entry-preserved c =
     let x = c.loop-entry.entry in
     let now = c.in_ok-add_row.ensures L (length g) linked in (
       L ++ map (λ t. (x, t)) (targets g x),
-      subst (λ r. IsLinked (L ++ map (λ t. (x, t)) r) (length g) c.add_row.new.self.last.items c.add_row.new.self.edges.items)
+      subst (λ r. IsLinked (L ++ map (λ t. (x, t)) r) (length g) c.add_row.new.self.last.items
+          c.add_row.new.self.edges.items)
           c.row.ensures now,
       entry-more g x L (omega arith) made,
     )

@@ -22,5 +22,6 @@ loop-left-preserved c =
           (let old = subst (λ p. IsReading L c.args.target p c.loop-left.row.items) left (kept.reading L h) in
           subst (IsReading L c.args.target c.index-source.result.now.before) (sym c.in_ok-push.ensures.items)
           (subst (λ s. IsReading L c.args.target s.before (c.loop-left.row.items ++ s.entry ∷ [])) (sym read)
-          (reading-more L (length self.last.items) self.last.items E h c.args.target q c.loop-left.row.items inside old)));
+          (reading-more L (length self.last.items) self.last.items E h c.args.target q c.loop-left.row.items inside
+          old)));
     }

@@ -4,16 +4,15 @@ use Rattle.std.proofs.lemmas.Result.{on_ok_weaker}
 use Rattle.schemas.specs.Guarded.{targets}
 use Rattle.js_guard.specs.declared.search.Search.{Search}
 use Rattle.js_guard.specs.Searching.{at}
-use Rattle.js_guard.proofs.Turns.{turn-within, turn-inside, turn-row}
 use Rattle.js_guard.proofs.Passing.{turn}
-use Rattle.js_guard.proofs.Stepping.{target-inside, turned, turned-work, turned-last}
+use Rattle.js_guard.proofs.Stepping.{target-inside, place-within, turn-inside, turn-row, turned, turned-work, turned-last}
 use Rattle.js_guard.proofs.search.Search.take_turn.Goals as goal
 
 pub row-row-requires : goal.row-row-requires
 row-row-requires c =
     let t = c.pass_edges-next.new.self in
-    turn-inside c.args.edges.now t.marks.items t.opened.items t.groups.items c.args.self.now.path.items t.done t.least
-    (turn c.args.turn.place c.pass_edges-next.result) c.pass_edges-next.ensures.search c.index.result.now c.index.ensures
+    turn-inside c.args.edges.now t c.args.self.now.path.items (turn c.args.turn.place c.pass_edges-next.result)
+    c.pass_edges-next.ensures.search c.index.result.now c.index.ensures
 
 pub enter-requires-clause-entry : goal.enter-requires-clause-entry
 enter-requires-clause-entry c =
@@ -27,8 +26,8 @@ enter-requires-clause-entry c =
 pub leave-requires-clause-place : goal.leave-requires-clause-place
 leave-requires-clause-place c =
     let t = c.pass_edges-next.new.self in
-    turn-within c.args.edges.now t.marks.items t.opened.items t.groups.items c.args.self.now.path.items t.done t.least
-    (turn c.args.turn.place c.pass_edges-next.result) c.pass_edges-next.ensures.search
+    place-within c.args.edges.now t c.args.self.now.path.items (turn c.args.turn.place c.pass_edges-next.result)
+    c.pass_edges-next.ensures.search
 
 pub returns-in_ok-push-clause-search : goal.returns-in_ok-push-clause-search
 returns-in_ok-push-clause-search c =
@@ -38,8 +37,8 @@ returns-in_ok-push-clause-search c =
     let n = c.pass_edges-next.result in
     let e = c.pass_edges-next.ensures in
     let u : Search = record t { path = c.push.new.self } in
-    let row = turn-row g t.marks.items t.opened.items t.groups.items c.args.self.now.path.items t.done t.least (turn p n)
-    e.search c.index.result.now c.index.ensures c.row-row.result.now t.opened.items c.row-row.ensures refl in
+    let row = turn-row g t c.args.self.now.path.items (turn p n) e.search c.index.result.now c.row-row.result.now
+    t.opened.items c.index.ensures c.row-row.ensures refl in
     let edge : n < length (targets g (at t.opened.items p)) = omega (arith, ap length row) in
     on_ok_weaker c.enter.result
     (λ h. (turned g c.args.self.now t u c.enter.new.self p n _ c.requires.closed e refl c.in_ok-push.ensures.items edge
@@ -54,8 +53,8 @@ returns-in_ok-push-clause-progress c =
     let n = c.pass_edges-next.result in
     let e = c.pass_edges-next.ensures in
     let u : Search = record t { path = c.push.new.self } in
-    let row = turn-row g t.marks.items t.opened.items t.groups.items c.args.self.now.path.items t.done t.least (turn p n)
-    e.search c.index.result.now c.index.ensures c.row-row.result.now t.opened.items c.row-row.ensures refl in
+    let row = turn-row g t c.args.self.now.path.items (turn p n) e.search c.index.result.now c.row-row.result.now
+    t.opened.items c.index.ensures c.row-row.ensures refl in
     let edge : n < length (targets g (at t.opened.items p)) = omega (arith, ap length row) in
     on_ok_weaker c.enter.result
     (turned-work g c.args.self.now t u c.enter.new.self p n _ c.requires.closed e refl c.in_ok-push.ensures.items edge
@@ -69,8 +68,8 @@ returns-else-next-row-clause-search c =
     let p = c.args.turn.place in
     let n = c.pass_edges-next.result in
     let e = c.pass_edges-next.ensures in
-    let row = turn-row g t.marks.items t.opened.items t.groups.items c.args.self.now.path.items t.done t.least (turn p n)
-    e.search c.index.result.now c.index.ensures c.row-row.result.now t.opened.items c.row-row.ensures refl in
+    let row = turn-row g t c.args.self.now.path.items (turn p n) e.search c.index.result.now c.row-row.result.now
+    t.opened.items c.index.ensures c.row-row.ensures refl in
     let over : length (targets g (at t.opened.items p)) ≤ n = omega (arith, ap length row) in
     (turned-last g c.args.self.now t c.leave.new.self p n e over c.leave.ensures).search
 
@@ -81,7 +80,7 @@ returns-else-next-row-clause-keeps c =
     let p = c.args.turn.place in
     let n = c.pass_edges-next.result in
     let e = c.pass_edges-next.ensures in
-    let row = turn-row g t.marks.items t.opened.items t.groups.items c.args.self.now.path.items t.done t.least (turn p n)
-    e.search c.index.result.now c.index.ensures c.row-row.result.now t.opened.items c.row-row.ensures refl in
+    let row = turn-row g t c.args.self.now.path.items (turn p n) e.search c.index.result.now c.row-row.result.now
+    t.opened.items c.index.ensures c.row-row.ensures refl in
     let over : length (targets g (at t.opened.items p)) ≤ n = omega (arith, ap length row) in
     (turned-last g c.args.self.now t c.leave.new.self p n e over c.leave.ensures).keeps
