@@ -10,8 +10,8 @@ mod holding;
 mod members;
 mod place;
 mod places;
+mod steps;
 mod visit;
-mod walk;
 mod weight;
 
 pub use children::below_name;
@@ -19,4 +19,4 @@ pub use file::File;
 pub use members::value_of;
 pub use place::Key;
 pub use places::Places;
-pub use walk::walk;
+pub use steps::walk;

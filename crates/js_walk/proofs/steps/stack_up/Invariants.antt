@@ -1,7 +1,7 @@
 use Rattle.std.proofs.Common.{◌≡◌, ◌++◌, map, vec_len}
 use Rattle.js_walk.specs.PlacesView.{place_view}
 use Rattle.js_walk.specs.Walking.{stack_view}
-use Rattle.js_walk.proofs.walk.stack_up.Given as goal
+use Rattle.js_walk.proofs.steps.stack_up.Given as goal
 
 abbrev pub invariant-loop-place : goal.invariant-loop-place
 invariant-loop-place l =

@@ -4,7 +4,7 @@ use Rattle.js_walk.specs.FileView.{root_of}
 use Rattle.js_walk.specs.PlacesView.{place_view, places_view}
 use Rattle.js_walk.specs.Walking.{stack_view}
 use Rattle.js_walk.proofs.WalkLemmas.{alone, begun, unmet, passed, fewer, tells, ended}
-use Rattle.js_walk.proofs.walk.walk.Goals as goal
+use Rattle.js_walk.proofs.steps.walk.Goals as goal
 
 pub loop-place-init : goal.loop-place-init
 loop-place-init c = record {

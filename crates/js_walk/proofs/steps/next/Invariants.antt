@@ -2,7 +2,7 @@ use Rattle.std.proofs.Common.{◌≡◌}
 use Rattle.schemas.specs.Walk.{next_of}
 use Rattle.js_walk.specs.PlacesView.{places_view}
 use Rattle.js_walk.specs.Walking.{stack_view}
-use Rattle.js_walk.proofs.walk.next.Given as goal
+use Rattle.js_walk.proofs.steps.next.Given as goal
 
 abbrev pub invariant-loop-place : goal.invariant-loop-place
 invariant-loop-place l =

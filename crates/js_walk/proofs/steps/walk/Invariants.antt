@@ -5,7 +5,7 @@ use Rattle.js_keywords.specs.Reading.{rules}
 use Rattle.js_walk.specs.FileView.{root_of}
 use Rattle.js_walk.specs.PlacesView.{places_view}
 use Rattle.js_walk.specs.Walking.{stack_view}
-use Rattle.js_walk.proofs.walk.walk.Given as goal
+use Rattle.js_walk.proofs.steps.walk.Given as goal
 
 abbrev pub invariant-loop-place : goal.invariant-loop-place
 invariant-loop-place l = record {
