@@ -18,13 +18,12 @@ ghost use Rattle.js_schema.specs.ObjectView.{members_of, place_of};
 ghost use Rattle.js_schema.specs.Patterns.{source_of};
 ghost use Rattle.js_schema.specs.View.{items_view, property_view, pattern_properties_view, dependency_view};
 
-use crate::links;
 use crate::lists::{DependencyList, EntryList, PatternPropertyList, PropertyList, TypeList};
 use crate::numbers::Numbers;
 use crate::object::Object;
 use crate::part::ItemsPart;
 use crate::pattern::PatternText;
-use crate::values;
+use crate::{links, values};
 use js_doc::{Doc, DocList, Json, Memory, StrList};
 use js_keywords::Keyword;
 use js_walk::{Key, below_name};
@@ -140,9 +139,7 @@ pub(crate) fn one<'a>(
         (E.one_number (E.number_of (numbered numbers.now)) (place_of object.now))) }
 {
     match object.value(keyword) {
-        Some(_) => Ok(Some(
-            numbers.number(&keyword_place(alloc, object, keyword)?),
-        )),
+        Some(_) => Ok(Some(numbers.number(&keyword_place(alloc, object, keyword)?))),
         None => Ok(None),
     }
 }
@@ -220,9 +217,7 @@ pub(crate) fn pattern_properties<'a>(
     match object.value(keyword) {
         Some(value) => {
             let mut at = keyword_place(alloc, object, keyword)?;
-            Ok(Some(links::pattern_properties(
-                alloc, numbers, &mut at, value,
-            )?))
+            Ok(Some(links::pattern_properties(alloc, numbers, &mut at, value)?))
         }
         None => Ok(None),
     }

@@ -164,12 +164,7 @@ fn read_members<'a>(
             object,
             Keyword::PatternProperties,
         )?,
-        additional_properties: fields::one(
-            alloc,
-            numbers,
-            object,
-            Keyword::AdditionalProperties,
-        )?,
+        additional_properties: fields::one(alloc, numbers, object, Keyword::AdditionalProperties)?,
         property_names: fields::one(alloc, numbers, object, Keyword::PropertyNames)?,
     })
 }

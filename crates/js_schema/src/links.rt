@@ -110,8 +110,10 @@ fn property<'a>(
     at: &mut Key,
     member: &JsonMember,
 ) -> Result<Property, Memory>
-    ensures property { IfOk result (λ p. property_view p ≡ ((member_view member.now).0,
-        number_of (numbered numbers.now) (pointer_of at.old ++ (member_view member.now).0 ∷ []))) }
+    ensures property { IfOk result (λ p. property_view p ≡ (
+      (member_view member.now).0,
+      number_of (numbered numbers.now) (pointer_of at.old ++ (member_view member.now).0 ∷ []),
+    )) }
     ensures same { OnOk result (pointer_of at.new ≡ pointer_of at.old) }
 {
     let name = member.name().copy(alloc)?;
@@ -160,8 +162,10 @@ fn pattern_property<'a>(
     member: &JsonMember,
 ) -> Result<PatternProperty, Memory>
     requires { is_pattern (member_view member.now).0 ≡ true }
-    ensures property { IfOk result (λ p. pattern_property_view p ≡ ((member_view member.now).0,
-        number_of (numbered numbers.now) (pointer_of at.old ++ (member_view member.now).0 ∷ []))) }
+    ensures property { IfOk result (λ p. pattern_property_view p ≡ (
+      (member_view member.now).0,
+      number_of (numbered numbers.now) (pointer_of at.old ++ (member_view member.now).0 ∷ []),
+    )) }
     ensures same { OnOk result (pointer_of at.new ≡ pointer_of at.old) }
 {
     let pattern = pattern_text(alloc, member.name())?;
@@ -207,8 +211,10 @@ fn dependency<'a>(
     at: &mut Key,
     member: &JsonMember,
 ) -> Result<Dependency, Memory>
-    ensures dependency { IfOk result (λ d. dependency_view d ≡ ((member_view member.now).0,
-        need_at (numbered numbers.now) (pointer_of at.old) (member_view member.now).0 (member_view member.now).1)) }
+    ensures dependency { IfOk result (λ d. dependency_view d ≡ (
+      (member_view member.now).0,
+      need_at (numbered numbers.now) (pointer_of at.old) (member_view member.now).0 (member_view member.now).1,
+    )) }
     ensures same { OnOk result (pointer_of at.new ≡ pointer_of at.old) }
 {
     let key = member.name().copy(alloc)?;

@@ -76,11 +76,7 @@ fn form_of<'a>(
 }
 
 /// Each form at its place.
-fn join<'a>(
-    alloc: Global,
-    numbers: Numbers<'a>,
-    forms: Vec<Form>,
-) -> Result<Vec<Entry>, Memory>
+fn join<'a>(alloc: Global, numbers: Numbers<'a>, forms: Vec<Form>) -> Result<Vec<Entry>, Memory>
     requires { length forms.items ≡ length (numbered numbers) }
     ensures { IfOk result (λ entries. map entry_view entries.items
         ≡ entries_by (map (λ c. c.0) (numbered numbers.entry)) (map form_view forms.items)) }

@@ -45,9 +45,10 @@ module _ (root : Json) where
           → (has_place done c.0 ≡ false) × IsReading rules root done (c ∷ rest) n
       go true e h later = later (readings.skip rules root done ds d n e r) h
       go false e h later =
-          let same = same_Some (d, ds) (c, rest) h in
-          ( ap (λ x. has_place done x.0.0) (sym same) ∙ e
-          , subst (λ x. IsReading rules root done (x.0 ∷ x.1) n) same r)
+          let same = same_Some (d, ds) (c, rest) h in (
+            ap (λ x. has_place done x.0.0) (sym same) ∙ e,
+            subst (λ x. IsReading rules root done (x.0 ∷ x.1) n) same r,
+          )
 
   pub ended : (done waiting : List Place) (n : ℕ) → IsReading rules root done waiting n
       → next_of done waiting ≡ None → (first_fault rules root ≡ None) × (places rules root ≡ done)

@@ -165,11 +165,7 @@ fn add_needs<'a>(
     Ok(())
 }
 
-fn add_unless_list<'a>(
-    found: &mut Vec<Place<'a>>,
-    key: Key,
-    value: &'a Json,
-) -> Result<(), Memory>
+fn add_unless_list<'a>(found: &mut Vec<Place<'a>>, key: Key, value: &'a Json) -> Result<(), Memory>
     ensures { OnOk result (map place_view found.new.items
         ≡ map place_view found.old.items ++ unless_list (pointer_of key) (view value.now) []) }
 {

@@ -91,11 +91,7 @@ fn follow<'a>(
 }
 
 /// The place with that pointer, where there is one.
-fn place_at<'a>(
-    alloc: Global,
-    file: &File<'a>,
-    pointer: Pointer,
-) -> Result<Vec<Place<'a>>, Memory>
+fn place_at<'a>(alloc: Global, file: &File<'a>, pointer: Pointer) -> Result<Vec<Place<'a>>, Memory>
     ensures { IfOk result (λ found. map place_view found.items
         ≡ W.place_with pointer (value_at pointer (root_of file.now))) }
 {
