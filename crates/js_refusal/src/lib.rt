@@ -1,7 +1,6 @@
 //! The words that say what is wrong in a schema, and where, as reports print them after the role of a file.
 //!
-//! `specs/RefusalWords.antt` has them fault by fault. The cost is that of the text. The reading of files, `js_input`,
-//! stands on this crate.
+//! `specs/RefusalWords.antt` has them fault by fault. The cost is that of the text.
 #![tactic(auto)]
 
 mod fault;

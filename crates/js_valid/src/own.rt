@@ -7,7 +7,8 @@ ghost use Rattle.documents.specs.Measures.{is_multiple, has_name, exactly_one, s
 ghost use Rattle.schemas.specs.Schema.{meets};
 ghost use Rattle.draft06.specs.EntryValidity.{has_type, need_asks, asks_any, asks_number, asks_string};
 ghost use Rattle.js_doc.specs.View.{view, list_view, map_view, member_view};
-ghost use Rattle.js_schema.specs.View.{form_view, keywords_view, type_view, needs_view, dependency_view};
+ghost use Rattle.js_keywords.specs.TypeView.{type_view};
+ghost use Rattle.js_schema.specs.View.{form_view, keywords_view, needs_view, dependency_view};
 ghost use Rattle.js_valid.specs.Matching.{matches};
 ghost use Rattle.js_valid.specs.Parts.{flag, own, own_keywords, own_array, own_object, no_parts, no_entry};
 
@@ -15,7 +16,7 @@ use crate::found::{is_found, letters};
 use crate::tables::{all_hold, holds, just_one_holds, one_holds};
 use js_doc::{Doc, DocList, DocMap, Memory, Str, StrList, equal};
 use js_schema::{
-    DependencyList, EntryList, Form, Keywords, Needs, PatternText, TypeList, TypeName,
+    DependencyList, EntryList, Form, Keywords, Needs, PatternText, TypeList,
 };
 use std::alloc::Global;
 

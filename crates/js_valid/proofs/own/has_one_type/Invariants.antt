@@ -2,7 +2,7 @@ use Rattle.std.proofs.Common.{◌≡◌, map, drop}
 use Rattle.documents.specs.Tests.{some}
 use Rattle.draft06.specs.EntryValidity.{has_type}
 use Rattle.js_doc.specs.View.{view}
-use Rattle.js_schema.specs.View.{type_view}
+use Rattle.js_keywords.specs.TypeView.{type_view}
 use Rattle.js_valid.proofs.own.has_one_type.Given as goal
 
 abbrev pub invariant-loop-name : goal.invariant-loop-name
