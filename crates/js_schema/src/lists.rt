@@ -8,7 +8,7 @@ use js_keywords::TypeName;
 use std::marker::Model;
 
 /// A list of entry numbers.
-#[derive(Drop)]
+#[derive(Debug, Drop)]
 pub struct EntryList {
     items: Vec<u32>,
 }

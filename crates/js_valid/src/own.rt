@@ -15,6 +15,7 @@ ghost use Rattle.js_valid.specs.Parts.{flag, own, own_keywords, own_array, own_o
 use crate::found::{is_found, letters};
 use crate::tables::{all_hold, holds, just_one_holds, one_holds};
 use js_doc::{Doc, DocList, DocMap, Memory, Str, StrList, equal};
+use js_keywords::TypeName;
 use js_schema::{DependencyList, EntryList, Form, Keywords, Needs, PatternText, TypeList};
 use std::alloc::Global;
 
