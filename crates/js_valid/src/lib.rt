@@ -16,8 +16,6 @@ mod own;
 mod places;
 mod settle;
 mod tables;
-#[cfg(test)]
-mod tests;
 mod walk;
 
 ghost use Rattle.std.specs.Prelude.{◌≡◌, ◌<◌, true, IfOk, length};
