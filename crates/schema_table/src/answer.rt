@@ -12,7 +12,7 @@ use js_json::{JsonFault, read_json, to_doc};
 use js_keywords::SchemaFault;
 use js_refusal::{fault_words, placed, push_place};
 use js_schema::{EntryList, Schema, read_schema};
-use js_valid::valid;
+use js_valid::{ValidFault, valid};
 use std::alloc::Global;
 
 /// What is wrong with the schema, then with the document, or whether the document is valid.
@@ -83,11 +83,13 @@ fn answer_on_value(
     requires { are_ranks (edges (schema_view schema.now)) ranks.now ≡ true }
 {
     match to_doc(alloc, json) {
-        Ok(doc) => {
-            let is_valid = valid(alloc, schema, ranks, &doc)?;
-            let word = if is_valid { "valid" } else { "invalid" };
-            Ok(String::from_str(alloc, word)?)
-        }
+        Ok(doc) => match valid(alloc, schema, ranks, &doc) {
+            Ok(is_valid) => {
+                let word = if is_valid { "valid" } else { "invalid" };
+                Ok(String::from_str(alloc, word)?)
+            }
+            Err(ValidFault::Memory) => Err(Memory),
+        },
         Err(JsonFault::NotWhole(place)) => {
             let words = placed(alloc, "notwhole", &place)?;
             refused(alloc, "document", words.as_str())
