@@ -355,6 +355,20 @@ group({'type': 'object', 'required': ['kids'], 'properties': {'kids': {'type': '
 group({'allOf': [{'$ref': '#/definitions/n'}, {'$ref': '#/definitions/n'}], 'definitions': {'n': {'minimum': 1}}}, ['1'], ['0'])
 group({'$ref': '#/properties/a', 'properties': {'a': {'type': 'null'}}}, ['null'], ['{}'])
 
+# ---- larger schemas, those of `examples`
+EXAMPLES = os.path.join(HERE, '..', '..', 'examples')
+
+
+def example(folder, name):
+    """An example on one line."""
+    with open(os.path.join(EXAMPLES, folder, name + '.json'), encoding='utf-8') as f:
+        return json.dumps(json.load(f), ensure_ascii=False, separators=(',', ':'))
+
+
+for schema in ('before', 'after'):
+    group(example('orders', schema), [example('orders', 'order')], [example('orders', 'order_without_quantity')])
+    group(example('pipeline', schema), [example('pipeline', 'pipeline')], [example('pipeline', 'pipeline_with_two_ways')])
+
 
 def main():
     try:
