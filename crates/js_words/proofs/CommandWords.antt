@@ -21,6 +21,14 @@ pub utf8-valid : IsUtf8 (codes "valid")
 unfolding encode
 utf8-valid = (codes "valid", (refl, refl))
 
+pub chars-norm : chars (codes "norm") ≡ codes "norm"
+unfolding encode
+chars-norm = chars-encodes (codes "norm") refl
+
+pub utf8-norm : IsUtf8 (codes "norm")
+unfolding encode
+utf8-norm = (codes "norm", (refl, refl))
+
 -- a word of one byte at most is a name
 pub is_name-short : (w : List ℕ) → length (encode_utf8_all w) < 2 → is_name w ≡ true
 is_name-short [] l = refl

@@ -1,12 +1,21 @@
 -- Worked examples of the command words, each computed from the definition.
 use Rattle.std.specs.Prelude.{◌≡◌, [], ◌∷◌, Some, None, refl, codes}
-use Rattle.js_words.specs.Commands.{Include, Valid, command}
+use Rattle.js_words.specs.Commands.{Include, Valid, Norm, command}
 
 include : command (codes "include" ∷ codes "a" ∷ codes "b" ∷ []) ≡ Some (Include (codes "a") (codes "b"))
 include = refl
 
 valid : command (codes "valid" ∷ codes "a" ∷ codes "d" ∷ []) ≡ Some (Valid (codes "a") (codes "d"))
 valid = refl
+
+norm : command (codes "norm" ∷ codes "a" ∷ []) ≡ Some (Norm (codes "a"))
+norm = refl
+
+norm_of_an_option : command (codes "norm" ∷ codes "-a" ∷ []) ≡ None
+norm_of_an_option = refl
+
+norm_of_two : command (codes "norm" ∷ codes "a" ∷ codes "b" ∷ []) ≡ None
+norm_of_two = refl
 
 -- a dash alone and the empty word are names
 dash_and_nothing : command (codes "valid" ∷ codes "-" ∷ [] ∷ []) ≡ Some (Valid (codes "-") [])

@@ -8,6 +8,8 @@ pub data Command : Type 0 where
   Include : (first second : List ℕ) → Command
   -- validate a document
   Valid : (schema document : List ℕ) → Command
+  -- print a schema's core table
+  Norm : (schema : List ℕ) → Command
 
 -- a name of a file: any word that doesn't begin with `-`, and `-` alone
 abbrev pub is_name : List ℕ → Bool
@@ -21,7 +23,12 @@ named w a b =
     cond (same_word w (codes "include")) (Some (Include a b))
     (cond (same_word w (codes "valid")) (Some (Valid a b)) None)
 
--- `include NAME NAME` and `valid NAME NAME`; no other words are a command
+-- the command of that word with one name
+abbrev pub of_one : List ℕ → List ℕ → Option Command
+of_one w a = cond (same_word w (codes "norm") && is_name a) (Some (Norm a)) None
+
+-- `include NAME NAME`, `valid NAME NAME` and `norm NAME`; no other words are a command
 abbrev pub command : List (List ℕ) → Option Command
+command (w ∷ a ∷ []) = of_one w a
 command (w ∷ a ∷ b ∷ []) = cond (is_name a && is_name b) (named w a b) None
 command _ = None

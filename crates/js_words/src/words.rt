@@ -15,6 +15,9 @@ pub enum Command<'a> {
 
     /// A schema and a document: is it valid?
     Valid(&'a Str, &'a Str),
+
+    /// A schema: its core table.
+    Norm(&'a Str),
 }
 
 /// The command of the words; `None` where they are none.
@@ -22,6 +25,7 @@ pub fn read_words(words: &[Str]) -> Option<Command<'_>>
     ensures { option_map command_view result ≡ C.command words.now }
 {
     match words {
+        [word, name] => of_one(word, name),
         [word, first, second] => {
             if is_name(first) && is_name(second) {
                 named(word, first, second)
@@ -30,6 +34,16 @@ pub fn read_words(words: &[Str]) -> Option<Command<'_>>
             }
         }
         _ => None,
+    }
+}
+
+fn of_one<'a>(word: &Str, name: &'a Str) -> Option<Command<'a>>
+    ensures { option_map command_view result ≡ C.of_one word.now name.now }
+{
+    if is_norm(word) && is_name(name) {
+        Some(Command::Norm(name))
+    } else {
+        None
     }
 }
 
@@ -55,6 +69,12 @@ fn is_valid(word: &Str) -> bool
     ensures { result ≡ same_word word.now (codes "valid") }
 {
     "valid" == word.as_text()
+}
+
+fn is_norm(word: &Str) -> bool
+    ensures { result ≡ same_word word.now (codes "norm") }
+{
+    "norm" == word.as_text()
 }
 
 /// A name is any word that doesn't begin with `-`, or `-` alone.
