@@ -11,7 +11,7 @@ use Rattle.js_nfa.proofs.Through.{ends_repeated, ends_still}
 pub left-init : (base n c : ℕ) → base + (n - 0) * c ≡ base + n * c
 left-init base n c = ap (λ k. base + k * c) (omega arith)
 
-one_less : (n i : ℕ) → i < n → n - i ≡ suc (n - (i + 1))
+pub one_less : (n i : ℕ) → i < n → n - i ≡ suc (n - (i + 1))
 one_less n i h = omega (arith, h)
 
 pub left-next : (base n c i at after : ℕ) → i < n → at + (n - i) * c ≡ base + n * c → after ≡ at + c

@@ -6,3 +6,4 @@ pub mod Items
 -- What a tree makes of a state: laws of going through its copies one by one.
 pub mod Through
 pub mod EndsSteps
+pub mod AdvanceSteps

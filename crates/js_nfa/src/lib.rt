@@ -5,6 +5,7 @@
 //! positions, in which the copies of a repeated tree are gone through one by one. So what follows what is never stored.
 #![tactic(auto)]
 
+mod advance;
 mod count;
 mod ends;
 mod position_set;
