@@ -7,3 +7,5 @@ pub mod Items
 pub mod Through
 pub mod EndsSteps
 pub mod AdvanceSteps
+-- States of words by the flags of positions.
+pub mod StateSteps

@@ -1,4 +1,8 @@
--- What a contract sees of the crate's types.
+-- What a contract sees of an automaton and of its states.
 pub mod View
--- Copies of a repeated tree that are gone through one by one, and what a walk over a tree costs.
+pub mod Counted
+-- What it sees of an atom.
+pub mod AtomView
+-- Sets of positions, and the copies of a repeated tree, gone through one by one.
+pub mod Marks
 pub mod Walk

@@ -3,12 +3,14 @@
 ghost use Rattle.std.specs.Prelude.{◌≡◌, ◌+◌, ◌≤◌, min};
 ghost use Rattle.words.specs.Position.{count_of, count_in, copies};
 ghost use Rattle.js_pattern.specs.View.{view, list_view};
-ghost use Rattle.js_nfa.specs.View.{counted};
+ghost use Rattle.js_nfa.specs.Counted.{counted};
 
 use js_pattern::{Re, ReList};
 
-/// One more than the most positions that the patterns of an automaton may have together.
-const PAST: u32 = 16385;
+/// The most positions that the patterns of an automaton may have together.
+pub(crate) const MOST: u32 = 16384;
+
+const PAST: u32 = MOST + 1;
 
 /// The number of positions of a pattern, or 16,385 where it has more than 16,384. It takes one look at each node of
 /// the tree, and recurs as deep as they nest.

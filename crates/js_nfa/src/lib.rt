@@ -6,8 +6,25 @@
 #![tactic(auto)]
 
 mod advance;
+mod atom;
 mod count;
 mod ends;
+mod fault;
+mod find;
+mod make;
+mod nfa;
 mod position_set;
+mod scratch;
+mod state;
+mod state_set;
 
+pub use atom::Atom;
 pub use count::count_positions;
+pub use fault::NfaFault;
+pub use find::finds;
+pub use make::positions;
+pub use nfa::Nfa;
+pub use position_set::PositionSet;
+pub use scratch::Scratch;
+pub use state::PatternState;
+pub use state_set::{StateSet, accepts, start, step};

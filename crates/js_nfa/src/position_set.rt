@@ -17,7 +17,7 @@ pub struct PositionSet {
 
 impl Model for PositionSet {
     ghost use Rattle.std.specs.Prelude.{◌≤◌, length, take};
-    ghost use Rattle.js_nfa.specs.View.{Marks};
+    ghost use Rattle.js_nfa.specs.Marks.{Marks};
 
     ghost Value = { Marks };
 

@@ -1,6 +1,6 @@
 use Rattle.std.proofs.Common.{◌∙◌, ap, sym}
 use Rattle.state_laws.specs.Flow.{flag_at}
-use Rattle.js_nfa.specs.View.{Marks}
+use Rattle.js_nfa.specs.Marks.{Marks}
 use Rattle.js_nfa.proofs.FlagsLemmas.{flag_at-take, flag_at-past}
 use Rattle.std.proofs.lemmas.Bool.{le-ltb}
 use Rattle.js_nfa.proofs.position_set.PositionSet.contains.Goals as goal
