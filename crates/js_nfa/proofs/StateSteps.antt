@@ -1,5 +1,5 @@
 -- States of words by the flags of positions.
-use Rattle.std.proofs.Common.{◌≡◌, ℕ, zero, suc, ◌+◌, ◌<◌, ◌≤◌, Bool, true, false, if◌then◌else◌, List, [], ◌∷◌, ◌++◌, length, replicate, take, drop, get_or, refl, sym, ◌∙◌, ap, subst, arith, zero-add, append_assoc, append-nil}
+use Rattle.std.proofs.Common.{◌≡◌, ℕ, zero, suc, ◌+◌, ◌<◌, ◌≤◌, Bool, true, false, if◌then◌else◌, List, [], ◌∷◌, ◌++◌, length, replicate, take, drop, get_or, refl, sym, ◌∙◌, ap, subst, zero-add, append_assoc, append-nil}
 use Rattle.std.proofs.Math.Path.{fun_ext}
 use Rattle.std.proofs.lemmas.List.{take_more, take_all, take-append-drop}
 use Rattle.std.specs.Prelude.{IsTrue, ◌↔◌}
@@ -8,7 +8,7 @@ use Rattle.pattern_laws.proofs.Decides.{finds-decides}
 use Rattle.patterns.specs.Tree.{Tree}
 use Rattle.patterns.specs.Decision.{finds, is_empty}
 use Rattle.words.specs.PatternState.{PatternState, done, reading, numbers_from, pattern_state}
-use Rattle.state_laws.specs.Flow.{flag_at, is_among, ends_here, reads_next, state_with, first_state, next_state, is_accepted}
+use Rattle.state_laws.specs.Flow.{flag_at, is_among, ends_here, reads_next, state_with, next_state, is_accepted}
 use Rattle.js_nfa.specs.View.{after, state_of}
 use Rattle.state_laws.proofs.Flags.{numbers_flag}
 use Rattle.state_laws.proofs.States.{state_goes_on, state_decides, state_begins}

@@ -1,5 +1,4 @@
 -- What a contract sees of an atom.
-use Rattle.std.specs.Prelude.{ℕ}
 use Rattle.words.specs.Atom as words
 use Rattle.js_pattern.specs.View.{view}
 use Rattle.js_nfa.specs.declared.atom.Atom.{Atom}

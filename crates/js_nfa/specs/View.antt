@@ -1,5 +1,5 @@
 -- What a contract sees of the crate's types.
-use Rattle.std.specs.Prelude.{◌≡◌, ◌≤◌, ℕ, List, Bool, false}
+use Rattle.std.specs.Prelude.{◌≤◌, ℕ, List, Bool, false}
 use Rattle.patterns.specs.Tree.{Tree}
 use Rattle.patterns.specs.Decision.{is_empty}
 use Rattle.words.specs.Position.{count_of}

@@ -26,7 +26,14 @@ pub fn finds(nfa: &Nfa, word: &[char], scratch: &mut Scratch) -> bool
         return true;
     }
     for c in word {
-        if read_next(nfa, scratch, Next { first, character: *c }) {
+        if read_next(
+            nfa,
+            scratch,
+            Next {
+                first,
+                character: *c,
+            },
+        ) {
             return true;
         }
         first = false;

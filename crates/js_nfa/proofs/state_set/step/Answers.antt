@@ -1,4 +1,4 @@
-use Rattle.std.proofs.Common.{◌≡◌, ◌∙◌, ℕ, Bool, false, sym, ap}
+use Rattle.std.proofs.Common.{◌∙◌, false, ap}
 use Rattle.words.specs.PatternState.{PatternState}
 use Rattle.js_nfa.specs.View.{tree_of, after}
 use Rattle.js_nfa.proofs.StateSteps.{after-word}

@@ -1,5 +1,4 @@
-use Rattle.std.proofs.Common.{◌≡◌, ◌∙◌, sym, ap, if◌then◌else◌}
-use Rattle.words.specs.Position.{count_of}
+use Rattle.std.proofs.Common.{◌∙◌, sym, ap, if◌then◌else◌}
 use Rattle.words.specs.PatternState.{done, reading, numbers_from}
 use Rattle.js_nfa.specs.View.{tree_of}
 use Rattle.js_nfa.proofs.StateSteps.{first-is}

@@ -1,4 +1,4 @@
-use Rattle.std.proofs.Common.{◌≡◌, ◌∙◌, sym, ap}
+use Rattle.std.proofs.Common.{◌∙◌, sym, ap}
 use Rattle.state_laws.specs.Flow.{is_accepted}
 use Rattle.js_nfa.specs.View.{tree_of, state_view}
 use Rattle.js_nfa.proofs.StateSteps.{accepted-reading}
