@@ -1,0 +1,8 @@
+-- What a contract sees of an automaton and of its states.
+pub mod View
+pub mod Counted
+-- What it sees of an atom.
+pub mod AtomView
+-- Sets of positions, and the copies of a repeated tree, gone through one by one.
+pub mod Marks
+pub mod Walk

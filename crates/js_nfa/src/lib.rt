@@ -1,0 +1,30 @@
+//! Patterns as automata: the positions of a pattern, which of them a partial match read last, and whether the pattern
+//! matches in a word.
+//!
+//! A state is a set of positions. It goes on by the next character in one walk over the tree in the order of its
+//! positions, in which the copies of a repeated tree are gone through one by one. So what follows what is never stored.
+#![tactic(auto)]
+
+mod advance;
+mod atom;
+mod count;
+mod ends;
+mod fault;
+mod find;
+mod make;
+mod nfa;
+mod position_set;
+mod scratch;
+mod state;
+mod state_set;
+
+pub use atom::Atom;
+pub use count::count_positions;
+pub use fault::NfaFault;
+pub use find::finds;
+pub use make::positions;
+pub use nfa::Nfa;
+pub use position_set::PositionSet;
+pub use scratch::Scratch;
+pub use state::PatternState;
+pub use state_set::{StateSet, accepts, start, step};

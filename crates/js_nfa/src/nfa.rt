@@ -1,0 +1,122 @@
+//! The automaton of a pattern: its tree, walked from the positions that a partial match read last to those that read
+//! the next character.
+
+ghost use Rattle.std.specs.Prelude.{◌≡◌, ◌≤◌, [], true, false, IfOk};
+ghost use Rattle.words.specs.Position.{count_of};
+ghost use Rattle.words.specs.PatternState.{pattern_state};
+ghost use Rattle.state_laws.specs.Flow.{flag_at, ends_here, reads_next, next_state, is_accepted};
+ghost use Rattle.js_pattern.specs.View.{view};
+
+use crate::advance::{Next, advance};
+use crate::ends::{Edges, ends_here};
+use crate::position_set::PositionSet;
+use crate::state::PatternState;
+use js_doc::Memory;
+use js_pattern::Re;
+use std::alloc::Global;
+
+/// The automaton of a pattern. Contracts see the pattern, by `tree_of`.
+#[derive(Drop)]
+pub struct Nfa {
+    tree: Re,
+    count: u32,
+    ghost counted: { count ≡ count_of (view tree) },
+    ghost within: { count ≤ 16384 },
+}
+
+impl Nfa {
+    ghost use Rattle.js_nfa.specs.View.{tree_of, state_view};
+
+    /// The automaton of a tree with so many positions.
+    pub(crate) fn of(tree: Re, count: u32) -> Nfa
+        requires counted { count ≡ count_of (view tree) }
+        requires within { count ≤ 16384 }
+        ensures { tree_of result ≡ view tree }
+    {
+        Nfa { tree, count }
+    }
+
+    /// The number of positions.
+    pub fn len(&self) -> u32
+        ensures count { result ≡ count_of (tree_of self.now) }
+        ensures within { result ≤ 16384 }
+    {
+        self.count
+    }
+
+    /// Whether a match that begins at the first position can end where the word ends.
+    pub(crate) fn ends(&self, edges: Edges, read: &PositionSet) -> bool
+        ensures { result ≡ ends_here (tree_of self.now) edges.first edges.last (flag_at read.now.flags) 0 true }
+    {
+        ends_here(&self.tree, edges, read, 0, true).ends
+    }
+
+    /// Fills a set with the positions that read the next character, and answers whether a match ends after it that uses
+    /// no end assertion.
+    pub(crate) fn advance(&self, next: Next, read: &PositionSet, reads: &mut PositionSet) -> bool
+        requires { count_of (tree_of self.now) ≤ reads.old.room }
+        ensures flags { reads.new.flags ≡ reads_next (tree_of self.now) next.first (flag_at
+            read.now.flags) next.character 0 true }
+        ensures done { result ≡ ends_here (tree_of self.now) false false (flag_at reads.new.flags) 0 true }
+        ensures room { reads.new.room ≡ reads.old.room }
+    {
+        reads.clear();
+        let _before = advance(&self.tree, next, read, true, reads);
+        let edges = Edges {
+            first: false,
+            last: false,
+        };
+        self.ends(edges, reads)
+    }
+
+    /// The state of the empty word.
+    pub fn first_state(&self, alloc: Global) -> Result<PatternState, Memory>
+        ensures { IfOk result (λ s. state_view s ≡ pattern_state (tree_of self.now) []) }
+    {
+        let none = PositionSet::none(alloc, self.count)?;
+        let edges = Edges {
+            first: true,
+            last: false,
+        };
+        if self.ends(edges, &none) {
+            Ok(PatternState::Done)
+        } else {
+            Ok(PatternState::Reading(none))
+        }
+    }
+
+    /// The state after one more character, where `first` says that it is the word's first.
+    pub fn next_state(
+        &self,
+        alloc: Global,
+        state: &PatternState,
+        first: bool,
+        character: char,
+    ) -> Result<PatternState, Memory>
+        ensures { IfOk result (λ s. state_view s ≡ next_state (tree_of self.now) first character (state_view state.now)) }
+    {
+        let PatternState::Reading(read) = state else {
+            return Ok(PatternState::Done);
+        };
+        let mut reads = PositionSet::with_room(alloc, self.count)?;
+        if self.advance(Next { first, character }, read, &mut reads) {
+            Ok(PatternState::Done)
+        } else {
+            Ok(PatternState::Reading(reads))
+        }
+    }
+
+    /// Whether the pattern matches in the words of that state that are empty, or in those that aren't.
+    pub fn is_accepted(&self, state: &PatternState, is_empty: bool) -> bool
+        ensures { result ≡ is_accepted (tree_of self.now) is_empty (state_view state.now) }
+    {
+        let edges = Edges {
+            first: is_empty,
+            last: true,
+        };
+        match state {
+            PatternState::Done => true,
+            PatternState::Reading(read) => self.ends(edges, read),
+        }
+    }
+}
