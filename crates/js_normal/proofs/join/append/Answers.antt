@@ -3,7 +3,7 @@ use Rattle.std.proofs.lemmas.List.{map-append}
 use Rattle.js_algebra.specs.View.{node_view}
 use Rattle.position_laws.specs.Join.{moved}
 use Rattle.js_normal.proofs.Joins.{names_below-room, take-moved, take-ranks, ranks-length}
-use Rattle.js_normal.proofs.append.Goals as goal
+use Rattle.js_normal.proofs.join.append.Goals as goal
 
 pub moved_node-requires : goal.moved_node-requires
 moved_node-requires c =

@@ -2,7 +2,7 @@ use Rattle.std.proofs.Common.{◌≡◌, ◌+◌, map, take, drop, true}
 use Rattle.documents.specs.Tests.{every}
 use Rattle.js_algebra.specs.View.{places}
 use Rattle.js_normal.specs.Room.{has_room}
-use Rattle.js_normal.proofs.moved_list.Given as goal
+use Rattle.js_normal.proofs.join.moved_list.Given as goal
 
 abbrev pub invariant-loop-p : goal.invariant-loop-p
 invariant-loop-p l = record {

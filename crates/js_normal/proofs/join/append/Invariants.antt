@@ -1,7 +1,7 @@
 use Rattle.std.proofs.Common.{◌≡◌, ◌++◌, map, take}
 use Rattle.position_laws.specs.Join.{moved}
 use Rattle.js_algebra.specs.View.{node_view}
-use Rattle.js_normal.proofs.append.Given as goal
+use Rattle.js_normal.proofs.join.append.Given as goal
 
 abbrev pub invariant-loop-i : goal.invariant-loop-i
 invariant-loop-i l = record {

@@ -2,7 +2,7 @@ use Rattle.std.proofs.Common.{◌∙◌, ◌++◌, map, ap}
 use Rattle.js_algebra.specs.View.{node_view}
 use Rattle.position_laws.specs.Join.{moved}
 use Rattle.js_normal.proofs.Joins.{joined-built, joined-table}
-use Rattle.js_normal.proofs.join_tables.Goals as goal
+use Rattle.js_normal.proofs.join.join_tables.Goals as goal
 
 pub make-core-requires-clause-table : goal.make-core-requires-clause-table
 make-core-requires-clause-table c =
