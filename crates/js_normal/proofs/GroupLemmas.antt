@@ -1,5 +1,6 @@
 -- The groups of an `enum`, and what is found among its values.
-use Rattle.std.proofs.Common.{◌≡◌, List, [], ◌∷◌, length, Bool, true, false, not, refl, sym, ap, ap₂, ◌∙◌, arith}
+use Rattle.std.proofs.Common.{◌≡◌, ℕ, ◌+◌, ◌<◌, List, [], ◌∷◌, ◌++◌, length, map, filter, drop, get_or, Bool, true, false, not, refl, sym, ap, ap₂, ◌∙◌, arith, append_assoc}
+use Rattle.std.proofs.lemmas.List.{drop_more}
 use Rattle.std.specs.Bool.{beq}
 use Rattle.documents.specs.Tests.{some}
 use Rattle.documents.specs.Kind.{Kind}
@@ -28,3 +29,20 @@ pub no_kind : {A : Type 0} (t : Kind) (P : List A → Position) (xs ys : List A)
     → s ≡ run (one_of_kind t P xs) s
 no_kind t P xs [] s l e = sym (run-nothing s) ∙ ap (λ zs. run (one_of_kind t P zs) s) e
 no_kind t P xs (y ∷ ys) s l e = absurd (omega (arith, l))
+
+-- elements of a loop of which those are kept that pass a test
+filter-first : {A : Type 0} (p : A → Bool) (x : A) (xs : List A) → filter p (x ∷ xs) ≡ filter p (x ∷ []) ++ filter p xs
+filter-first {A} p x xs = by_test (p x) refl where
+  by_test : (t : Bool) → p x ≡ t → filter p (x ∷ xs) ≡ filter p (x ∷ []) ++ filter p xs
+  by_test true e = rw e refl
+  by_test false e = rw e refl
+
+pub filter-step : {A B : Type 0} (p : B → Bool) (v : A → B) (xs : List A) (i : ℕ) (d : A) (ks ls us : List B)
+    → i < length xs → ls ≡ ks ++ filter p (v (get_or xs i d) ∷ [])
+    → ks ++ filter p (map v (drop i xs)) ≡ us → ls ++ filter p (map v (drop (i + 1) xs)) ≡ us
+filter-step p v xs i d ks ls us l e a =
+    ap (λ zs. zs ++ filter p (map v (drop (i + 1) xs))) e
+    ∙ append_assoc ks (filter p (v (get_or xs i d) ∷ [])) (filter p (map v (drop (i + 1) xs)))
+    ∙ ap (λ zs. ks ++ zs) (sym (filter-first p (v (get_or xs i d)) (map v (drop (i + 1) xs))))
+    ∙ ap (λ ys. ks ++ filter p (map v ys)) (sym (drop_more xs i d l))
+    ∙ a

@@ -4,3 +4,4 @@ pub mod RunLemmas
 pub mod BuilderLemmas
 pub mod OnceLaws
 pub mod GroupLemmas
+pub mod TableRuns

@@ -1,8 +1,8 @@
 -- Makers that are put together run one after another.
-use Rattle.std.proofs.Common.{◌≡◌, ℕ, suc, ◌+◌, ◌<◌, ◌≤◌, List, [], ◌∷◌, ◌++◌, length, map, drop, get_or, Bool, true, false, cond, filter, refl, sym, ap, ap₂, ◌∙◌, arith, append_assoc, length-append, drop-cons, add-one}
+use Rattle.std.proofs.Common.{◌≡◌, ℕ, suc, ◌+◌, ◌<◌, ◌≤◌, List, [], ◌∷◌, ◌++◌, length, map, drop, get_or, Bool, true, false, cond, Option, Some, None, option_map, filter, refl, sym, ap, ap₂, ◌∙◌, arith, append_assoc, length-append, drop-cons, add-one}
 use Rattle.std.proofs.lemmas.List.{append-nil, drop_all}
 use Rattle.positions.specs.Position.{Position}
-use Rattle.normal_forms.specs.Nodes.{Maker, nothing, node, entry, both, above, each}
+use Rattle.normal_forms.specs.Nodes.{Maker, nothing, node, entry, both, above, each, if_some}
 use Rattle.js_normal.specs.Runs.{State, next, run}
 
 abbrev pub state : ℕ → List Position → List ℕ → State
@@ -104,3 +104,21 @@ run-filter {A} p f (x ∷ xs) s =
       by_test true e rest = rw e (run-both (f x) (each f (filter p xs)) s ∙ rest (run (f x) s))
       by_test false e rest =
           rw e (rest s ∙ ap (run (each (λ x. cond (p x) (f x) nothing) xs)) (sym (run-nothing s)))
+
+-- a node that is there stands for the keyword that makes it
+pub run-optional : {A : Type 0} (P : A → Position) (o : Option A) (n : Option Position) (s : State)
+    → n ≡ option_map P o → run (if_some node n) s ≡ run (if_some (λ x. node (P x)) o) s
+run-optional P None n s e = ap (λ m. run (if_some node m) s) e
+run-optional P (Some x) n s e = ap (λ m. run (if_some node m) s) e
+
+-- and nothing stands for what is absent
+pub run-absent : {A : Type 0} (f : A → Maker) (o : Option A) (s : State) → o ≡ None → s ≡ run (if_some f o) s
+run-absent f o s e = rw e (sym (run-nothing s))
+
+pub run-missing : {A B : Type 0} (f : B → Maker) (g : A → B) (o : Option A) (s : State) → o ≡ None
+    → s ≡ run (if_some f (option_map g o)) s
+run-missing f g o s e = rw e (sym (run-nothing s))
+
+pub map-same : {A : Type 0} (xs : List A) → map (λ x. x) xs ≡ xs
+map-same [] = refl
+map-same (x ∷ xs) = ap (λ ys. x ∷ ys) (map-same xs)

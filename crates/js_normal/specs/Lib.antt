@@ -7,5 +7,6 @@ pub mod BuilderView
 pub mod MemberMaker
 pub mod GroupMakers
 pub mod Distinct
+pub mod Tables
 pub mod WordLaws
 pub mod Room

@@ -1,12 +1,26 @@
 //! Lists of positions, and what is made of the positions that are named below a node.
 
-ghost use Rattle.std.specs.Prelude.{◌≡◌};
+ghost use Rattle.std.specs.Prelude.{◌≡◌, IfOk};
 ghost use Rattle.normal_forms.specs.Nodes as M;
 ghost use Rattle.normal_forms.specs.Values as V;
 ghost use Rattle.normal_forms.specs.KeywordNodes as W;
 ghost use Rattle.js_algebra.specs.View.{node_view, places};
 
 use js_algebra::{Node, Pos, PosList};
+use js_doc::Memory;
+use js_schema::EntryList;
+use std::alloc::Global;
+
+/// The positions of entries.
+pub(crate) fn positions(alloc: Global, entries: &EntryList) -> Result<PosList, Memory>
+    ensures { IfOk result (λ ps. places ps ≡ entries.now) }
+{
+    let mut positions = Vec::with_capacity(alloc, entries.as_slice().len())?;
+    for entry in entries.as_slice() {
+        positions.push(Pos(*entry))?;
+    }
+    Ok(PosList::from_vec(positions))
+}
 
 /// The one position that is named.
 pub(crate) fn the_one(named: &[Pos]) -> Pos
