@@ -1,0 +1,18 @@
+use Rattle.std.proofs.Common.{ℕ, ◌+ℤ◌, ◌-ℤ◌, pos, map, option_map, ◌∙◌}
+use Rattle.std.proofs.lemmas.Result.{IfOk-equal}
+use Rattle.positions.specs.Position.{All, Any, One, Not, Types, NumMin, NumMax, Multiple, Match, LengthMin, LengthMax, Contains, CountMin, CountMax, MembersOf, PropsMin, PropsMax, NamesIn}
+use Rattle.normal_forms.specs.KeywordNodes.{kinds_of, pattern_of, others_of}
+use Rattle.js_keywords.specs.TypeView.{type_view}
+use Rattle.js_schema.specs.Patterns.{source_of}
+use Rattle.js_schema.specs.View.{keywords_view}
+use Rattle.js_normal.specs.PatternTrees.{tree_of}
+use Rattle.js_normal.proofs.RunLemmas.{chain, chain-end, run-optional}
+use Rattle.js_normal.proofs.keywords.string_nodes.Goals as goal
+
+pub returns : goal.returns
+returns c =
+    let k = c.args.keywords.now in
+    IfOk-equal c.optional-3.result _ _ _ c.optional-3.ensures
+    (run-optional (λ t. Match (pattern_of tree_of t)) (option_map source_of k.pattern) _ _ c.in_ok-pattern.ensures
+    ∙ chain _ _ _ _ _ (c.in_ok-optional.ensures ∙ run-optional LengthMin k.min_length _ _ c.min_length.ensures)
+    (chain-end _ _ _ _ (c.in_ok-optional-2.ensures ∙ run-optional LengthMax k.max_length _ _ c.max_length.ensures)))
