@@ -11,8 +11,11 @@ ghost use Rattle.documents.specs.Tests.{every};
 ghost use Rattle.js_normal.specs.Room.{has_room};
 ghost use Rattle.js_algebra.specs.View.{node_view, places};
 
+mod making;
+
 use js_algebra::{Core, Node, NodeList, Pos, PosList, RankList};
 use js_doc::Memory;
+pub use making::normalise;
 use std::alloc::Global;
 
 /// The table of both, and where position 0 of each stands in it.
