@@ -23,7 +23,8 @@ abbrev string_or_null : List Entry
 string_or_null = asks (record no_keywords { types = Some (Text ∷ Null ∷ []) })
 
 -- the first place is that of the first entry, and there the first name
-first_name : unread (asks (record no_keywords { minimum = Some (pos 1); enumeration = Some (null ∷ []); types = Some [] }))
+first_name :
+    unread (asks (record no_keywords { minimum = Some (pos 1); enumeration = Some (null ∷ []); types = Some [] }))
     ≡ Some (codes "enum" ∷ [])
 first_name = refl
 

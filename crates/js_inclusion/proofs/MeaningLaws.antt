@@ -57,7 +57,8 @@ first-absent p (t ∷ ts) e = go (p t) refl e (first-absent p ts) where
 limit_goal : (T : List Position) (h g : List Signed) → of_goal T (Some h) ≡ V.Limit g
     → (h ≡ g) × (some (is_over T h) all_kinds ≡ true) × (some (is_open T h) all_kinds ≡ false)
 limit_goal T h g e = go (first (is_open T h) all_kinds) refl e where
-  at : (b : Bool) → some (is_over T h) all_kinds ≡ b → cond b (V.Limit h) (V.Certificate (written T (Some h))) ≡ V.Limit g
+  at : (b : Bool) → some (is_over T h) all_kinds ≡ b
+      → cond b (V.Limit h) (V.Certificate (written T (Some h))) ≡ V.Limit g
       → first (is_open T h) all_kinds ≡ None
       → (h ≡ g) × (some (is_over T h) all_kinds ≡ true) × (some (is_open T h) all_kinds ≡ false)
   at true i e f = (cc, i, first-none (is_open T h) all_kinds f)

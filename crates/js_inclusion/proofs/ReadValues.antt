@@ -1,4 +1,5 @@
--- A value that is read as entries is valid for the same documents as they are, and as the first position of their table.
+-- The documents that are valid for a value are those that are valid for the entries that it is read as, and those of
+-- which position 0 of their table holds.
 use Rattle.std.proofs.Common.{◌≡◌, ℕ, ◌<◌, ◌^◌, List, length, get_or, true, Option, Some, None, Ok, refl, sym, ap, subst, ◌∙◌}
 use Rattle.documents.specs.Document.{Document, is_document}
 use Rattle.documents.specs.Json.{Json}

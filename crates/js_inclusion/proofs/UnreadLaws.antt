@@ -1,17 +1,22 @@
 -- What it means that nothing of some entries is unread, and how the first place is found.
 use Rattle.std.proofs.Common.{◌≡◌, ℕ, zero, suc, ◌+◌, ◌<◌, ◌≤◌, ◌++◌, List, [], ◌∷◌, map, length, drop, get_or, Bool, true, false, Option, Some, None, option_map, refl, sym, ap, ◌∙◌, arith}
-use Rattle.std.specs.List.{AllByRecursion}
 use Rattle.schemas.specs.Places.{Pointer}
 use Rattle.schemas.specs.Fault.{or_else}
 use Rattle.schemas.specs.Entry.{Form, Entry}
 use Rattle.js_inclusion.specs.Unread.{first_marked, unread_name, unread}
 
+-- the mark at a place of a list
+abbrev pub mark_at : List (Bool × List ℕ) → ℕ → Bool
+mark_at [] i = false
+mark_at (n ∷ ns) zero = n.0
+mark_at (n ∷ ns) (suc i) = mark_at ns i
+
 -- no name is marked
-pub first_marked-none : (ns : List (Bool × List ℕ)) → first_marked ns ≡ None
-    → AllByRecursion (λ (n : Bool × List ℕ). n.0 ≡ false) ns
-first_marked-none [] h = tt
-first_marked-none ((true, k) ∷ ns) h = cc
-first_marked-none ((false, k) ∷ ns) h = (refl, first_marked-none ns h)
+pub first_marked-none : (ns : List (Bool × List ℕ)) → first_marked ns ≡ None → (i : ℕ) → mark_at ns i ≡ false
+first_marked-none [] h i = refl
+first_marked-none ((true, k) ∷ ns) h i = cc
+first_marked-none ((false, k) ∷ ns) h zero = refl
+first_marked-none ((false, k) ∷ ns) h (suc i) = first_marked-none ns h i
 
 -- nothing of an entry, and nothing of those after it
 pub unread-none : (e : Entry) (es : List Entry) → unread (e ∷ es) ≡ None

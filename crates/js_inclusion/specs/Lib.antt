@@ -1,5 +1,5 @@
--- What a reader must believe: which place of a schema isn't decided on, how two schemas compare, and what that means for
--- the values that they are read from.
+-- What a reader must believe: which place of a schema isn't decided on, how two schemas compare, and what that means
+-- for the values that they are read from.
 pub mod Unread
 pub mod Comparison
 pub mod Meaning

@@ -21,8 +21,8 @@ pub record IsReadAs (value : Json) (es : List Entry) : Type 0 where
   pub well_formed : is_json value ≡ true
   pub entries : read rules value ≡ Ok es
 
--- the trees of two schemas pass the limit: they form this goal, some kind's tree of it has more ends than are looked at,
--- and no tree that is looked at has a branch
+-- the trees of two schemas pass the limit: they form this goal, some kind's tree of it has more ends than are looked
+-- at, and no tree that is looked at has a branch
 pub record PassesLimit (es fs : List Entry) (goal : List Signed) : Type 0 where
   pub formed : form (both es fs) (Plus 0 ∷ Minus (second_root es) ∷ []) ≡ Some goal
   pub over : some (is_over (both es fs) goal) all_kinds ≡ true
@@ -34,8 +34,8 @@ pub record IsCertificate (es fs : List Entry) (a b : Json) (ls : List Line) : Ty
   pub in_grammar : IsText (lines_text ls) ls
   pub included : Included rules a b
 
--- a kind's document is valid for the first value and not for the second; with a certificate every document that is valid
--- for the first is valid for the second; and a limit is one that is passed
+-- a kind's document is valid for the first value and not for the second; with a certificate every document that is
+-- valid for the first is valid for the second; and a limit is one that is passed
 abbrev pub Tells : List Entry → List Entry → Json → Json → Comparison → Type 0
 Tells es fs a b (Decided (V.Document t)) =
     (J : Document) → is_document J ≡ true → kind_of J ≡ t → Separates rules a b J

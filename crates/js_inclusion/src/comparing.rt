@@ -72,7 +72,8 @@ fn decide(
     requires a_read { unread (schema_view a.now) ≡ None }
     requires b_read { unread (schema_view b.now) ≡ None }
     ensures verdict { IfOk result
-        (λ v. verdict_view v ≡ verdict (both (schema_view a.now) (schema_view b.now)) 0 (second_root (schema_view a.now))) }
+        (λ v. verdict_view v
+        ≡ verdict (both (schema_view a.now) (schema_view b.now)) 0 (second_root (schema_view a.now))) }
     ensures means { IfOk result (λ v. Means (schema_view a.now) (schema_view b.now) (C.Decided (verdict_view v))) }
 {
     let (core, at_a, at_b) = joined_tables(alloc, a, a_ranks, b, b_ranks)?;
