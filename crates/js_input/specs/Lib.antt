@@ -1,0 +1,7 @@
+-- What a reader must believe: what the bytes of a file are read as, as a schema and as a document, and which files two
+-- readings may find.
+pub mod SchemaReading
+pub mod DocumentReading
+pub mod ToldTwice
+-- What the calls answer, on bytes and on files of a shelf.
+pub mod Saying

@@ -1,0 +1,88 @@
+//! Schemas from bytes.
+//!
+//! The length comes first, then the JSON text, then the first fault of the schema, and then the cycle of entries that
+//! are asked of the same document.
+
+ghost use Rattle.std.specs.Prelude.{◌≡◌, ℕ, ◌<◌, true, length, get_or, IfOk, string_bytes};
+ghost use Rattle.documents.specs.WellFormed.{is_json};
+ghost use Rattle.js_doc.specs.JsonView.{view};
+ghost use Rattle.js_schema.specs.SchemaView.{schema_view};
+ghost use Rattle.js_input.specs.SchemaReading.{cycle_words};
+ghost use Rattle.js_input.specs.Saying.{SchemaSays, ValueSays, EntriesSay};
+
+use js_doc::{Json, Memory};
+use js_guard::{GuardFault, Ranks, guard};
+use js_json::{JsonFault, read_json};
+use js_keywords::SchemaFault;
+use js_refusal::{fault_words, push_place};
+use js_report::LONGEST_FILE;
+use js_schema::{EntryList, Schema, read_schema};
+use std::alloc::Global;
+
+/// What the bytes of a schema file are read as.
+#[derive(Drop)]
+pub enum SchemaInput {
+    /// A schema without a cycle, and its ranks.
+    Read(Schema, Ranks),
+
+    /// The words of the refusal after the file's role.
+    Refused(String),
+}
+
+/// The schema of these bytes, or the words of the first thing that is wrong.
+pub fn read_schema_bytes(alloc: Global, bytes: &[u8]) -> Result<SchemaInput, Memory>
+    ensures { IfOk result (SchemaSays bytes.now) }
+{
+    if bytes.len() > LONGEST_FILE {
+        return Ok(SchemaInput::Refused(String::from_str(alloc, "toolong")?));
+    }
+    match read_json(alloc, bytes) {
+        Ok(json) => read_value(alloc, &json),
+        // `read_json` never answers `NotWhole`
+        Err(JsonFault::NotJson | JsonFault::NotWhole(_)) => {
+            let words = String::from_str(alloc, "notjson")?;
+            Ok(SchemaInput::Refused(words))
+        }
+        Err(JsonFault::Memory) => Err(Memory),
+    }
+}
+
+fn read_value(alloc: Global, json: &Json) -> Result<SchemaInput, Memory>
+    requires { is_json (view json.now) ≡ true }
+    ensures { IfOk result (ValueSays (view json.now)) }
+{
+    match read_schema(alloc, json) {
+        Ok(schema) => guarded(alloc, schema),
+        Err(SchemaFault::Memory) => Err(Memory),
+        Err(fault) => {
+            let words = fault_words(alloc, &fault)?;
+            Ok(SchemaInput::Refused(words))
+        }
+    }
+}
+
+fn guarded(alloc: Global, schema: Schema) -> Result<SchemaInput, Memory>
+    ensures { IfOk result (EntriesSay (schema_view schema)) }
+{
+    match guard(alloc, &schema) {
+        Ok(ranks) => Ok(SchemaInput::Read(schema, ranks)),
+        Err(GuardFault::Cycle(cycle)) => {
+            let words = told_cycle(alloc, &schema, &cycle)?;
+            Ok(SchemaInput::Refused(words))
+        }
+        Err(GuardFault::Memory) => Err(Memory),
+    }
+}
+
+/// The word `cycle` and the places of its entries, in their order.
+fn told_cycle(alloc: Global, schema: &Schema, cycle: &EntryList) -> Result<String, Memory>
+    requires { (i : ℕ) → i < length cycle.now → get_or cycle.now i 0 < length (schema_view schema.now) }
+    ensures { IfOk result (λ s. string_bytes s ≡ cycle_words (schema_view schema.now) cycle.now) }
+{
+    let mut words = String::from_str(alloc, "cycle")?;
+    let entries = cycle.as_slice();
+    for entry in entries {
+        push_place(&mut words, schema.pointer(*entry), alloc)?;
+    }
+    Ok(words)
+}
