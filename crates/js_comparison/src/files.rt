@@ -1,0 +1,90 @@
+//! Reading two files and comparing their schemas.
+
+ghost use Rattle.std.specs.Prelude.{◌≡◌, true, IfOk, OnErr, codes, string_bytes};
+ghost use Rattle.schemas.specs.Guarded.{edges, are_ranks};
+ghost use Rattle.js_refusal.specs.RefusalWords as R;
+ghost use Rattle.js_schema.specs.SchemaView.{schema_view};
+ghost use Rattle.js_comparison.specs.Saying.{FilesSay, SchemasSay};
+
+use js_decide::Verdict;
+use js_doc::{Memory, Str};
+use js_guard::Ranks;
+use js_inclusion::{Comparison, compare};
+use js_input::{SchemaInput, load_schema};
+use js_json::Pointer;
+use js_outside::Shelf;
+use js_refusal::placed;
+use js_schema::Schema;
+use std::alloc::Global;
+
+/// What two schema files come to.
+#[derive(Drop)]
+pub enum FilesOutcome {
+    /// Whether a document is valid for the first schema and not for the second.
+    Decided(Verdict),
+
+    /// The words of the first file's refusal after its role.
+    FirstRefused(String),
+
+    /// The words of the second file's refusal after its role.
+    SecondRefused(String),
+
+    /// A file couldn't be read.
+    Unread,
+}
+
+/// Compares the schemas of two files. The first file is read first, and the second only where the first is a schema; a
+/// schema that isn't decided on yet is told after both are read.
+pub fn compare_files<H: Shelf>(
+    alloc: Global,
+    shelf: &mut H,
+    first: &Str,
+    second: &Str,
+) -> Result<FilesOutcome, Memory>
+    ensures told { H.told shelf.new ≡ H.told shelf.old }
+    ensures says { IfOk result
+        (FilesSay (H.told shelf.old) first.now second.now (H.faults shelf.old) (H.faults shelf.new)) }
+    ensures memory { OnErr result (H.faults shelf.new ≡ H.faults shelf.old) }
+{
+    let (a, a_ranks) = match load_schema(alloc, shelf, first)? {
+        Some(SchemaInput::Read(schema, ranks)) => (schema, ranks),
+        Some(SchemaInput::Refused(words)) => return Ok(FilesOutcome::FirstRefused(words)),
+        None => return Ok(FilesOutcome::Unread),
+    };
+    match load_schema(alloc, shelf, second)? {
+        Some(SchemaInput::Read(b, b_ranks)) => compared(alloc, &a, &a_ranks, &b, &b_ranks),
+        Some(SchemaInput::Refused(words)) => Ok(FilesOutcome::SecondRefused(words)),
+        None => Ok(FilesOutcome::Unread),
+    }
+}
+
+fn compared(
+    alloc: Global,
+    a: &Schema,
+    a_ranks: &Ranks,
+    b: &Schema,
+    b_ranks: &Ranks,
+) -> Result<FilesOutcome, Memory>
+    requires a_ranks { are_ranks (edges (schema_view a.now)) a_ranks.now ≡ true }
+    requires b_ranks { are_ranks (edges (schema_view b.now)) b_ranks.now ≡ true }
+    ensures { IfOk result (SchemasSay (schema_view a.now) (schema_view b.now)) }
+{
+    match compare(alloc, a, a_ranks, b, b_ranks)? {
+        Comparison::Decided(verdict) => Ok(FilesOutcome::Decided(verdict)),
+        Comparison::FirstUnread(place) => {
+            let words = not_yet(alloc, &place)?;
+            Ok(FilesOutcome::FirstRefused(words))
+        }
+        Comparison::SecondUnread(place) => {
+            let words = not_yet(alloc, &place)?;
+            Ok(FilesOutcome::SecondRefused(words))
+        }
+    }
+}
+
+/// The words for a place that isn't decided on yet.
+fn not_yet(alloc: Global, place: &Pointer) -> Result<String, Memory>
+    ensures { IfOk result (λ s. string_bytes s ≡ R.placed (codes "notyet") place.now) }
+{
+    placed(alloc, "notyet", place)
+}

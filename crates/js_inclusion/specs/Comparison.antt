@@ -1,0 +1,45 @@
+-- How two schemas compare, by the entries that they are read as.
+use Rattle.std.specs.Prelude.{ℕ, List, Bool, false, Option, Some, None, length}
+use Rattle.schemas.specs.Places.{Pointer}
+use Rattle.schemas.specs.Entry.{Entry}
+use Rattle.positions.specs.Position.{Position}
+use Rattle.position_laws.specs.Join.{joined}
+use Rattle.certificates.specs.Line.{Line}
+use Rattle.certificates.specs.Good.{is_good}
+use Rattle.normal_forms.specs.NormalForm.{table_of}
+use Rattle.js_normal.specs.PatternTrees.{tree_of}
+use Rattle.js_decide.specs.Verdict.{Verdict, verdict}
+use Rattle.js_inclusion.specs.Unread.{unread}
+
+pub data Comparison : Type 0 where
+  -- this place of the first schema, or of the second, isn't decided yet
+  FirstUnread : Pointer → Comparison
+  SecondUnread : Pointer → Comparison
+  -- whether a document is valid for the first and not for the second
+  Decided : Verdict → Comparison
+
+-- the core table of a schema, whose root is position 0
+abbrev pub core_of : List Entry → List Position
+core_of es = table_of tree_of es
+
+-- the table of both schemas: the first one's root is position 0, and the second one's position `second_root`
+abbrev pub both : List Entry → List Entry → List Position
+both es fs = joined (core_of es) (core_of fs)
+
+abbrev pub second_root : List Entry → ℕ
+second_root es = length (core_of es)
+
+-- what is made where both schemas are decided on
+abbrev pub where_read : {A : Type 0} → (Pointer → A) → (Pointer → A) → Option Pointer → Option Pointer → A → A
+where_read f g (Some p) q x = f p
+where_read f g None (Some q) x = g q
+where_read f g None None x = x
+
+abbrev pub comparison : List Entry → List Entry → Comparison
+comparison es fs =
+    where_read FirstUnread SecondUnread (unread es) (unread fs) (Decided (verdict (both es fs) 0 (second_root es)))
+
+-- the lines are good for the two schemas, and both are decided on
+abbrev pub are_good : List Entry → List Entry → List Line → Bool
+are_good es fs ls =
+    where_read (λ p. false) (λ p. false) (unread es) (unread fs) (is_good (both es fs) 0 (second_root es) ls)

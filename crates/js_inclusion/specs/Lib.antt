@@ -1,0 +1,9 @@
+-- What a reader must believe: which place of a schema isn't decided on, how two schemas compare, and what that means
+-- for the values that they are read from.
+pub mod Unread
+pub mod Comparison
+pub mod Meaning
+-- Which of these the program's values stand for.
+pub mod View
+-- Used inside: schemas whose core tables can be joined.
+pub mod Tables
