@@ -2,18 +2,8 @@
 pub mod Halves
 -- What it asks of parts, part by part.
 pub mod PartsLaws
--- Steps from places to places.
-pub mod LeadsLaws
--- Rounds of a repeat over sets of places.
-pub mod Rounds
--- Tables of marks.
-pub mod Marks
--- What each loop of the walk keeps.
-pub mod WalkLaws
 -- Verdicts that are taken in order.
 pub mod PlanLaws
--- A pattern is found where the walk ends.
-pub mod FoundLaws
 -- Equality of documents.
 pub mod SameLaws
 -- What is asked of a part, request by request.

@@ -8,12 +8,13 @@ ghost use Rattle.draft06.specs.EntryValidity.{form_at};
 ghost use Rattle.js_schema.specs.Patterns.{source_of};
 ghost use Rattle.js_schema.specs.View.{form_view, keywords_view, items_view, property_view, pattern_property_view, pattern_properties_view};
 ghost use Rattle.js_schema.specs.SchemaView.{schema_view};
-ghost use Rattle.js_valid.specs.Matching.{matches};
+ghost use Rattle.js_match.specs.Matching.{matches};
 ghost use Rattle.js_valid.specs.Parts.{asked_by, of_contains, of_element, of_items_part, of_listed, of_member, of_name, of_named, of_names, or_else};
 ghost use Rattle.js_valid.specs.Requests.{AsksMore, AskedByOwners, contained};
 
 use crate::found::is_found;
 use js_doc::{Memory, Str};
+use js_match::letters;
 use js_schema::{EntryList, Form, ItemsPart, Keywords, PatternPropertyList, PropertyList, Schema};
 use std::alloc::Global;
 
@@ -290,6 +291,19 @@ fn add_matching(
     found: &mut Vec<u32>,
     list: &PatternPropertyList,
     name: &Str,
+) -> Result<(), Memory>
+    ensures { IsOk result → found.new.items ≡ found.old.items
+        ++ of_named (λ t. matches t name.now) (pattern_properties_view list.now) }
+{
+    let letters = letters(alloc, name.as_text())?;
+    add_found(alloc, found, list, &letters)
+}
+
+fn add_found(
+    alloc: Global,
+    found: &mut Vec<u32>,
+    list: &PatternPropertyList,
+    name: &[char],
 ) -> Result<(), Memory>
     ensures { IsOk result → found.new.items ≡ found.old.items
         ++ of_named (λ t. matches t name.now) (pattern_properties_view list.now) }

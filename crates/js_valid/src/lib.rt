@@ -13,17 +13,15 @@ mod fault;
 mod found;
 mod order;
 mod own;
-mod places;
 mod settle;
 mod tables;
-mod walk;
 
 ghost use Rattle.std.specs.Prelude.{◌≡◌, ◌<◌, true, IfOk, length};
 ghost use Rattle.schemas.specs.Guarded.{edges, are_ranks};
 ghost use Rattle.draft06.specs.EntryValidity.{entry_valid};
 ghost use Rattle.js_doc.specs.View.{view};
 ghost use Rattle.js_schema.specs.SchemaView.{schema_view};
-ghost use Rattle.js_valid.specs.Matching.{matches};
+ghost use Rattle.js_match.specs.Matching.{matches};
 ghost use Rattle.js_valid.specs.Plan.{IsPlan};
 
 use crate::decide::verdicts;

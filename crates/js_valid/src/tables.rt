@@ -4,7 +4,7 @@ ghost use Rattle.std.specs.Prelude.{◌≡◌, ℕ, ◌<◌, ◌&&◌, ◌||◌,
 ghost use Rattle.documents.specs.Tests.{every, some};
 ghost use Rattle.documents.specs.Measures.{exactly_one};
 ghost use Rattle.js_valid.specs.Parts.{flag, answered};
-ghost use Rattle.js_valid.specs.Places.{is_at};
+ghost use Rattle.js_match.specs.Places.{is_at};
 
 use js_doc::Memory;
 use std::alloc::Global;

@@ -1,7 +1,7 @@
 use Rattle.std.proofs.Common.{rules, get_or}
 use Rattle.js_schema.specs.View.{form_view}
 use Rattle.js_schema.specs.SchemaView.{schema_view}
-use Rattle.js_valid.specs.Matching.{matches}
+use Rattle.js_match.specs.Matching.{matches}
 use Rattle.js_valid.specs.Parts.{of_member}
 use Rattle.js_valid.proofs.PlanLaws.{form_at-get}
 use Rattle.js_valid.proofs.RequestLaws.{owner_next, owner_below}

@@ -6,12 +6,12 @@ use Rattle.draft06.specs.EntryValidity.{form_at}
 use Rattle.js_doc.specs.View.{view, list_view, map_view, member_view}
 use Rattle.js_doc.proofs.Levels.{elements-of, entries-of}
 use Rattle.js_schema.specs.SchemaView.{schema_view}
-use Rattle.js_valid.specs.Matching.{matches}
+use Rattle.js_match.specs.Matching.{matches}
 use Rattle.js_valid.specs.Parts.{flag, asked_by, of_element, of_contains, of_member, of_name}
 use Rattle.js_valid.specs.Plan.{valid_at}
 use Rattle.js_valid.specs.Requests.{contained, parts_list, parts_members}
-use Rattle.js_valid.proofs.LeadsLaws.{or_right_true}
-use Rattle.js_valid.proofs.WalkLaws as W
+use Rattle.js_match.proofs.LeadsLaws.{or_right_true}
+use Rattle.js_match.proofs.WalkLaws as W
 use Rattle.js_valid.proofs.DecideLaws as D
 use Rattle.js_valid.proofs.DepthLaws.{item-depth, member-depth, view-scalar, view-Text}
 use Rattle.js_doc.specs.declared.document.Doc.TheVariants as C

@@ -4,9 +4,9 @@ use Rattle.documents.specs.Document.{depth, items_depth, members_depth, string}
 use Rattle.draft06.specs.EntryValidity.{form_at}
 use Rattle.js_doc.specs.View.{view, list_view, map_view, member_view}
 use Rattle.js_schema.specs.SchemaView.{schema_view}
-use Rattle.js_valid.specs.Matching.{matches}
+use Rattle.js_match.specs.Matching.{matches}
 use Rattle.js_valid.specs.Parts.{flag, of_element, of_contains, of_member, of_name}
-use Rattle.js_valid.specs.Places.{is_at}
+use Rattle.js_match.specs.Places.{is_at}
 use Rattle.js_valid.specs.Plan.{valid_at}
 use Rattle.js_valid.specs.Requests.{each_at}
 use Rattle.js_valid.proofs.decide.+decide.Given as goal

@@ -1,0 +1,10 @@
+-- Steps from places to places.
+pub mod LeadsLaws
+-- Rounds of a repeat over sets of places.
+pub mod Rounds
+-- Tables of marks.
+pub mod Marks
+-- What each loop of the walk keeps.
+pub mod WalkLaws
+-- A pattern is found where the walk ends.
+pub mod FoundLaws
