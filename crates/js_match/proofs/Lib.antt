@@ -8,3 +8,5 @@ pub mod Marks
 pub mod WalkLaws
 -- A pattern is found where the walk ends.
 pub mod FoundLaws
+-- Runs of characters of one set.
+pub mod RunLaws

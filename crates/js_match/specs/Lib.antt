@@ -2,3 +2,5 @@
 pub mod Matching
 -- Where matches of a pattern can end.
 pub mod Places
+-- Where runs of characters of one set end.
+pub mod Runs

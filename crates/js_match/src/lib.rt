@@ -7,6 +7,7 @@
 
 mod found;
 mod places;
+mod run;
 mod walk;
 
 pub use found::{is_found, is_in, letters};

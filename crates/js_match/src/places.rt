@@ -110,6 +110,24 @@ fn mark_one(place: usize, marks: &mut Vec<bool>, fresh: &mut Vec<usize>) -> Resu
     Ok(())
 }
 
+pub(crate) fn mark_all(marks: &mut Vec<bool>, places: &[usize])
+    requires { every (λ i. nat_lt i (length marks.old.items)) places.now ≡ true }
+    ensures len { length marks.new.items ≡ length marks.old.items }
+    ensures marks { (j : ℕ) → marked marks.new.items j ≡ (marked marks.old.items j || is_at j places.now) }
+{
+    for place in places {
+        mark(marks, *place);
+    }
+}
+
+fn mark(marks: &mut Vec<bool>, place: usize)
+    requires { place < length marks.old.items }
+    ensures len { length marks.new.items ≡ length marks.old.items }
+    ensures marks { (j : ℕ) → marked marks.new.items j ≡ (marked marks.old.items j || nat_eq place j) }
+{
+    marks[place] = true;
+}
+
 /// The marked places, in order.
 pub(crate) fn collect(alloc: Global, marks: &[bool]) -> Result<Vec<usize>, Memory>
     requires { length marks.now < 2 ^ 63 }

@@ -12,6 +12,7 @@ ghost use Rattle.js_pattern.specs.View.{view, list_view};
 ghost use Rattle.js_match.specs.Places.{Leads, More, are_within, is_open};
 
 use crate::places::{after_one, collect, join, kept, mark_new};
+use crate::run::after_run;
 use js_doc::Memory;
 use js_pattern::{CharSet, Re, ReList};
 use std::alloc::Global;
@@ -68,6 +69,9 @@ fn walk_repeat(
         word.now) starts.now ends.items) }
     ensures within { IfOk result (λ ends. are_within (length word.now) ends.items ≡ true) }
 {
+    if let Re::Set(set) = re {
+        return after_run(alloc, set, low, high, word, starts);
+    }
     let after = walk_times(alloc, re, word, starts, low)?;
     match high {
         None => walk_more(alloc, re, word, &after, None),
@@ -91,6 +95,9 @@ fn walk_in_turn(
 {
     let mut places = Vec::from_slice(alloc, starts)?;
     for re in list.as_slice() {
+        if places.is_empty() {
+            return Ok(places);
+        }
         places = walk(alloc, re, word, &places)?;
     }
     Ok(places)
