@@ -1,12 +1,12 @@
 -- Key lemma: where a run from some start reaches a place, one from the last start that is far enough before it does.
-use Rattle.std.proofs.Common.{◌≡◌, ℕ, zero, suc, ◌+◌, ◌-◌, ◌<◌, ◌≤◌, inl, inr, List, [], ◌∷◌, ◌++◌, nat_eq, length, slice_index, IfSome, Bool, true, false, ◌&&◌, ◌||◌, if◌then◌else◌, nat_le, nat_lt, Option, Some, None, refl, sym, ap, subst, ◌∙◌, arith, true≢false}
-use Rattle.std.proofs.lemmas.Bool.{and_parts, cases_lt, eqb-true, ltb-true, lt-ltb}
+use Rattle.std.proofs.Common.{◌≡◌, ℕ, zero, suc, ◌+◌, ◌-◌, ◌<◌, ◌≤◌, inl, inr, List, [], ◌∷◌, ◌++◌, nat_eq, length, get_or, slice_index, IfSome, Bool, true, false, ◌&&◌, ◌||◌, if◌then◌else◌, nat_le, nat_lt, Option, Some, None, refl, sym, ap, subst, ◌∙◌, arith, true≢false}
+use Rattle.std.proofs.lemmas.Bool.{and_parts, or_cases, cases_lt, eqb-true, ltb-true, lt-ltb}
 use Rattle.patterns.specs.CharSet.{has}
 use Rattle.patterns.specs.Tree.{one_of, repeated}
 use Rattle.patterns.specs.Match.{Matches, Repeats}
 use Rattle.js_match.specs.Places.{is_at, IsAt, Leads, marked, are_within}
-use Rattle.js_match.specs.Runs.{begins, latest, fits, reaches, is_end}
-use Rattle.js_match.proofs.LeadsLaws.{is_at-append, within-at, within-from}
+use Rattle.js_match.specs.Runs.{begins, latest, fits, reaches, lone, is_lone_end}
+use Rattle.js_match.proofs.LeadsLaws.{here_at, is_at-append, within-at, within-from}
 
 le-true : (a b : ℕ) → a ≤ b → nat_le a b ≡ true
 le-true a b h = grind (arith, h)
@@ -104,7 +104,7 @@ module _ (set : List (ℕ × ℕ)) (w : List ℕ) where
   abbrev Step : ℕ → ℕ → Type 0
   Step = Matches (one_of set) w
 
-  begins-within : (j : ℕ) → begins set w j ≤ j
+  pub begins-within : (j : ℕ) → begins set w j ≤ j
   begins-within zero = omega arith
   begins-within (suc j) = go (has set (slice_index w j)) (begins-within j)
     where
@@ -182,18 +182,23 @@ module _ (set : List (ℕ × ℕ)) (w : List ℕ) where
   reached from (Some s) high j h =
       let both = and_parts (nat_le from s) (fits high (j - s)) h in (s, refl, true-le from s both.0, both.1)
 
-  pub run-leads : (marks : List Bool) (low : ℕ) (high : Option ℕ) (starts ends : List ℕ)
-      → are_within (length w) starts ≡ true → ((j : ℕ) → marked marks j ≡ is_at j starts)
-      → ((j : ℕ) → is_at j ends ≡ (nat_lt j (length w + 1) && is_end set w marks low high j))
+  -- the start that each place goes by is one that is far enough before it, and the last such
+  pub record GoesBy (starts : List ℕ) (low : ℕ) (last : ℕ → Option ℕ) : Type 0 where
+    pub one : (j s : ℕ) → last j ≡ Some s → IsAt s starts × (s + low ≤ j)
+    pub greatest : (j i : ℕ) → IsAt i starts → i + low ≤ j → (s : ℕ) × (last j ≡ Some s) × (i ≤ s)
+
+  pub run-leads : (low : ℕ) (high : Option ℕ) (starts ends : List ℕ) (last : ℕ → Option ℕ)
+      → are_within (length w) starts ≡ true → GoesBy starts low last
+      → ((j : ℕ) → is_at j ends ≡ (nat_lt j (length w + 1) && reaches (begins set w j) (last j) high j))
       → Leads (Matches (repeated (one_of set) low high) w) starts ends
-  run-leads marks low high starts ends within same is = record {
+  run-leads low high starts ends last within by is = record {
     sound = λ j a.
-        let both = and_parts (nat_lt j (length w + 1)) (is_end set w marks low high j) (sym (is j) ∙ a) in
+        let both = and_parts (nat_lt j (length w + 1)) (reaches (begins set w j) (last j) high j) (sym (is j) ∙ a) in
         let jl = ltb-true j (length w + 1) both.0 in
-        let (s, last, from, few) = reached (begins set w j) (latest marks (j + 1 - low)) high j both.1 in
-        let (m, sl) = latest-marked marks (j + 1 - low) s last in (
+        let (s, e, from, few) = reached (begins set w j) (last j) high j both.1 in
+        let (m, sl) = by.one j s e in (
           s,
-          sym (same s) ∙ m,
+          m,
           (
             j - s,
             omega (arith, sl),
@@ -204,20 +209,148 @@ module _ (set : List (ℕ × ℕ)) (w : List ℕ) where
     complete = λ i j a (k, lk, kh, steps).
         let il = within-at (length w) i starts within a in
         let (e, jl, b) = repeats-run k i j il steps in
-        let (s, last, le) = latest-above marks (j + 1 - low) i (same i ∙ a) (omega (arith, e, lk)) in
-        let (m, sl) = latest-marked marks (j + 1 - low) s last in
+        let (s, is_last, le) = by.greatest j i a (omega (arith, e, lk)) in
+        let (m, sl) = by.one j s is_last in
         let few = some-fits high k (j - s) kh (omega (arith, e, le)) in
         let from = le-true (begins set w j) s (omega (arith, b, le)) in
-        is j ∙ ap (λ b. b && is_end set w marks low high j) (lt-ltb j (length w + 1) (omega (arith, jl)))
-        ∙ ap (λ o. reaches (begins set w j) o high j) last
+        is j ∙ ap (λ b. b && reaches (begins set w j) (last j) high j)
+        (lt-ltb j (length w + 1) (omega (arith, jl)))
+        ∙ ap (λ o. reaches (begins set w j) o high j) is_last
         ∙ ap (λ b. b && fits high (j - s)) from ∙ few;
   }
 
-  pub run-within : (marks : List Bool) (low : ℕ) (high : Option ℕ) (ends : List ℕ)
-      → ((j : ℕ) → is_at j ends ≡ (nat_lt j (length w + 1) && is_end set w marks low high j))
-      → are_within (length w) ends ≡ true
-  run-within marks low high ends is =
+  pub run-within : (ends : List ℕ) (test : ℕ → Bool)
+      → ((j : ℕ) → is_at j ends ≡ (nat_lt j (length w + 1) && test j)) → are_within (length w) ends ≡ true
+  run-within ends test is =
       within-from (length w) ends (λ j a.
-      let both = and_parts (nat_lt j (length w + 1)) (is_end set w marks low high j) (sym (is j) ∙ a) in
+      let both = and_parts (nat_lt j (length w + 1)) (test j) (sym (is j) ∙ a) in
       let jl = ltb-true j (length w + 1) both.0 in
       omega (arith, jl))
+
+  -- ---- from one start
+
+  begins-past : (j m : ℕ) → has set (slice_index w m) ≡ false → m < j → m < begins set w j
+  begins-past zero m h l = absurd (omega (arith, l))
+  begins-past (suc j) m h l = go (has set (slice_index w j)) refl (begins-past j m h)
+    where
+      go : (b : Bool) → has set (slice_index w j) ≡ b → (m < j → m < begins set w j) → m < begins set w (suc j)
+      go true k again =
+          subst (λ b. m < (if b then begins set w j else suc j)) (sym k)
+          (elim (cases_lt m j) [
+            | inl before ↦ again before
+            | inr after ↦
+                let same : j ≡ m = omega (arith, after, l) in
+                absurd (true≢false (sym k ∙ subst (λ x. has set (slice_index w x) ≡ false) (sym same) h))
+          ])
+      go false k again =
+          subst (λ b. m < (if b then begins set w j else suc j)) (sym k) l
+
+  -- no run from that start ends before it
+  pub none-before : (start low : ℕ) (high : Option ℕ) (j : ℕ)
+      → false ≡ (nat_lt j start && is_lone_end set w start low high j)
+  none-before start low high j = go (nat_lt j start) refl
+    where
+      go : (b : Bool) → nat_lt j start ≡ b → false ≡ (b && is_lone_end set w start low high j)
+      go true k =
+          let far : nat_le (start + low) j ≡ false = grind (arith, k) in
+          sym (ap (λ b. reaches (begins set w j) (if b then Some start else None) high j) far)
+      go false k = refl
+
+  -- nor past a character that is not in the set
+  pub none-past : (start low : ℕ) (high : Option ℕ) (end j : ℕ) → start ≤ end
+      → has set (slice_index w end) ≡ false → end < j → is_lone_end set w start low high j ≡ false
+  none-past start low high end j le out l = go (nat_le (start + low) j) refl
+    where
+      past : end < begins set w j
+      past = begins-past j end out l
+
+      go : (b : Bool) → nat_le (start + low) j ≡ b → is_lone_end set w start low high j ≡ false
+      go true k =
+          let far : nat_le (begins set w j) start ≡ false = (let p = past in grind (arith, p, le)) in
+          ap (λ b. reaches (begins set w j) (if b then Some start else None) high j) k
+          ∙ ap (λ b. b && fits high (j - start)) far
+      go false k = ap (λ b. reaches (begins set w j) (if b then Some start else None) high j) k
+
+  pub lone-stops : (start low : ℕ) (high : Option ℕ) (end : ℕ) (ends : List ℕ) → start ≤ end → end < length w
+      → has set (slice_index w end) ≡ false
+      → ((j : ℕ) → is_at j ends ≡ (nat_lt j (end + 1) && is_lone_end set w start low high j))
+      → (j : ℕ) → is_at j ends ≡ (nat_lt j (length w + 1) && is_lone_end set w start low high j)
+  lone-stops start low high end ends le less out is j = is j ∙ elim (cases_lt end j) [
+    | inl past ↦
+        let none = none-past start low high end j le out past in
+        ap (λ b. nat_lt j (end + 1) && b) none ∙ and_false (nat_lt j (end + 1))
+        ∙ sym (ap (λ b. nat_lt j (length w + 1) && b) none ∙ and_false (nat_lt j (length w + 1)))
+    | inr before ↦
+        let first : nat_lt j (end + 1) ≡ true = grind (arith, before) in
+        let second : nat_lt j (length w + 1) ≡ true = grind (arith, before, less) in
+        ap (λ b. b && is_lone_end set w start low high j) (first ∙ sym second)
+  ]
+    where
+      and_false : (a : Bool) → (a && false) ≡ false
+      and_false true = refl
+      and_false false = refl
+
+  -- a place that the run reaches
+  pub lone-here : (start low : ℕ) (high : Option ℕ) (end : ℕ) (b : Bool) → start ≤ end → begins set w end ≤ start
+      → b ≡ (nat_le low (end - start) && fits high (end - start)) → b ≡ is_lone_end set w start low high end
+  lone-here start low high end b le from e = e ∙ go (nat_le low (end - start)) refl
+    where
+      go : (t : Bool) → nat_le low (end - start) ≡ t
+          → (t && fits high (end - start)) ≡ is_lone_end set w start low high end
+      go true k =
+          let far : nat_le (start + low) end ≡ true = grind (arith, k, le) in
+          sym (ap (λ b. reaches (begins set w end) (if b then Some start else None) high end) far
+          ∙ ap (λ b. b && fits high (end - start)) (le-true (begins set w end) start from))
+      go false k =
+          let near : nat_le (start + low) end ≡ false = grind (arith, k, le) in
+          sym (ap (λ b. reaches (begins set w end) (if b then Some start else None) high end) near)
+
+-- ---- which start each place goes by
+
+pub latest-by : (set : List (ℕ × ℕ)) (w : List ℕ) (marks : List Bool) (low : ℕ) (starts : List ℕ)
+    → ((j : ℕ) → marked marks j ≡ is_at j starts) → GoesBy set w starts low (λ j. latest marks (j + 1 - low))
+latest-by set w marks low starts same = record {
+  one = λ j s e.
+      let (m, l) = latest-marked marks (j + 1 - low) s e in (sym (same s) ∙ m, omega (arith, l));
+  greatest = λ j i a l. latest-above marks (j + 1 - low) i (same i ∙ a) (omega (arith, l));
+}
+
+pub lone-by : (set : List (ℕ × ℕ)) (w : List ℕ) (start low : ℕ) (starts : List ℕ) → starts ≡ start ∷ []
+    → GoesBy set w starts low (lone start low)
+lone-by set w start low starts is = record {
+  one = λ j s e. go j s (nat_le (start + low) j) refl e;
+  greatest = λ j i a l.
+      let same = only i (subst (IsAt i) is a) in (
+        start,
+        ap (λ b. if b then Some start else None) (le-true (start + low) j (omega (arith, same, l))),
+        omega (arith, same),
+      );
+}
+  where
+    only : (i : ℕ) → IsAt i (start ∷ []) → start ≡ i
+    only i a = elim (or_cases (nat_eq start i) false a) [
+      | inl e ↦ eqb-true start i e
+      | inr r ↦ absurd (true≢false (sym r))
+    ]
+
+    some_same : (s : ℕ) → Some start ≡ Some s → start ≡ s
+    some_same s e = ap get e
+      where
+        get : Option ℕ → ℕ
+        get None = start
+        get (Some x) = x
+
+    go : (j s : ℕ) (b : Bool) → nat_le (start + low) j ≡ b → lone start low j ≡ Some s
+        → IsAt s starts × (s + low ≤ j)
+    go j s true k e =
+        let same = some_same s (sym (ap (λ b. if b then Some start else None) k) ∙ e) in (
+          subst (λ xs. IsAt s xs) (sym is) (subst (λ x. IsAt x (start ∷ [])) same (here_at start [])),
+          omega (arith, same, true-le (start + low) j k),
+        )
+    go j s false k e =
+        absurd (some≢none s (sym (ap (λ b. if b then Some start else None) k) ∙ e))
+
+pub only-one : (xs : List ℕ) → length xs ≡ 1 → xs ≡ get_or xs 0 0 ∷ []
+only-one [] h = absurd (omega (arith, h))
+only-one (x ∷ []) h = refl
+only-one (x ∷ y ∷ xs) h = absurd (omega (arith, h))

@@ -25,3 +25,10 @@ reaches from (Some s) high j = nat_le from s && fits high (j - s)
 -- a run from one of the marked places ends there, of at least `low` and at most `high` characters
 abbrev pub is_end : List (ℕ × ℕ) → List ℕ → List Bool → ℕ → Option ℕ → ℕ → Bool
 is_end set w marks low high j = reaches (begins set w j) (latest marks (j + 1 - low)) high j
+
+-- the one start, where it is far enough before the place
+abbrev pub lone : ℕ → ℕ → ℕ → Option ℕ
+lone start low j = if nat_le (start + low) j then Some start else None
+
+abbrev pub is_lone_end : List (ℕ × ℕ) → List ℕ → ℕ → ℕ → Option ℕ → ℕ → Bool
+is_lone_end set w start low high j = reaches (begins set w j) (lone start low j) high j

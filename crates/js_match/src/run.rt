@@ -1,10 +1,10 @@
 //! Repeats of one set of characters, in one pass over the word however often they repeat.
 
-ghost use Rattle.std.specs.Prelude.{◌≡◌, ℕ, ◌+◌, ◌-◌, ◌<◌, ◌^◌, ◌&&◌, nat_lt, true, IfOk, IsOk, [], ◌∷◌, ◌++◌, length, if◌then◌else◌};
+ghost use Rattle.std.specs.Prelude.{◌≡◌, ℕ, ◌+◌, ◌-◌, ◌<◌, ◌≤◌, ◌^◌, ◌&&◌, nat_le, nat_lt, true, IfOk, IsOk, [], ◌∷◌, ◌++◌, length, if◌then◌else◌};
 ghost use Rattle.patterns.specs.Tree.{one_of, repeated};
 ghost use Rattle.patterns.specs.Match.{Matches};
 ghost use Rattle.js_match.specs.Places.{Leads, is_at, are_within};
-ghost use Rattle.js_match.specs.Runs.{begins, latest, fits, is_end, reaches};
+ghost use Rattle.js_match.specs.Runs.{begins, latest, fits, is_end, is_lone_end, reaches};
 
 use crate::places::mark_all;
 use js_doc::Memory;
@@ -12,7 +12,7 @@ use js_pattern::CharSet;
 use std::alloc::Global;
 
 /// The places at which a run of characters of the set ends that begins at one of the starts, and has at least `low`
-/// characters and at most `high`. Time in the length of the word.
+/// characters and at most `high`. Time in the length of the word, and from one start in the length of its run.
 pub(crate) fn after_run(
     alloc: Global,
     set: &CharSet,
@@ -27,9 +27,36 @@ pub(crate) fn after_run(
         word.now) starts.now ends.items) }
     ensures within { IfOk result (λ ends. are_within (length word.now) ends.items ≡ true) }
 {
+    if starts.len() == 1 {
+        return run_from(alloc, set, low as usize, high, word, starts[0]);
+    }
     let mut marks = vec![in alloc; false; word.len() + 1]?;
     mark_all(&mut marks, starts);
     run_ends(alloc, set, low as usize, high, word, &marks)
+}
+
+/// The same from one start.
+fn run_from(
+    alloc: Global,
+    set: &CharSet,
+    low: usize,
+    high: Option<u32>,
+    word: &[char],
+    start: usize,
+) -> Result<Vec<usize>, Memory>
+    requires start { start ≤ length word.now }
+    requires short { length word.now + 1 < 2 ^ 63 }
+    ensures { IfOk result (λ ends. (j : ℕ) → is_at j ends.items
+        ≡ (nat_lt j (length word.now + 1) && is_lone_end set.now word.now start low high j)) }
+{
+    let mut ends = Vec::new(alloc);
+    for end in start..word.len() + 1 {
+        push_if(&mut ends, end, is_between(low, high, end - start))?;
+        if end < word.len() && !set.contains(word[end]) {
+            return Ok(ends);
+        }
+    }
+    Ok(ends)
 }
 
 /// The same from a table of the starts. For each place it knows where the run that ends there begins, and the last
@@ -103,6 +130,12 @@ fn is_reached(from: usize, last: Option<usize>, end: usize, high: Option<u32>) -
         None => false,
         Some(start) => from <= start && is_short(end.saturating_sub(start), high),
     }
+}
+
+fn is_between(low: usize, high: Option<u32>, count: usize) -> bool
+    ensures { result ≡ (nat_le low count && fits high count) }
+{
+    low <= count && is_short(count, high)
 }
 
 fn is_short(count: usize, most: Option<u32>) -> bool
