@@ -12,6 +12,10 @@ pub mod RequestLaws
 pub mod Settled
 -- What is known of all parts.
 pub mod DecideLaws
+-- Forms that are decided alone.
+pub mod PlainLaws
+-- Names that rise, and binary searches.
+pub mod SearchLaws
 -- Depths of parts.
 pub mod DepthLaws
 -- Orders by ranks.

@@ -3,5 +3,7 @@
 pub mod Parts
 -- Orders of entries, and tables of what is known of them.
 pub mod Plan
+-- Forms that are decided alone.
+pub mod Plain
 -- Requests for parts.
 pub mod Requests

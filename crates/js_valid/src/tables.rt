@@ -39,6 +39,18 @@ pub(crate) fn one_holds(table: &[bool], entries: &[u32]) -> bool
     false
 }
 
+/// Whether each test is so.
+pub(crate) fn are_all(tests: &[bool]) -> bool
+    ensures { result ≡ every (λ b. b) tests.now }
+{
+    for test in tests {
+        if !*test {
+            return false;
+        }
+    }
+    true
+}
+
 /// Whether exactly one of the entries has its test.
 pub(crate) fn just_one_holds(table: &[bool], entries: &[u32]) -> bool
     ensures { result ≡ exactly_one (flag table.now) entries.now }
