@@ -4,3 +4,5 @@ pub mod Matching
 pub mod Places
 -- Where runs of characters of one set end.
 pub mod Runs
+-- Trees of which each match begins at the start of the word.
+pub mod Anchors

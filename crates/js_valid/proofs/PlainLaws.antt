@@ -1,5 +1,5 @@
 -- A form that is decided alone is met where the document itself and its parts are as it asks.
-use Rattle.std.proofs.Common.{◌≡◌, ℕ, List, [], ◌∷◌, ◌++◌, map, Bool, true, false, ◌&&◌, not, Option, Some, None, refl, sym, ap, subst, ◌∙◌, arith, true≢false}
+use Rattle.std.proofs.Common.{◌≡◌, ℕ, List, [], ◌∷◌, ◌++◌, map, Bool, true, false, ◌&&◌, not, Option, Some, None, refl, sym, ap, subst, ◌∙◌, true≢false}
 use Rattle.std.proofs.lemmas.Bool.{and_parts}
 use Rattle.std.specs.List.{AllByRecursion}
 use Rattle.documents.specs.Tests.{every}
@@ -7,7 +7,7 @@ use Rattle.documents.specs.Document.{Document, string}
 use Rattle.levels.proofs.LevelsLaws.{everywhere}
 use Rattle.schemas.specs.Entry.{Entry, Form, Always, Never, Ref, Asks, Keywords}
 use Rattle.schemas.specs.Schema.{in_place, of_parts, lists, meets, one, all, of_needs}
-use Rattle.draft06.specs.EntryValidity.{asks, form_at, entry_valid}
+use Rattle.draft06.specs.EntryValidity.{asks, form_at}
 use Rattle.draft06_laws.proofs.EntryLaws.{entry_valid-asks}
 use Rattle.draft06_laws.proofs.EntryLocal.{asks_same}
 use Rattle.js_match.specs.Matching.{matches}

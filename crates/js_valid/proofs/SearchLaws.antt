@@ -1,13 +1,13 @@
 -- A binary search among properties whose names rise finds what a look at each of them does.
-use Rattle.std.proofs.Common.{◌≡◌, ◌⊎◌, inr, ℕ, zero, suc, ◌<◌, ◌+◌, ◌≤◌, List, [], ◌∷◌, map, drop, drop-cons, add-one, length, get_or, Bool, true, false, ◌&&◌, cond, nat_eq, Option, Some, None, refl, sym, ap, ap₂, ◌∙◌, arith, true≢false}
+use Rattle.std.proofs.Common.{◌≡◌, inr, ℕ, zero, suc, ◌<◌, ◌+◌, ◌≤◌, List, [], ◌∷◌, map, drop, drop-cons, add-one, length, get_or, Bool, true, false, ◌&&◌, cond, nat_eq, Option, Some, None, refl, sym, ap, ap₂, ◌∙◌, arith, true≢false}
 use Rattle.std.proofs.lemmas.Bool.{and_parts}
 use Rattle.std.proofs.lemmas.Slice.Eq.{bytes_eq-Decides}
 use Rattle.std.proofs.Math.ListN.{length-map}
 use Rattle.documents.specs.Tests.{every, same_word, comes_before}
-use Rattle.schemas.specs.Entry.{Entry, Keywords, Form, Asks}
+use Rattle.schemas.specs.Entry.{Entry, Keywords}
 use Rattle.schemas.specs.Weight.{most_weight}
-use Rattle.schemas.specs.Schema.{lists, meets, one, is_ascending, is_word, are_keys, is_table, names_below, form_in_range, is_in_range, is_filled, is_count, are_needs, total_size}
-use Rattle.std.specs.Prelude.{nat_lt, nat_le}
+use Rattle.schemas.specs.Schema.{lists, meets, one, is_ascending, is_word, are_keys, is_table, form_in_range, is_in_range, is_filled, is_count, are_needs, total_size}
+use Rattle.std.specs.Prelude.{nat_le}
 use Rattle.draft06.specs.EntryValidity.{form_at}
 use Rattle.js_doc.proofs.Lookups.{same_word-bytes_eq}
 use Rattle.js_doc.proofs.Search.{rise, names, find_in, rising, absent}

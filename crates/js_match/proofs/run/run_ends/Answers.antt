@@ -1,4 +1,4 @@
-use Rattle.std.proofs.Common.{rules, sym, ap, ◌∙◌, arith}
+use Rattle.std.proofs.Common.{rules, ap, ◌∙◌, arith}
 use Rattle.js_match.specs.Runs.{begins, reaches, is_end}
 use Rattle.js_match.proofs.RunLaws.{one_more}
 use Rattle.js_match.proofs.run.run_ends.Goals as goal

@@ -1,4 +1,4 @@
-use Rattle.std.proofs.Common.{◌≡◌, ◌∙◌, ◌++◌, ap}
+use Rattle.std.proofs.Common.{◌∙◌, ◌++◌, ap}
 use Rattle.js_schema.specs.View.{pattern_properties_view}
 use Rattle.js_match.specs.Matching.{matches}
 use Rattle.js_valid.specs.Parts.{of_named}

@@ -1,6 +1,6 @@
 use Rattle.std.proofs.Common.{◌≡◌, true, map, drop}
 use Rattle.documents.specs.Document.{members_of, names_rise}
-use Rattle.js_doc.specs.View.{map_view, member_view}
+use Rattle.js_doc.specs.View.{member_view}
 use Rattle.js_valid.proofs.search.do_rise.Given as goal
 
 abbrev pub invariant-loop-place : goal.invariant-loop-place

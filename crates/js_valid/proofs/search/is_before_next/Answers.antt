@@ -4,7 +4,7 @@ use Rattle.std.proofs.Common.{nat_cmp}
 use Rattle.documents.specs.Tests.{comes_before}
 use Rattle.js_doc.proofs.WordOrder.{comes_before-chars}
 use Rattle.js_doc.specs.View.{member_view}
-use Rattle.js_valid.proofs.SearchLaws.{before-none, before-next}
+use Rattle.js_valid.proofs.SearchLaws.{before-next}
 use Rattle.js_valid.proofs.search.is_before_next.Goals as goal
 
 pub returns : goal.returns
