@@ -10,3 +10,5 @@ pub mod WalkLaws
 pub mod FoundLaws
 -- Runs of characters of one set.
 pub mod RunLaws
+-- Characters that a word must begin with.
+pub mod FirstLaws

@@ -6,3 +6,5 @@ pub mod Places
 pub mod Runs
 -- Trees of which each match begins at the start of the word.
 pub mod Anchors
+-- The characters of which a word must begin with one.
+pub mod First

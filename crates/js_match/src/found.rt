@@ -2,13 +2,14 @@
 
 ghost use Rattle.std.specs.Prelude.{◌≡◌, ℕ, ◌+◌, ◌<◌, ◌^◌, IfOk, chars, length, nat_le, true};
 ghost use Rattle.patterns.specs.Decision.{finds};
-ghost use Rattle.js_pattern.specs.View.{view, list_view};
-ghost use Rattle.js_match.specs.Anchors.{is_start, first_is_start, is_anchored};
+ghost use Rattle.js_pattern.specs.View.{view};
 ghost use Rattle.js_match.specs.Places.{is_at, are_within, has_place};
 
+use crate::anchor::is_anchored;
+use crate::first::begins_otherwise;
 use crate::walk::walk;
 use js_doc::{Memory, Str};
-use js_pattern::{Re, ReList};
+use js_pattern::Re;
 use std::alloc::{AllocError, Global};
 
 /// Whether the pattern matches somewhere in the word. Time: the nodes of the tree times the word's length, times the
@@ -24,6 +25,9 @@ pub fn is_found(alloc: Global, re: &Re, word: &Str) -> Result<bool, Memory>
 pub fn is_in(alloc: Global, re: &Re, word: &[char]) -> Result<bool, Memory>
     ensures { IfOk result (λ b. b ≡ finds (view re.now) word.now) }
 {
+    if begins_otherwise(re, word) {
+        return Ok(false);
+    }
     if is_anchored(re) {
         let ends = walk(alloc, re, word, &[0])?;
         return Ok(is_some(&ends));
@@ -31,33 +35,6 @@ pub fn is_in(alloc: Global, re: &Re, word: &[char]) -> Result<bool, Memory>
     let starts = places(alloc, word.len())?;
     let ends = walk(alloc, re, word, &starts)?;
     Ok(is_some(&ends))
-}
-
-/// Whether the pattern begins with the start of the word, so that no other place can begin a match.
-fn is_anchored(re: &Re) -> bool
-    ensures { result ≡ is_anchored (view re.now) }
-{
-    match re {
-        Re::Start => true,
-        Re::Seq(list) => begins_at_start(list),
-        _ => false,
-    }
-}
-
-fn begins_at_start(list: &ReList) -> bool
-    ensures { result ≡ first_is_start (list_view list.now) }
-{
-    let list = list.as_slice();
-    !list.is_empty() && is_start(&list[0])
-}
-
-fn is_start(re: &Re) -> bool
-    ensures { result ≡ is_start (view re.now) }
-{
-    match re {
-        Re::Start => true,
-        _ => false,
-    }
 }
 
 fn is_some(places: &[usize]) -> bool

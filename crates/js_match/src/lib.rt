@@ -5,6 +5,8 @@
 //! judges documents stands on it.
 #![tactic(auto)]
 
+mod anchor;
+mod first;
 mod found;
 mod places;
 mod run;
