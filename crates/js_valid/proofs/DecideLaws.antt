@@ -9,9 +9,9 @@ use Rattle.schemas.specs.Schema.{lists, meets, one}
 use Rattle.draft06.specs.Names.{keys, is_additional}
 use Rattle.draft06.specs.EntryValidity.{form_at, items_ask, rest_asks}
 use Rattle.js_valid.specs.Parts.{flag, parts, parts_array, parts_object, asked_by, answered, of_listed, of_items_part, of_element, of_contains, of_named, of_names, or_else, of_member, of_name}
-use Rattle.js_valid.specs.Places.{is_at}
+use Rattle.js_match.specs.Places.{is_at}
 use Rattle.js_valid.specs.Plan.{IsPlan, KnowsVerdicts, valid_at}
-use Rattle.js_valid.specs.Matching.{matches}
+use Rattle.js_match.specs.Matching.{matches}
 use Rattle.js_valid.specs.Requests.{each_at, contained, parts_list, parts_members, AskedByOwners}
 use Rattle.js_valid.proofs.PartsLaws.{both, every-append, every-named}
 use Rattle.js_valid.proofs.PlanLaws.{flag-below, flag-past, valid-past}

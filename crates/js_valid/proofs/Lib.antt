@@ -2,18 +2,8 @@
 pub mod Halves
 -- What it asks of parts, part by part.
 pub mod PartsLaws
--- Steps from places to places.
-pub mod LeadsLaws
--- Rounds of a repeat over sets of places.
-pub mod Rounds
--- Tables of marks.
-pub mod Marks
--- What each loop of the walk keeps.
-pub mod WalkLaws
 -- Verdicts that are taken in order.
 pub mod PlanLaws
--- A pattern is found where the walk ends.
-pub mod FoundLaws
 -- Equality of documents.
 pub mod SameLaws
 -- What is asked of a part, request by request.
@@ -22,6 +12,10 @@ pub mod RequestLaws
 pub mod Settled
 -- What is known of all parts.
 pub mod DecideLaws
+-- Forms that are decided alone.
+pub mod PlainLaws
+-- Names that rise, and binary searches.
+pub mod SearchLaws
 -- Depths of parts.
 pub mod DepthLaws
 -- Orders by ranks.

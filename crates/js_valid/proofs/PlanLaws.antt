@@ -9,12 +9,12 @@ use Rattle.schemas.specs.Schema.{in_place, of_parts}
 use Rattle.draft06.specs.EntryValidity.{asks, form_at, entry_valid}
 use Rattle.draft06_laws.proofs.EntryLaws.{ranked, entry_valid-asks, form_at-past}
 use Rattle.draft06_laws.proofs.EntryLocal.{asks_same}
-use Rattle.js_valid.specs.Matching.{matches}
+use Rattle.js_match.specs.Matching.{matches}
 use Rattle.js_valid.specs.Parts.{flag, own, parts}
-use Rattle.js_valid.specs.Places.{is_at}
+use Rattle.js_match.specs.Places.{is_at}
 use Rattle.js_valid.specs.Plan.{IsPlan, IsClosed, KnowsParts, KnowsVerdicts, valid_at}
 use Rattle.js_valid.proofs.Halves.{asks-halves}
-use Rattle.js_valid.proofs.LeadsLaws.{is_at-append, or_left_true, or_right_true}
+use Rattle.js_match.proofs.LeadsLaws.{is_at-append, or_left_true, or_right_true}
 
 pub marks_after : (j : ℕ) (xs ys : List ℕ) (a b c : Bool) → b ≡ (a || is_at j xs) → c ≡ (b || is_at j ys)
     → c ≡ (a || is_at j (xs ++ ys))

@@ -5,7 +5,7 @@ use Rattle.documents.specs.Tests.{every}
 use Rattle.schemas.specs.Entry.{Entry, Form}
 use Rattle.draft06.specs.EntryValidity.{form_at}
 use Rattle.js_valid.specs.Parts.{asked_by, answered, of_listed}
-use Rattle.js_valid.specs.Places.{is_at}
+use Rattle.js_match.specs.Places.{is_at}
 use Rattle.js_valid.specs.Requests.{AsksMore, asks_of}
 
 and_assoc : (a b c : Bool) → ((a && b) && c) ≡ (a && (b && c))

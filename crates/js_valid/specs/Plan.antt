@@ -5,9 +5,9 @@ use Rattle.schemas.specs.Entry.{Entry}
 use Rattle.schemas.specs.Schema.{is_table, in_place}
 use Rattle.draft06.specs.EntryValidity.{form_at, entry_valid}
 use Rattle.draft06_laws.specs.Ranks.{FallInPlace}
-use Rattle.js_valid.specs.Matching.{matches}
+use Rattle.js_match.specs.Matching.{matches}
 use Rattle.js_valid.specs.Parts.{flag, parts}
-use Rattle.js_valid.specs.Places.{is_at}
+use Rattle.js_match.specs.Places.{is_at}
 
 pub record IsPlan (es : List Entry) (order : List ℕ) : Type 0 where
   pub table : is_table es ≡ true

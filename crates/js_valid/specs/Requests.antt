@@ -5,7 +5,7 @@ use Rattle.documents.specs.Document.{Document}
 use Rattle.schemas.specs.Entry.{Entry, Form, Asks}
 use Rattle.draft06.specs.EntryValidity.{form_at}
 use Rattle.js_valid.specs.Parts.{asked_by, flag, parts_array, parts_object}
-use Rattle.js_valid.specs.Places.{is_at}
+use Rattle.js_match.specs.Places.{is_at}
 
 -- one owner asks for these entries too
 abbrev pub AsksMore : ℕ → List ℕ → (os qs os' qs' : List ℕ) → Type 0

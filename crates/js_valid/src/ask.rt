@@ -3,18 +3,21 @@
 
 ghost use Rattle.std.specs.Prelude.{◌≡◌, ℕ, ◌<◌, ◌||◌, ◌&&◌, ◌++◌, not, nat_eq, nat_lt, true, Bool, List, [], IfOk, IsOk, map, option_map, length};
 ghost use Rattle.documents.specs.Tests.{every, same_word};
-ghost use Rattle.schemas.specs.Schema.{lists, one};
+ghost use Rattle.schemas.specs.Entry.{Asks};
+ghost use Rattle.schemas.specs.Schema.{lists, one, is_table, is_in_range, form_in_range};
 ghost use Rattle.draft06.specs.EntryValidity.{form_at};
 ghost use Rattle.js_schema.specs.Patterns.{source_of};
 ghost use Rattle.js_schema.specs.View.{form_view, keywords_view, items_view, property_view, pattern_property_view, pattern_properties_view};
 ghost use Rattle.js_schema.specs.SchemaView.{schema_view};
-ghost use Rattle.js_valid.specs.Matching.{matches};
+ghost use Rattle.js_match.specs.Matching.{matches};
 ghost use Rattle.js_valid.specs.Parts.{asked_by, of_contains, of_element, of_items_part, of_listed, of_member, of_name, of_named, of_names, or_else};
 ghost use Rattle.js_valid.specs.Requests.{AsksMore, AskedByOwners, contained};
 
 use crate::found::is_found;
+use crate::search::property_entry;
 use js_doc::{Memory, Str};
-use js_schema::{EntryList, Form, ItemsPart, Keywords, PatternPropertyList, PropertyList, Schema};
+use js_match::letters;
+use js_schema::{EntryList, Form, ItemsPart, Keywords, PatternPropertyList, Schema};
 use std::alloc::Global;
 
 /// Requests of the owners, each for the entry at its place.
@@ -83,16 +86,23 @@ pub(crate) fn of_element(
     Ok(requests)
 }
 
+/// The entry for the element at that place.
+pub(crate) fn element_entry(form: &Form, place: usize) -> Option<u32>
+    ensures { lists one result ≡ of_element (form_view form.now) place }
+{
+    match form {
+        Form::Keywords(keywords) => item_entry(keywords, place),
+        _ => None,
+    }
+}
+
 fn add_element(requests: &mut Requests, owner: u32, form: &Form, place: usize) -> Result<(), Memory>
     requires { length requests.old.owners.items ≡ length requests.old.entries.items }
     ensures len { IsOk result → length requests.new.owners.items ≡ length requests.new.entries.items }
     ensures asks { IsOk result → AsksMore owner (of_element (form_view form.now) place) requests.old.owners.items
         requests.old.entries.items requests.new.owners.items requests.new.entries.items }
 {
-    match form {
-        Form::Keywords(keywords) => add_option(requests, owner, item_entry(keywords, place)),
-        _ => Ok(()),
-    }
+    add_option(requests, owner, element_entry(form, place))
 }
 
 fn item_entry(keywords: &Keywords, place: usize) -> Option<u32>
@@ -188,7 +198,8 @@ pub(crate) fn of_member(
     owners: &[u32],
     name: &Str,
 ) -> Result<Requests, Memory>
-    requires { every (λ o. nat_lt o (length (schema_view schema.now))) owners.now ≡ true }
+    requires table { is_table (schema_view schema.now) ≡ true }
+    requires owners { every (λ o. nat_lt o (length (schema_view schema.now))) owners.now ≡ true }
     ensures len { IfOk result (λ r. length r.owners.items ≡ length r.entries.items) }
     ensures asks { IfOk result (λ r. AskedByOwners (schema_view schema.now) (λ f.
         of_member matches f name.now) owners.now
@@ -208,27 +219,37 @@ fn add_member(
     form: &Form,
     name: &Str,
 ) -> Result<(), Memory>
-    requires { length requests.old.owners.items ≡ length requests.old.entries.items }
+    requires range { form_in_range (form_view form.now) ≡ true }
+    requires len { length requests.old.owners.items ≡ length requests.old.entries.items }
     ensures len { IsOk result → length requests.new.owners.items ≡ length requests.new.entries.items }
     ensures asks { IsOk result → AsksMore owner (of_member matches (form_view form.now)
         name.now) requests.old.owners.items
         requests.old.entries.items requests.new.owners.items requests.new.entries.items }
 {
+    let named = member_entries(alloc, form, name)?;
+    add(requests, owner, &named)
+}
+
+/// The entries for a member with that name.
+pub(crate) fn member_entries(alloc: Global, form: &Form, name: &Str) -> Result<Vec<u32>, Memory>
+    requires { form_in_range (form_view form.now) ≡ true }
+    ensures { IfOk result (λ found. found.items ≡ of_member matches (form_view form.now) name.now) }
+{
     match form {
-        Form::Keywords(keywords) => {
-            let named = named_entries(alloc, keywords, name)?;
-            add(requests, owner, &named)
-        }
-        _ => Ok(()),
+        Form::Keywords(keywords) => named_entries(alloc, keywords, name),
+        _ => Ok(Vec::new(alloc)),
     }
 }
 
 fn named_entries(alloc: Global, keywords: &Keywords, name: &Str) -> Result<Vec<u32>, Memory>
+    requires { is_in_range (keywords_view keywords.now) ≡ true }
     ensures { IfOk result (λ found. found.items ≡ or_else (of_names matches (keywords_view keywords.now) name.now)
         (lists one keywords.now.additional_properties)) }
 {
     let mut found = Vec::new(alloc);
-    add_properties(&mut found, &keywords.properties, name)?;
+    if let Some(entry) = property_of(keywords, name) {
+        found.push(entry)?;
+    }
     add_patterns(alloc, &mut found, &keywords.pattern_properties, name)?;
     if found.is_empty()
         && let Some(entry) = keywords.additional_properties
@@ -238,36 +259,28 @@ fn named_entries(alloc: Global, keywords: &Keywords, name: &Str) -> Result<Vec<u
     Ok(found)
 }
 
-fn add_properties(
-    found: &mut Vec<u32>,
-    list: &Option<PropertyList>,
-    name: &Str,
-) -> Result<(), Memory>
-    ensures { IsOk result → found.new.items ≡ found.old.items
-        ++ lists (of_named (λ n. same_word n name.now)) (option_map (λ ps. map property_view ps) list.now) }
+/// The entry that `properties` has for the name.
+fn property_of(keywords: &Keywords, name: &Str) -> Option<u32>
+    requires { is_in_range (keywords_view keywords.now) ≡ true }
+    ensures { lists one result ≡ lists (of_named (λ n. same_word n name.now)) (option_map
+        (λ ps. map property_view ps) keywords.now.properties) }
 {
-    match list {
-        None => Ok(()),
-        Some(list) => add_named(found, list, name),
+    match &keywords.properties {
+        None => None,
+        Some(list) => property_entry(list, name.as_text()),
     }
 }
 
-fn add_named(found: &mut Vec<u32>, list: &PropertyList, name: &Str) -> Result<(), Memory>
-    ensures { IsOk result → found.new.items ≡ found.old.items
-        ++ of_named (λ n. same_word n name.now) (map property_view list.now) }
+/// The one entry for a member with that name, where no pattern asks for it.
+pub(crate) fn only_entry(keywords: &Keywords, name: &Str) -> Option<u32>
+    requires range { is_in_range (keywords_view keywords.now) ≡ true }
+    requires patterns { keywords.now.pattern_properties ≡ None }
+    ensures { lists one result ≡ of_member matches (Asks (keywords_view keywords.now)) name.now }
 {
-    for property in list.as_slice() {
-        if is_name(&property.name, name) {
-            found.push(property.entry)?;
-        }
+    match property_of(keywords, name) {
+        Some(entry) => Some(entry),
+        None => keywords.additional_properties,
     }
-    Ok(())
-}
-
-fn is_name(a: &Str, b: &Str) -> bool
-    ensures { result ≡ same_word a.now b.now }
-{
-    b.as_text() == a.as_text()
 }
 
 fn add_patterns(
@@ -290,6 +303,19 @@ fn add_matching(
     found: &mut Vec<u32>,
     list: &PatternPropertyList,
     name: &Str,
+) -> Result<(), Memory>
+    ensures { IsOk result → found.new.items ≡ found.old.items
+        ++ of_named (λ t. matches t name.now) (pattern_properties_view list.now) }
+{
+    let letters = letters(alloc, name.as_text())?;
+    add_found(alloc, found, list, &letters)
+}
+
+fn add_found(
+    alloc: Global,
+    found: &mut Vec<u32>,
+    list: &PatternPropertyList,
+    name: &[char],
 ) -> Result<(), Memory>
     ensures { IsOk result → found.new.items ≡ found.old.items
         ++ of_named (λ t. matches t name.now) (pattern_properties_view list.now) }

@@ -7,7 +7,7 @@ ghost use Rattle.schemas.specs.Entry.{Asks};
 ghost use Rattle.draft06.specs.EntryValidity.{form_at};
 ghost use Rattle.js_schema.specs.SchemaView.{schema_view};
 ghost use Rattle.js_valid.specs.Parts.{flag};
-ghost use Rattle.js_valid.specs.Places.{is_at};
+ghost use Rattle.js_match.specs.Places.{is_at};
 ghost use Rattle.js_valid.specs.Plan.{IsPlan, IsClosed};
 
 use crate::tables::{holds, mark, mark_all};

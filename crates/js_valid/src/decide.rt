@@ -1,30 +1,62 @@
 //! Verdicts of some entries on a document. It goes down the document and not from entry to entry: at each part the
 //! entries that are asked of it, by whichever keyword, are decided together and once.
+//!
+//! An entry that is asked alone of a part and hangs on no other verdict there is decided without tables, and each part
+//! of the part is asked once again. So most parts of a document take time in what their entry says, and not in the
+//! number of entries.
 
-ghost use Rattle.std.specs.Prelude.{◌≡◌, ℕ, ◌<◌, ◌&&◌, ◌||◌, not, nat_eq, nat_lt, true, IfOk, IsOk, map, length};
+ghost use Rattle.std.specs.Prelude.{◌≡◌, ℕ, ◌<◌, ◌&&◌, ◌||◌, not, nat_eq, nat_lt, true, IfOk, IsOk, [], map, length};
 ghost use Rattle.documents.specs.Document.{string, elements, entries};
 ghost use Rattle.draft06.specs.EntryValidity.{form_at};
-ghost use Rattle.js_doc.specs.View.{view, list_view, map_view};
+ghost use Rattle.js_doc.specs.View.{view, list_view, map_view, member_view};
 ghost use Rattle.js_schema.specs.SchemaView.{schema_view};
-ghost use Rattle.js_valid.specs.Matching.{matches};
-ghost use Rattle.js_valid.specs.Parts.{flag, asked_by, parts};
-ghost use Rattle.js_valid.specs.Places.{is_at};
+ghost use Rattle.js_schema.specs.View.{form_view};
+ghost use Rattle.js_match.specs.Matching.{matches};
+ghost use Rattle.js_valid.specs.Parts.{flag, asked_by, of_member, own, parts};
+ghost use Rattle.js_valid.specs.Plain.{is_plain};
+ghost use Rattle.js_match.specs.Places.{is_at};
 ghost use Rattle.js_valid.specs.Plan.{IsPlan, valid_at};
 ghost use Rattle.js_valid.specs.Requests.{FinePart, contained, parts_list, parts_members};
-ghost use Rattle.schemas.specs.Schema.{meets};
+ghost use Rattle.schemas.specs.Schema.{form_in_range, lists, meets, one};
 ghost use Rattle.documents.specs.Tests.{every};
 
-use crate::ask::{Requests, contained_entry, of_contains, of_element, of_member, of_name};
+use crate::ask::{
+    Requests, contained_entry, element_entry, member_entries, of_contains, of_element, of_member,
+    of_name, only_entry,
+};
 use crate::asked::close;
+use crate::own::meets_own;
+use crate::plain::{is_plain, target_of};
 use crate::settle::settle;
-use crate::tables::{holds, mark_all, marked_entries, refuse, refuse_all, refuse_none, tests_of};
-use js_doc::{Doc, DocList, DocMap, Memory, Str};
-use js_schema::Schema;
+use crate::tables::{
+    are_all, holds, mark_all, marked_entries, refuse, refuse_all, refuse_none, tests_of,
+};
+use js_doc::{Doc, DocList, DocMap, Member, Memory, Str};
+use js_schema::{Form, Schema};
 use std::alloc::Global;
 
 /// The verdicts of the entries, in their order.
 #[cycle(decide)]
 pub(crate) fn verdicts(
+    alloc: Global,
+    schema: &Schema,
+    order: &[u32],
+    doc: &Doc,
+    entries: &[u32],
+) -> Result<Vec<bool>, Memory>
+    requires { IsPlan (schema_view schema.now) order.now }
+    ensures { IfOk result (λ vs. vs.items ≡ map (λ q. valid_at (schema_view schema.now) q (view doc.now)) entries.now) }
+{
+    if entries.len() == 1 {
+        let verdict = is_met(alloc, schema, order, doc, entries[0])?;
+        return Ok(vec![in alloc; verdict; 1]?);
+    }
+    table_verdicts(alloc, schema, order, doc, entries)
+}
+
+/// The same by a table with the verdicts of all entries that are asked of the document.
+#[cycle(decide)]
+fn table_verdicts(
     alloc: Global,
     schema: &Schema,
     order: &[u32],
@@ -41,6 +73,162 @@ pub(crate) fn verdicts(
     let fine = fine_parts(alloc, schema, order, doc, &owners)?;
     let table = settle(alloc, schema, order, doc, &asked, &fine)?;
     tests_of(alloc, &table, entries)
+}
+
+/// Whether the document is valid for an entry that is asked alone.
+#[cycle(decide)]
+pub(crate) fn is_met(
+    alloc: Global,
+    schema: &Schema,
+    order: &[u32],
+    doc: &Doc,
+    entry: u32,
+) -> Result<bool, Memory>
+    requires { IsPlan (schema_view schema.now) order.now }
+    ensures { IfOk result (λ b. b ≡ valid_at (schema_view schema.now) entry (view doc.now)) }
+{
+    let target = target_of(schema, entry);
+    if target >= schema.len() {
+        return Ok(false);
+    }
+    let form = schema.form(target);
+    if is_plain(form) {
+        return meets_plain(alloc, schema, order, form, doc);
+    }
+    let verdicts = table_verdicts(alloc, schema, order, doc, &[target])?;
+    Ok(holds(&verdicts, 0))
+}
+
+/// Whether the document itself and its parts are as a plain form asks.
+#[cycle(decide)]
+fn meets_plain(
+    alloc: Global,
+    schema: &Schema,
+    order: &[u32],
+    form: &Form,
+    doc: &Doc,
+) -> Result<bool, Memory>
+    requires plan { IsPlan (schema_view schema.now) order.now }
+    requires plain { is_plain (form_view form.now) ≡ true }
+    requires range { form_in_range (form_view form.now) ≡ true }
+    ensures { IfOk result (λ b. b ≡ (own matches (flag []) (form_view form.now) (view doc.now)
+        && parts matches (valid_at (schema_view schema.now)) (form_view form.now) (view doc.now))) }
+{
+    if !meets_own(alloc, form, &[], doc)? {
+        return Ok(false);
+    }
+    match doc {
+        Doc::List(list) => are_elements_met(alloc, schema, order, form, list),
+        Doc::Members(members) => are_members_met(alloc, schema, order, form, members),
+        _ => Ok(true),
+    }
+}
+
+#[cycle(decide)]
+fn are_elements_met(
+    alloc: Global,
+    schema: &Schema,
+    order: &[u32],
+    form: &Form,
+    list: &DocList,
+) -> Result<bool, Memory>
+    requires plan { IsPlan (schema_view schema.now) order.now }
+    requires plain { is_plain (form_view form.now) ≡ true }
+    ensures { IfOk result (λ b. b ≡ parts_list (valid_at (schema_view schema.now)) (form_view form.now) (elements
+        (list_view list.now))) }
+{
+    for (place, child) in list.as_slice().iter().enumerate() {
+        let entry = element_entry(form, place);
+        if !is_element_met(alloc, schema, order, child, entry)? {
+            return Ok(false);
+        }
+    }
+    Ok(true)
+}
+
+#[cycle(decide)]
+fn is_element_met(
+    alloc: Global,
+    schema: &Schema,
+    order: &[u32],
+    doc: &Doc,
+    entry: Option<u32>,
+) -> Result<bool, Memory>
+    requires { IsPlan (schema_view schema.now) order.now }
+    ensures { IfOk result (λ b. b ≡ every (λ q. valid_at (schema_view schema.now) q (view doc.now))
+        (lists one entry)) }
+{
+    match entry {
+        None => Ok(true),
+        Some(entry) => is_met(alloc, schema, order, doc, entry),
+    }
+}
+
+#[cycle(decide)]
+fn are_members_met(
+    alloc: Global,
+    schema: &Schema,
+    order: &[u32],
+    form: &Form,
+    members: &DocMap,
+) -> Result<bool, Memory>
+    requires plan { IsPlan (schema_view schema.now) order.now }
+    requires plain { is_plain (form_view form.now) ≡ true }
+    requires range { form_in_range (form_view form.now) ≡ true }
+    ensures { IfOk result (λ b. b ≡ parts_members matches (valid_at (schema_view schema.now)) (form_view form.now)
+        (entries (map_view members.now))) }
+{
+    for member in members.as_slice() {
+        if !is_member_met(alloc, schema, order, form, member)? {
+            return Ok(false);
+        }
+    }
+    Ok(true)
+}
+
+#[cycle(decide)]
+fn is_member_met(
+    alloc: Global,
+    schema: &Schema,
+    order: &[u32],
+    form: &Form,
+    member: &Member,
+) -> Result<bool, Memory>
+    requires plan { IsPlan (schema_view schema.now) order.now }
+    requires range { form_in_range (form_view form.now) ≡ true }
+    ensures { IfOk result (λ b. b ≡ every (λ q. valid_at (schema_view schema.now) q (member_view member.now).1)
+        (of_member matches (form_view form.now) (member_view member.now).0)) }
+{
+    if let Form::Keywords(keywords) = form
+        && keywords.pattern_properties.is_none()
+    {
+        let entry = only_entry(keywords, member.name());
+        return is_element_met(alloc, schema, order, member.value(), entry);
+    }
+    let entries = member_entries(alloc, form, member.name())?;
+    is_each_met(alloc, schema, order, member.value(), &entries)
+}
+
+/// Whether the document is valid for each of the entries.
+#[cycle(decide)]
+fn is_each_met(
+    alloc: Global,
+    schema: &Schema,
+    order: &[u32],
+    doc: &Doc,
+    entries: &[u32],
+) -> Result<bool, Memory>
+    requires { IsPlan (schema_view schema.now) order.now }
+    ensures { IfOk result (λ b. b ≡ every (λ q. valid_at (schema_view schema.now) q (view doc.now)) entries.now) }
+{
+    if entries.is_empty() {
+        return Ok(true);
+    }
+    if entries.len() == 1 {
+        return is_met(alloc, schema, order, doc, entries[0]);
+    }
+    let verdicts = table_verdicts(alloc, schema, order, doc, entries)?;
+    Ok(are_all(&verdicts))
 }
 
 /// Which of the owners have what they ask of the document's parts.

@@ -1,57 +1,17 @@
-//! Whether a pattern matches somewhere in a word.
+//! Whether a pattern of a schema matches somewhere in a word.
 
-ghost use Rattle.std.specs.Prelude.{◌≡◌, ℕ, ◌+◌, ◌<◌, ◌^◌, IfOk, chars, length, nat_le, true};
-ghost use Rattle.patterns.specs.Decision.{finds};
-ghost use Rattle.js_pattern.specs.View.{view};
+ghost use Rattle.std.specs.Prelude.{◌≡◌, IfOk};
 ghost use Rattle.js_schema.specs.Patterns.{source_of};
-ghost use Rattle.js_valid.specs.Matching.{matches};
-ghost use Rattle.js_valid.specs.Places.{is_at, are_within, has_place};
+ghost use Rattle.js_match.specs.Matching.{matches};
 
-use crate::walk::walk;
-use js_doc::{Memory, Str};
-use js_pattern::Re;
+use js_doc::Memory;
+use js_match::is_in;
 use js_schema::PatternText;
-use std::alloc::{AllocError, Global};
+use std::alloc::Global;
 
-/// Whether the pattern matches somewhere in the word. Time: the nodes of the tree times the word's length, times the
-/// rounds of nested repeats.
-pub(crate) fn is_found(alloc: Global, pattern: &PatternText, word: &Str) -> Result<bool, Memory>
+/// The word is given by its characters, so that one word can be asked for many patterns.
+pub(crate) fn is_found(alloc: Global, pattern: &PatternText, word: &[char]) -> Result<bool, Memory>
     ensures { IfOk result (λ b. b ≡ matches (source_of pattern.now) word.now) }
 {
-    let letters = letters(alloc, word.as_text())?;
-    is_in(alloc, pattern.re(), &letters)
-}
-
-fn is_in(alloc: Global, re: &Re, word: &[char]) -> Result<bool, Memory>
-    ensures { IfOk result (λ b. b ≡ finds (view re.now) word.now) }
-{
-    let starts = places(alloc, word.len())?;
-    let ends = walk(alloc, re, word, &starts)?;
-    Ok(is_some(&ends))
-}
-
-fn is_some(places: &[usize]) -> bool
-    ensures { result ≡ has_place places.now }
-{
-    !places.is_empty()
-}
-
-/// The characters of a text.
-pub(crate) fn letters(alloc: Global, text: &str) -> Result<Vec<char>, AllocError>
-    ensures { IfOk result (λ letters. letters.items ≡ chars text.now) }
-{
-    text.chars().collect(alloc)
-}
-
-/// All places of a word of that length.
-fn places(alloc: Global, length: usize) -> Result<Vec<usize>, Memory>
-    requires { length + 1 < 2 ^ 63 }
-    ensures all { IfOk result (λ v. (j : ℕ) → is_at j v.items ≡ nat_le j length) }
-    ensures within { IfOk result (λ v. are_within length v.items ≡ true) }
-{
-    let mut places = Vec::new(alloc);
-    for place in 0..length + 1 {
-        places.push(place)?;
-    }
-    Ok(places)
+    is_in(alloc, pattern.re(), word)
 }

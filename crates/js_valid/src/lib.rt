@@ -13,22 +13,21 @@ mod fault;
 mod found;
 mod order;
 mod own;
-mod places;
+mod plain;
+mod search;
 mod settle;
 mod tables;
-mod walk;
 
 ghost use Rattle.std.specs.Prelude.{◌≡◌, ◌<◌, true, IfOk, length};
 ghost use Rattle.schemas.specs.Guarded.{edges, are_ranks};
 ghost use Rattle.draft06.specs.EntryValidity.{entry_valid};
 ghost use Rattle.js_doc.specs.View.{view};
 ghost use Rattle.js_schema.specs.SchemaView.{schema_view};
-ghost use Rattle.js_valid.specs.Matching.{matches};
+ghost use Rattle.js_match.specs.Matching.{matches};
 ghost use Rattle.js_valid.specs.Plan.{IsPlan};
 
-use crate::decide::verdicts;
+use crate::decide::is_met;
 use crate::order::order_of;
-use crate::tables::holds;
 pub use fault::ValidFault;
 use js_doc::{Doc, Memory};
 use js_guard::Ranks;
@@ -53,8 +52,7 @@ fn is_root_met(alloc: Global, schema: &Schema, order: &[u32], doc: &Doc) -> Resu
     requires { IsPlan (schema_view schema.now) order.now }
     ensures { IfOk result (λ b. b ≡ entry_valid matches (schema_view schema.now) 0 (view doc.now)) }
 {
-    let verdicts = verdicts(alloc, schema, order, doc, &[0])?;
-    Ok(holds(&verdicts, 0))
+    is_met(alloc, schema, order, doc, 0)
 }
 
 /// The ranks of that many entries.

@@ -1,21 +1,23 @@
 //! What a form asks of a document itself, where the verdicts of the entries that it names in place are known.
 
-ghost use Rattle.std.specs.Prelude.{◌≡◌, ℕ, ◌&&◌, ◌||◌, not, nat_le, int_le, int_lt, true, false, IfOk, chars, length, map, option_map};
+ghost use Rattle.std.specs.Prelude.{◌≡◌, ℕ, List, ◌&&◌, ◌||◌, not, nat_le, int_le, int_lt, true, false, IfOk, chars, length, map, option_map};
 ghost use Rattle.documents.specs.Tests.{every, some};
-ghost use Rattle.documents.specs.Document.{kind_of, elements, entries};
+ghost use Rattle.documents.specs.Document.{kind_of, elements, entries, names_rise};
 ghost use Rattle.documents.specs.Measures.{is_multiple, has_name, exactly_one, same_document};
 ghost use Rattle.schemas.specs.Schema.{meets};
 ghost use Rattle.draft06.specs.EntryValidity.{has_type, need_asks, asks_any, asks_number, asks_string};
 ghost use Rattle.js_doc.specs.View.{view, list_view, map_view, member_view};
 ghost use Rattle.js_keywords.specs.TypeView.{type_view};
 ghost use Rattle.js_schema.specs.View.{form_view, keywords_view, needs_view, dependency_view};
-ghost use Rattle.js_valid.specs.Matching.{matches};
+ghost use Rattle.js_match.specs.Matching.{matches};
 ghost use Rattle.js_valid.specs.Parts.{flag, own, own_keywords, own_array, own_object, no_parts, no_entry};
 
-use crate::found::{is_found, letters};
+use crate::found::is_found;
+use crate::search::{has_member, is_searchable};
 use crate::tables::{all_hold, holds, just_one_holds, one_holds};
 use js_doc::{Doc, DocList, DocMap, Memory, Str, StrList, equal};
 use js_keywords::TypeName;
+use js_match::letters;
 use js_schema::{DependencyList, EntryList, Form, Keywords, Needs, PatternText, TypeList};
 use std::alloc::Global;
 
@@ -239,24 +241,30 @@ fn is_multiple_of(divisor: Option<u64>, number: i128) -> bool
 fn meets_text(alloc: Global, keywords: &Keywords, text: &Str) -> Result<bool, Memory>
     ensures { IfOk result (λ b. b ≡ asks_string matches no_entry no_parts (keywords_view keywords.now) text.now) }
 {
-    if !fits_length(alloc, keywords, text)? {
+    if asks_no_text(keywords) {
+        return Ok(true);
+    }
+    let letters = letters(alloc, text.as_text())?;
+    meets_letters(alloc, keywords, &letters)
+}
+
+fn asks_no_text(keywords: &Keywords) -> bool
+    ensures { result ≡ true → (w : List ℕ)
+        → true ≡ asks_string matches no_entry no_parts (keywords_view keywords.now) w }
+{
+    keywords.max_length.is_none() && keywords.min_length.is_none() && keywords.pattern.is_none()
+}
+
+fn meets_letters(alloc: Global, keywords: &Keywords, word: &[char]) -> Result<bool, Memory>
+    ensures { IfOk result (λ b. b ≡ asks_string matches no_entry no_parts (keywords_view keywords.now) word.now) }
+{
+    if !at_most(word.len(), keywords.max_length) || !at_least(word.len(), keywords.min_length) {
         return Ok(false);
     }
     match &keywords.pattern {
         None => Ok(true),
-        Some(pattern) => is_found(alloc, pattern, text),
+        Some(pattern) => is_found(alloc, pattern, word),
     }
-}
-
-fn fits_length(alloc: Global, keywords: &Keywords, text: &Str) -> Result<bool, Memory>
-    ensures { IfOk result (λ b. b ≡ (meets (λ n. nat_le (length text.now) n) keywords.now.max_length
-        && meets (λ n. nat_le n (length text.now)) keywords.now.min_length)) }
-{
-    if keywords.max_length.is_none() && keywords.min_length.is_none() {
-        return Ok(true);
-    }
-    let letters = letters(alloc, text.as_text())?;
-    Ok(at_most(letters.len(), keywords.max_length) && at_least(letters.len(), keywords.min_length))
 }
 
 fn at_most(count: usize, most: Option<u64>) -> bool
@@ -287,66 +295,84 @@ fn meets_members(keywords: &Keywords, here: &[bool], members: &DocMap) -> bool
     ensures { result ≡ own_object matches (flag here.now) (keywords_view keywords.now) (entries
         (map_view members.now)) }
 {
-    at_most(members.len(), keywords.max_properties)
-        && at_least(members.len(), keywords.min_properties)
-        && has_required(&keywords.required, members)
-        && meets_dependencies(&keywords.dependencies, here, members)
+    if !at_most(members.len(), keywords.max_properties)
+        || !at_least(members.len(), keywords.min_properties)
+    {
+        return false;
+    }
+    if keywords.required.is_none() && keywords.dependencies.is_none() {
+        return true;
+    }
+    let searchable = is_searchable(members);
+    has_required(&keywords.required, members, searchable)
+        && meets_dependencies(&keywords.dependencies, here, members, searchable)
 }
 
-fn has_required(names: &Option<StrList>, members: &DocMap) -> bool
+fn has_required(names: &Option<StrList>, members: &DocMap, searchable: bool) -> bool
+    requires { searchable ≡ true → names_rise (map_view members.now) ≡ true }
     ensures { result ≡ meets (every (λ w. has_name w (entries (map_view members.now)))) names.now }
 {
     match names {
         None => true,
-        Some(names) => has_names(names, members),
+        Some(names) => has_names(names, members, searchable),
     }
 }
 
-fn has_names(names: &StrList, members: &DocMap) -> bool
+fn has_names(names: &StrList, members: &DocMap, searchable: bool) -> bool
+    requires { searchable ≡ true → names_rise (map_view members.now) ≡ true }
     ensures { result ≡ every (λ w. has_name w (entries (map_view members.now))) names.now }
 {
     for name in names.as_slice() {
-        if !has_member(members, name) {
+        if !has_member(members, name, searchable) {
             return false;
         }
     }
     true
 }
 
-fn has_member(members: &DocMap, name: &Str) -> bool
-    ensures { result ≡ has_name name.now (entries (map_view members.now)) }
-{
-    members.get(name.as_text()).is_some()
-}
-
-fn meets_dependencies(list: &Option<DependencyList>, here: &[bool], members: &DocMap) -> bool
+fn meets_dependencies(
+    list: &Option<DependencyList>,
+    here: &[bool],
+    members: &DocMap,
+    searchable: bool,
+) -> bool
+    requires { searchable ≡ true → names_rise (map_view members.now) ≡ true }
     ensures { result ≡ meets (every (λ n. not (has_name n.0 (entries (map_view members.now)))
         || need_asks (flag here.now) n.1 (entries (map_view members.now)))) (option_map
         (λ ds. map dependency_view ds) list.now) }
 {
     match list {
         None => true,
-        Some(list) => meets_each_dependency(list, here, members),
+        Some(list) => meets_each_dependency(list, here, members, searchable),
     }
 }
 
-fn meets_each_dependency(list: &DependencyList, here: &[bool], members: &DocMap) -> bool
+fn meets_each_dependency(
+    list: &DependencyList,
+    here: &[bool],
+    members: &DocMap,
+    searchable: bool,
+) -> bool
+    requires { searchable ≡ true → names_rise (map_view members.now) ≡ true }
     ensures { result ≡ every (λ n. not (has_name n.0 (entries (map_view members.now)))
         || need_asks (flag here.now) n.1 (entries (map_view members.now))) (map dependency_view list.now) }
 {
     for dependency in list.as_slice() {
-        if has_member(members, &dependency.key) && !meets_needs(&dependency.needs, here, members) {
+        if has_member(members, &dependency.key, searchable)
+            && !meets_needs(&dependency.needs, here, members, searchable)
+        {
             return false;
         }
     }
     true
 }
 
-fn meets_needs(needs: &Needs, here: &[bool], members: &DocMap) -> bool
+fn meets_needs(needs: &Needs, here: &[bool], members: &DocMap, searchable: bool) -> bool
+    requires { searchable ≡ true → names_rise (map_view members.now) ≡ true }
     ensures { result ≡ need_asks (flag here.now) (needs_view needs.now) (entries (map_view members.now)) }
 {
     match needs {
-        Needs::Names(names) => has_names(names, members),
+        Needs::Names(names) => has_names(names, members, searchable),
         Needs::Whole(entry) => holds(here, *entry),
     }
 }

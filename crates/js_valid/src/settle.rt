@@ -5,7 +5,7 @@ ghost use Rattle.std.specs.Prelude.{◌≡◌, ℕ, ◌<◌, ◌&&◌, nat_eq, t
 ghost use Rattle.draft06.specs.EntryValidity.{form_at};
 ghost use Rattle.js_doc.specs.View.{view};
 ghost use Rattle.js_schema.specs.SchemaView.{schema_view};
-ghost use Rattle.js_valid.specs.Matching.{matches};
+ghost use Rattle.js_match.specs.Matching.{matches};
 ghost use Rattle.js_valid.specs.Parts.{flag, own};
 ghost use Rattle.js_valid.specs.Plan.{IsPlan, IsClosed, KnowsParts, KnowsVerdicts};
 

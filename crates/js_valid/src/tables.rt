@@ -4,7 +4,7 @@ ghost use Rattle.std.specs.Prelude.{◌≡◌, ℕ, ◌<◌, ◌&&◌, ◌||◌,
 ghost use Rattle.documents.specs.Tests.{every, some};
 ghost use Rattle.documents.specs.Measures.{exactly_one};
 ghost use Rattle.js_valid.specs.Parts.{flag, answered};
-ghost use Rattle.js_valid.specs.Places.{is_at};
+ghost use Rattle.js_match.specs.Places.{is_at};
 
 use js_doc::Memory;
 use std::alloc::Global;
@@ -37,6 +37,18 @@ pub(crate) fn one_holds(table: &[bool], entries: &[u32]) -> bool
         }
     }
     false
+}
+
+/// Whether each test is so.
+pub(crate) fn are_all(tests: &[bool]) -> bool
+    ensures { result ≡ every (λ b. b) tests.now }
+{
+    for test in tests {
+        if !*test {
+            return false;
+        }
+    }
+    true
 }
 
 /// Whether exactly one of the entries has its test.

@@ -1,6 +1,6 @@
 use Rattle.std.proofs.Common.{◌≡◌, ℕ, ◌&&◌, Bool, drop, length}
 use Rattle.js_schema.specs.SchemaView.{schema_view}
-use Rattle.js_valid.specs.Matching.{matches}
+use Rattle.js_match.specs.Matching.{matches}
 use Rattle.js_valid.specs.Parts.{asked_by, of_member}
 use Rattle.js_valid.specs.Requests.{asks_of}
 use Rattle.js_valid.proofs.ask.of_member.Given as goal

@@ -3,7 +3,7 @@ use Rattle.schemas.specs.Schema.{in_place}
 use Rattle.draft06.specs.EntryValidity.{form_at}
 use Rattle.js_schema.specs.SchemaView.{schema_view}
 use Rattle.js_valid.specs.Parts.{flag}
-use Rattle.js_valid.specs.Places.{is_at}
+use Rattle.js_match.specs.Places.{is_at}
 use Rattle.js_valid.proofs.asked.close.Given as goal
 
 abbrev pub invariant-loop-left : goal.invariant-loop-left

@@ -4,7 +4,7 @@ use Rattle.draft06.specs.EntryValidity.{form_at}
 use Rattle.js_schema.specs.SchemaView.{schema_view}
 use Rattle.js_schema.specs.View.{form_view}
 use Rattle.js_valid.specs.Parts.{flag}
-use Rattle.js_valid.specs.Places.{is_at}
+use Rattle.js_match.specs.Places.{is_at}
 use Rattle.js_valid.proofs.PlanLaws.{form_at-get}
 use Rattle.js_valid.proofs.asked.close_one.Goals as goal
 

@@ -2,7 +2,7 @@ use Rattle.std.proofs.Common.{◌≡◌, ℕ, ◌<◌, ◌||◌, drop, map, leng
 use Rattle.schemas.specs.Schema.{of_needs}
 use Rattle.js_schema.specs.View.{dependency_view}
 use Rattle.js_valid.specs.Parts.{flag}
-use Rattle.js_valid.specs.Places.{is_at}
+use Rattle.js_match.specs.Places.{is_at}
 use Rattle.js_valid.proofs.asked.mark_needs.Given as goal
 
 abbrev pub invariant-loop-dependency : goal.invariant-loop-dependency

@@ -1,18 +1,23 @@
-use Rattle.std.proofs.Common.{rules, ◌≡◌, ◌&&◌, not, map, refl, sym, ap, ◌∙◌, arith}
+use Rattle.std.proofs.Common.{rules, ◌≡◌, ◌<◌, ◌&&◌, not, map, length, [], ◌∷◌, true, false, refl, sym, ap, ◌∙◌, arith}
 use Rattle.documents.specs.Tests.{every}
 use Rattle.documents.specs.Document.{string, depth}
-use Rattle.schemas.specs.Schema.{meets}
+use Rattle.schemas.specs.Schema.{meets, lists, one, form_in_range}
 use Rattle.draft06.specs.EntryValidity.{form_at}
 use Rattle.js_doc.specs.View.{view, list_view, map_view, member_view}
 use Rattle.js_doc.proofs.Levels.{elements-of, entries-of}
 use Rattle.js_schema.specs.SchemaView.{schema_view}
-use Rattle.js_valid.specs.Matching.{matches}
+use Rattle.js_match.specs.Matching.{matches}
 use Rattle.js_valid.specs.Parts.{flag, asked_by, of_element, of_contains, of_member, of_name}
 use Rattle.js_valid.specs.Plan.{valid_at}
 use Rattle.js_valid.specs.Requests.{contained, parts_list, parts_members}
-use Rattle.js_valid.proofs.LeadsLaws.{or_right_true}
-use Rattle.js_valid.proofs.WalkLaws as W
+use Rattle.js_match.proofs.LeadsLaws.{or_right_true}
+use Rattle.js_match.proofs.WalkLaws as W
 use Rattle.js_valid.proofs.DecideLaws as D
+use Rattle.js_valid.proofs.PlainLaws as L
+use Rattle.js_valid.proofs.PlanLaws.{form_at-get, valid-past}
+use Rattle.js_valid.proofs.SearchLaws.{form-fine}
+use Rattle.js_valid.specs.Plain.{is_plain}
+use Rattle.js_schema.specs.View.{form_view}
 use Rattle.js_valid.proofs.DepthLaws.{item-depth, member-depth, view-scalar, view-Text}
 use Rattle.js_doc.specs.declared.document.Doc.TheVariants as C
 use Rattle.js_valid.proofs.decide.+decide.Goals as goal
@@ -186,14 +191,14 @@ fine_members-returns t c e h =
     ∙ ap (parts_members matches (valid_at (schema_view c.args.schema.now)) (form_at
     (schema_view c.args.schema.now) e)) (sym ms)
 
-pub verdicts-fine_parts-requires : goal.verdicts-fine_parts-requires
-verdicts-fine_parts-requires t c = (
+pub table_verdicts-fine_parts-requires : goal.table_verdicts-fine_parts-requires
+table_verdicts-fine_parts-requires t c = (
   omega (arith, c.decreases),
   (c.requires, D.owners-within _ c.close.new.asked.items c.deref-2.result.now c.close.ensures.len (search rules)),
 )
 
-pub verdicts-returns : goal.verdicts-returns
-verdicts-returns t c =
+pub table_verdicts-returns : goal.table_verdicts-returns
+table_verdicts-returns t c =
     W.ok_then c.tests_of.result _ _ (λ vs e.
     e ∙ ap (λ bs. map (flag bs) c.args.entries.now) c.deref-5.ensures.value
     ∙ D.verdicts-of (schema_view c.args.schema.now) c.args.order.now c.requires (view
@@ -209,3 +214,133 @@ fine_parts-returns-in_default t c =
     ∙ sym (D.scalar-parts (form_at (schema_view c.args.schema.now) e) (valid_at (schema_view c.args.schema.now))
     (view c.args.doc.now) (sym (view-scalar c.args.doc.now c.in_default.not-List c.in_default.not-Members))))
     c.all_fine.ensures.all
+
+-- ---- an entry that is asked alone
+
+pub are_elements_met-is_element_met-requires : goal.are_elements_met-is_element_met-requires
+are_elements_met-is_element_met-requires t c = (
+  omega (
+    arith,
+    c.decreases,
+    item-depth c.as_slice-child-items.result.now c.loop-place.place c.child-item.result (list_view c.args.list.now)
+        c.loop-place-test.true c.child-item.is c.as_slice-child-items.ensures.view,
+  ),
+  c.requires.plan,
+)
+
+pub are_elements_met-returns-then-not-branch : goal.are_elements_met-returns-then-not-branch
+are_elements_met-returns-then-not-branch t c =
+    let es = elements-of _ _ c.as_slice-child-items.ensures.view in
+    let entry = c.element_entry-entry.ensures in
+    let none : false ≡ every (λ q. valid_at (schema_view c.args.schema.now) q (view c.child-item.result))
+    (lists one c.element_entry-entry.result) = search rules in
+    let whole = D.step_each view (λ i d. every (λ q. valid_at (schema_view c.args.schema.now) q d)
+    (of_element (form_view c.args.form.now) i)) c.as_slice-child-items.result.now c.loop-place.place
+    c.child-item.result true false _ c.loop-place-test.true c.child-item.is
+    (none ∙ ap (every (λ q. valid_at (schema_view c.args.schema.now) q (view c.child-item.result))) entry)
+    c.loop-place.invariant in
+    L.plain-list (valid_at (schema_view c.args.schema.now)) (form_view c.args.form.now) c.requires.plain
+    (map view c.as_slice-child-items.result.now) false whole
+    ∙ ap (parts_list (valid_at (schema_view c.args.schema.now)) (form_view c.args.form.now)) (sym es)
+
+pub are_elements_met-loop-place-preserved : goal.are_elements_met-loop-place-preserved
+are_elements_met-loop-place-preserved t c =
+    let entry = c.element_entry-entry.ensures in
+    let all : true ≡ every (λ q. valid_at (schema_view c.args.schema.now) q (view c.child-item.result))
+    (lists one c.element_entry-entry.result) = search rules in
+    D.step_each view (λ i d. every (λ q. valid_at (schema_view c.args.schema.now) q d)
+    (of_element (form_view c.args.form.now) i)) c.as_slice-child-items.result.now c.loop-place.place
+    c.child-item.result true true _ c.loop-place-test.true c.child-item.is
+    (all ∙ ap (every (λ q. valid_at (schema_view c.args.schema.now) q (view c.child-item.result))) entry)
+    c.loop-place.invariant
+
+pub are_elements_met-returns : goal.are_elements_met-returns
+are_elements_met-returns t c =
+    let es = elements-of _ _ c.as_slice-child-items.ensures.view in
+    let whole = D.end_each view (λ i d. every (λ q. valid_at (schema_view c.args.schema.now) q d)
+    (of_element (form_view c.args.form.now) i)) c.as_slice-child-items.result.now c.loop-place.place true _
+    (omega (arith, c.loop-place-test.false)) c.loop-place.invariant in
+    L.plain-list (valid_at (schema_view c.args.schema.now)) (form_view c.args.form.now) c.requires.plain
+    (map view c.as_slice-child-items.result.now) true whole
+    ∙ ap (parts_list (valid_at (schema_view c.args.schema.now)) (form_view c.args.form.now)) (sym es)
+
+pub are_members_met-is_member_met-requires : goal.are_members_met-is_member_met-requires
+are_members_met-is_member_met-requires t c = (
+  omega (
+    arith,
+    c.decreases,
+    member-depth c.as_slice-member-items.result.now c.loop-member.member-index c.member-item.result
+        (map_view c.args.members.now) c.loop-member-test.true c.member-item.is c.as_slice-member-items.ensures.view,
+  ),
+  (c.requires.plan, c.requires.range),
+)
+
+pub are_members_met-returns-then-not-branch : goal.are_members_met-returns-then-not-branch
+are_members_met-returns-then-not-branch t c =
+    let ms = entries-of _ _ c.as_slice-member-items.ensures.view in
+    let none : false ≡ every (λ q. valid_at (schema_view c.args.schema.now) q (member_view c.member-item.result).1)
+    (of_member matches (form_view c.args.form.now) (member_view c.member-item.result).0) = search rules in
+    let whole = D.step_every member_view (λ m. every (λ q. valid_at (schema_view c.args.schema.now) q m.1)
+    (of_member matches (form_view c.args.form.now) m.0)) c.as_slice-member-items.result.now
+    c.loop-member.member-index c.member-item.result true false _ c.loop-member-test.true c.member-item.is none
+    c.loop-member.invariant in
+    L.plain-members (valid_at (schema_view c.args.schema.now)) (form_view c.args.form.now) c.requires.plain
+    (map member_view c.as_slice-member-items.result.now) false whole
+    ∙ ap (parts_members matches (valid_at (schema_view c.args.schema.now)) (form_view c.args.form.now)) (sym ms)
+
+pub are_members_met-returns : goal.are_members_met-returns
+are_members_met-returns t c =
+    let ms = entries-of _ _ c.as_slice-member-items.ensures.view in
+    let whole = D.end_every member_view (λ m. every (λ q. valid_at (schema_view c.args.schema.now) q m.1)
+    (of_member matches (form_view c.args.form.now) m.0)) c.as_slice-member-items.result.now
+    c.loop-member.member-index true _ (omega (arith, c.loop-member-test.false)) c.loop-member.invariant in
+    L.plain-members (valid_at (schema_view c.args.schema.now)) (form_view c.args.form.now) c.requires.plain
+    (map member_view c.as_slice-member-items.result.now) true whole
+    ∙ ap (parts_members matches (valid_at (schema_view c.args.schema.now)) (form_view c.args.form.now)) (sym ms)
+
+pub is_each_met-returns : goal.is_each_met-returns
+is_each_met-returns t c =
+    c.are_all.ensures ∙ ap (every (λ b. b)) (c.deref.ensures.value ∙ c.in_ok-verdicts.ensures)
+    ∙ L.every-mapped (λ q. valid_at (schema_view c.args.schema.now) q (view c.args.doc.now)) c.args.entries.now
+
+pub is_met-returns-then-target-len : goal.is_met-returns-then-target-len
+is_met-returns-then-target-len t c =
+    sym (sym (c.target_of-target.ensures c.args.order.now c.requires (view c.args.doc.now))
+    ∙ valid-past (schema_view c.args.schema.now) c.args.order.now c.requires c.target_of-target.result
+    (view c.args.doc.now) (omega (arith, c.len.ensures.value, c.if-target-len.true)))
+
+pub is_met-meets_plain-requires : goal.is_met-meets_plain-requires
+is_met-meets_plain-requires t c =
+    let less : c.target_of-target.result < length (schema_view c.args.schema.now) = omega
+    (arith, c.len.ensures.value, c.if-target-len.false) in
+    let form = form_at-get (schema_view c.args.schema.now) c.target_of-target.result (form_view c.form-form.result.now)
+    less c.form-form.ensures in (
+      omega (arith, c.decreases),
+      (
+        c.requires,
+        (
+          search rules,
+          ap form_in_range form
+              ∙ form-fine (schema_view c.args.schema.now) c.target_of-target.result c.requires.table less,
+        ),
+      ),
+    )
+
+pub is_met-returns-then-is_plain : goal.is_met-returns-then-is_plain
+is_met-returns-then-is_plain t c =
+    let less : c.target_of-target.result < length (schema_view c.args.schema.now) = omega
+    (arith, c.len.ensures.value, c.if-target-len.false) in
+    let form = form_at-get (schema_view c.args.schema.now) c.target_of-target.result (form_view c.form-form.result.now)
+    less c.form-form.ensures in
+    let plain : is_plain (form_view c.form-form.result.now) ≡ true = search rules in
+    W.ok_then c.meets_plain.result _ _
+    (λ b e. e ∙ L.plain-valid (schema_view c.args.schema.now) c.args.order.now c.requires c.target_of-target.result
+    (form_view c.form-form.result.now) (view c.args.doc.now) form plain
+    ∙ c.target_of-target.ensures c.args.order.now c.requires (view c.args.doc.now)) c.meets_plain.ensures
+
+pub is_met-returns : goal.is_met-returns
+is_met-returns t c =
+    let same = c.target_of-target.ensures c.args.order.now c.requires (view c.args.doc.now) in
+    let table : c.deref.result.now ≡ valid_at (schema_view c.args.schema.now) c.target_of-target.result
+    (view c.args.doc.now) ∷ [] = search rules in
+    c.holds.ensures ∙ ap (λ bs. flag bs 0) table ∙ same

@@ -3,7 +3,7 @@ use Rattle.std.specs.List.{Contains}
 use Rattle.std.specs.List.Sorted.{IsSortedByKey}
 use Rattle.std.specs.Ordering.{nat_cmp}
 use Rattle.std.proofs.lemmas.List.Sorted.{answers_always}
-use Rattle.js_valid.proofs.WalkLaws as W
+use Rattle.js_match.proofs.WalkLaws as W
 use Rattle.js_valid.proofs.OrderLaws.{sorted-all, sorted-only, sorted-rises}
 use Rattle.js_valid.proofs.order.order_of.Goals as goal
 

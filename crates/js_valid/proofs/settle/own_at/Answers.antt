@@ -2,10 +2,10 @@ use Rattle.std.proofs.Common.{ap, ◌∙◌}
 use Rattle.js_doc.specs.View.{view}
 use Rattle.js_schema.specs.View.{form_view}
 use Rattle.js_schema.specs.SchemaView.{schema_view}
-use Rattle.js_valid.specs.Matching.{matches}
+use Rattle.js_match.specs.Matching.{matches}
 use Rattle.js_valid.specs.Parts.{flag, own}
 use Rattle.js_valid.proofs.PlanLaws.{form_at-get}
-use Rattle.js_valid.proofs.WalkLaws as W
+use Rattle.js_match.proofs.WalkLaws as W
 use Rattle.js_valid.proofs.settle.own_at.Goals as goal
 
 pub returns : goal.returns

@@ -1,6 +1,6 @@
 use Rattle.std.proofs.Common.{◌≡◌, ℕ, ◌<◌, ◌||◌, drop, length}
 use Rattle.js_valid.specs.Parts.{flag}
-use Rattle.js_valid.specs.Places.{is_at}
+use Rattle.js_match.specs.Places.{is_at}
 use Rattle.js_valid.proofs.tables.mark_all.Given as goal
 
 abbrev pub invariant-loop-entry : goal.invariant-loop-entry

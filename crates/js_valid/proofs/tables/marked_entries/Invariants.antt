@@ -1,6 +1,6 @@
 use Rattle.std.proofs.Common.{◌≡◌, ℕ, ◌&&◌, nat_lt}
 use Rattle.js_valid.specs.Parts.{flag}
-use Rattle.js_valid.specs.Places.{is_at}
+use Rattle.js_match.specs.Places.{is_at}
 use Rattle.js_valid.proofs.tables.marked_entries.Given as goal
 
 abbrev pub invariant-loop-place : goal.invariant-loop-place

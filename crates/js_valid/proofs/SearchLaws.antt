@@ -1,0 +1,144 @@
+-- A binary search among properties whose names rise finds what a look at each of them does.
+use Rattle.std.proofs.Common.{◌≡◌, inr, ℕ, zero, suc, ◌<◌, ◌+◌, ◌≤◌, List, [], ◌∷◌, map, drop, drop-cons, add-one, length, get_or, Bool, true, false, ◌&&◌, cond, nat_eq, Option, Some, None, refl, sym, ap, ap₂, ◌∙◌, arith, true≢false}
+use Rattle.std.proofs.lemmas.Bool.{and_parts}
+use Rattle.std.proofs.lemmas.Slice.Eq.{bytes_eq-Decides}
+use Rattle.std.proofs.Math.ListN.{length-map}
+use Rattle.documents.specs.Tests.{every, same_word, comes_before}
+use Rattle.schemas.specs.Entry.{Entry, Keywords}
+use Rattle.schemas.specs.Weight.{most_weight}
+use Rattle.schemas.specs.Schema.{lists, meets, one, is_ascending, is_word, are_keys, is_table, form_in_range, is_in_range, is_filled, is_count, are_needs, total_size}
+use Rattle.std.specs.Prelude.{nat_le}
+use Rattle.draft06.specs.EntryValidity.{form_at}
+use Rattle.js_doc.proofs.Lookups.{same_word-bytes_eq}
+use Rattle.js_doc.proofs.Search.{rise, names, find_in, rising, absent}
+use Rattle.documents.specs.Document.{Members, member, members_of, is_before, names_rise}
+use Rattle.js_doc.specs.declared.document.Member.{Member}
+use Rattle.js_doc.specs.View.{member_view}
+use Rattle.js_valid.specs.Parts.{of_named}
+
+abbrev of_word : List ℕ → List (List ℕ × ℕ) → List ℕ
+of_word w ps = of_named (λ n. same_word n w) ps
+
+word-turned : (v w : List ℕ) → same_word v w ≡ same_word w v
+word-turned [] [] = refl
+word-turned [] (y ∷ ys) = refl
+word-turned (x ∷ xs) [] = refl
+word-turned (x ∷ xs) (y ∷ ys) = ap₂ (λ a b. a && b) (turned x y) (word-turned xs ys)
+  where
+    turned : (x y : ℕ) → nat_eq x y ≡ nat_eq y x
+    turned x y = grind arith
+
+abbrev is_none : Option ℕ → Bool
+is_none None = true
+is_none (Some x) = false
+
+pub ascending-rise : (ks : List (List ℕ)) → is_ascending ks ≡ rise ks
+ascending-rise [] = refl
+ascending-rise (w ∷ []) = refl
+ascending-rise (w ∷ x ∷ ws) = ap (λ b. comes_before w x && b) (ascending-rise (x ∷ ws))
+
+none-named : (ps : List (List ℕ × ℕ)) (w : List ℕ) → find_in w ps ≡ None → of_word w ps ≡ []
+none-named [] w h = refl
+none-named (p ∷ ps) w h = go (same_word w p.0) refl (none-named ps w)
+  where
+    go : (b : Bool) → same_word w p.0 ≡ b → (find_in w ps ≡ None → of_word w ps ≡ [])
+        → of_word w (p ∷ ps) ≡ []
+    go true k again =
+        absurd (true≢false (sym (ap is_none (sym (ap (λ b. cond b (Some p.1) (find_in w ps)) k) ∙ h))))
+    go false k again =
+        ap (λ b. cond b (p.1 ∷ of_word w ps) (of_word w ps)) (word-turned p.0 w ∙ k)
+        ∙ again (sym (ap (λ b. cond b (Some p.1) (find_in w ps)) k) ∙ h)
+
+-- at most one property has the name
+pub found-named : (ps : List (List ℕ × ℕ)) (w : List ℕ) → rise (names ps) ≡ true
+    → lists one (find_in w ps) ≡ of_word w ps
+found-named [] w r = refl
+found-named (p ∷ ps) w r =
+    go (same_word w p.0) refl (found-named ps w (and_parts _ (rise (names ps)) r).1)
+  where
+    alone : same_word w p.0 ≡ true → of_word w ps ≡ []
+    alone k =
+        let same = (bytes_eq-Decides w p.0).0 (sym (same_word-bytes_eq w p.0) ∙ k) in
+        none-named ps w (absent ps w (λ j less. inr
+        (ap (λ v. comes_before v (get_or (names ps) j [])) same
+        ∙ rising (names (p ∷ ps)) r 0 (suc j) (omega arith) (omega (arith, less, length-map ps (λ m. m.0))))))
+
+    go : (b : Bool) → same_word w p.0 ≡ b → lists one (find_in w ps) ≡ of_word w ps
+        → lists one (find_in w (p ∷ ps)) ≡ of_word w (p ∷ ps)
+    go true k again =
+        ap (λ b. lists one (cond b (Some p.1) (find_in w ps))) k
+        ∙ sym (ap (λ b. cond b (p.1 ∷ of_word w ps) (of_word w ps)) (word-turned p.0 w ∙ k)
+        ∙ ap (λ qs. p.1 ∷ qs) (alone k))
+    go false k again =
+        ap (λ b. lists one (cond b (Some p.1) (find_in w ps))) k ∙ again
+        ∙ sym (ap (λ b. cond b (p.1 ∷ of_word w ps) (of_word w ps)) (word-turned p.0 w ∙ k))
+
+pub keys-rise : (ps : List (List ℕ × ℕ)) → are_keys ps ≡ true → rise (names ps) ≡ true
+keys-rise ps h =
+    let both = and_parts (every (λ n. is_word n.0) ps) (is_ascending (map (λ n. n.0) ps)) h in
+    sym (ascending-rise (map (λ n. n.0) ps)) ∙ both.1
+
+-- ---- forms of a table
+
+form_fine : (es : List Entry) (e : ℕ) → every (λ e. form_in_range e.form) es ≡ true → e < length es
+    → form_in_range (form_at es e) ≡ true
+form_fine [] e h l = absurd (omega (arith, l))
+form_fine (f ∷ fs) zero h l = (and_parts (form_in_range f.form) (every (λ e. form_in_range e.form) fs) h).0
+form_fine (f ∷ fs) (suc e) h l =
+    form_fine fs e (and_parts (form_in_range f.form) (every (λ e. form_in_range e.form) fs) h).1 (omega (arith, l))
+
+pub form-fine : (es : List Entry) (e : ℕ) → is_table es ≡ true → e < length es → form_in_range (form_at es e) ≡ true
+form-fine es e h l =
+    let weight = and_parts _ (nat_le (total_size es) most_weight) h in
+    let range = and_parts _ (every (λ e. form_in_range e.form) es) weight.0 in
+    form_fine es e range.1 l
+
+-- the names of properties
+pub keys-fine : (k : Keywords) → is_in_range k ≡ true → meets are_keys k.properties ≡ true
+keys-fine k h =
+    let a = and_parts _ (meets is_filled k.one_of) h in
+    let b = and_parts _ (meets is_filled k.any_of) a.0 in
+    let c = and_parts _ (meets is_filled k.all_of) b.0 in
+    let d = and_parts _ (meets is_count k.max_properties) c.0 in
+    let e = and_parts _ (meets is_count k.min_properties) d.0 in
+    let f = and_parts _ (meets are_needs k.dependencies) e.0 in
+    let g = and_parts _ (meets are_keys k.pattern_properties) f.0 in
+    (and_parts _ (meets are_keys k.properties) g.0).1
+
+-- ---- members
+
+-- members from a place on, of which the first is seen
+pub members-from : (items : List Member) (i : ℕ) (x : Member) → i < length items → x ≡ get_or items i x
+    → members_of (map member_view (drop i items))
+    ≡ member (member_view x).0 (member_view x).1 (members_of (map member_view (drop (i + 1) items)))
+members-from items i x less is = rw (add-one, drop-cons items i x, ← is) refl
+
+pub rise-step : (items : List Member) (i : ℕ) (x : Member) (whole : Members) → i < length items → x ≡ get_or items i x
+    → is_before (member_view x).0 (members_of (map member_view (drop (i + 1) items))) ≡ true
+    → (names_rise (members_of (map member_view (drop i items))) ≡ true → names_rise whole ≡ true)
+    → names_rise (members_of (map member_view (drop (i + 1) items))) ≡ true → names_rise whole ≡ true
+rise-step items i x whole less is before rest h =
+    rest (ap names_rise (members-from items i x less is) ∙ ap (λ b. b && names_rise (members_of (map member_view (drop
+    (i + 1) items)))) before ∙ h)
+
+pub rise-end : (items : List Member) (i : ℕ) (whole : Members) → length items ≤ i
+    → (names_rise (members_of (map member_view (drop i items))) ≡ true → names_rise whole ≡ true)
+    → names_rise whole ≡ true
+rise-end items i whole le rest = rest (ap (λ xs. names_rise (members_of (map member_view xs))) (nothing_left items i le))
+  where
+    nothing_left : (items : List Member) (i : ℕ) → length items ≤ i → drop i items ≡ []
+    nothing_left [] zero h = refl
+    nothing_left [] (suc i) h = refl
+    nothing_left (x ∷ items) zero h = absurd (omega (arith, h))
+    nothing_left (x ∷ items) (suc i) h = nothing_left items i (omega (arith, h))
+
+pub before-none : (items : List Member) (k : List ℕ) (i : ℕ) → length items ≤ i
+    → is_before k (members_of (map member_view (drop i items))) ≡ true
+before-none [] k zero h = refl
+before-none [] k (suc i) h = refl
+before-none (x ∷ items) k zero h = absurd (omega (arith, h))
+before-none (x ∷ items) k (suc i) h = before-none items k i (omega (arith, h))
+
+pub before-next : (items : List Member) (k : List ℕ) (i : ℕ) (x : Member) → i < length items → x ≡ get_or items i x
+    → comes_before k (member_view x).0 ≡ true → is_before k (members_of (map member_view (drop i items))) ≡ true
+before-next items k i x less is h = ap (is_before k) (members-from items i x less is) ∙ h

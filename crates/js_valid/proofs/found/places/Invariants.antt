@@ -1,6 +1,0 @@
-use Rattle.std.proofs.Common.{◌≡◌, ℕ, nat_lt}
-use Rattle.js_valid.specs.Places.{is_at}
-use Rattle.js_valid.proofs.found.places.Given as goal
-
-abbrev pub invariant-loop-place : goal.invariant-loop-place
-invariant-loop-place l = (j : ℕ) → is_at j l.places.items ≡ nat_lt j l.place

@@ -1,0 +1,21 @@
+-- Forms whose verdict hangs on no other entry's verdict on the same document.
+use Rattle.std.specs.Prelude.{ℕ, Bool, true, false, ◌&&◌, Option, Some, None}
+use Rattle.schemas.specs.Entry.{Form, Always, Never, Ref, Asks}
+
+abbrev pub is_absent : {A : Type 0} → Option A → Bool
+is_absent None = true
+is_absent (Some x) = false
+
+-- nothing in place, no `contains` and no `propertyNames`: each part is asked for by one keyword's schemas
+abbrev pub is_plain : Form → Bool
+is_plain Always = true
+is_plain Never = true
+is_plain (Ref e) = false
+is_plain (Asks k) =
+    is_absent k.all_of && is_absent k.any_of && is_absent k.one_of && is_absent k.not && is_absent k.dependencies
+    && is_absent k.contains && is_absent k.property_names
+
+-- the entry that a form refers to
+abbrev pub reference : Form → Option ℕ
+reference (Ref e) = Some e
+reference f = None
