@@ -1,15 +1,14 @@
 -- A table that is made entry by entry is the normal form.
-use Rattle.std.proofs.Common.{◌≡◌, ℕ, zero, suc, ◌+◌, ◌-◌, ◌<◌, ◌≤◌, List, [], ◌∷◌, ◌++◌, length, map, drop, get_or, Bool, true, ◌&&◌, refl, sym, ap, ap₂, ◌∙◌, arith, append_assoc, length-append, add-zero}
-use Rattle.std.proofs.lemmas.Bool.{and_parts}
-use Rattle.std.proofs.lemmas.List.{append-nil, map-append, length-map, drop_more, drop_all}
+use Rattle.std.proofs.Common.{◌≡◌, ℕ, zero, suc, ◌+◌, ◌-◌, ◌<◌, ◌≤◌, List, [], ◌∷◌, ◌++◌, length, map, drop, get_or, true, nat_lt, refl, sym, ap, ap₂, ◌∙◌, arith, append_assoc, length-append, add-zero}
+use Rattle.std.proofs.lemmas.Bool.{and_parts, ltb-true}
+use Rattle.std.proofs.lemmas.List.{append-nil, length-map, drop_more, drop_all}
 use Rattle.documents.specs.Tests.{every}
 use Rattle.schemas.specs.Entry.{Keywords, Form, Asks, Entry}
 use Rattle.schemas.specs.Guarded.{edges, are_ranks}
-use Rattle.schemas.specs.Schema.{form_in_range, names_below, total_size, is_table}
-use Rattle.schemas.specs.Weight.{most_weight}
+use Rattle.schemas.specs.Schema.{form_in_range, names_below, is_table}
 use Rattle.schema_laws.proofs.Ranks.{are_ranks-length}
 use Rattle.positions.specs.Position.{Position, All}
-use Rattle.normal_forms.specs.Nodes.{Nodes, after}
+use Rattle.normal_forms.specs.Nodes.{after}
 use Rattle.normal_forms.specs.KeywordNodes.{keyword_nodes}
 use Rattle.normal_forms.specs.NormalForm.{form_nodes, entry_position, entry_positions, all_nodes, node_rank, entry_rank, numbered, node_ranks, table_of, ranks_of}
 use Rattle.js_algebra.specs.View.{node_view, places}
@@ -72,15 +71,18 @@ whole-made es rs l =
     ∙ ap (λ k. made (length es) (entry_positions tree_of k es) (all_nodes tree_of k es) (map entry_rank rs)
     (node_ranks tree_of k es rs)) (add-zero (length es))
 
-pub positions-made : (es : List Entry) (rs : List ℕ) (m : Made) → length rs ≡ length es
-    → m ≡ with_all (forms es) rs (start es) → m.entries ++ m.nodes ≡ table_of tree_of es
-unfolding table_of
-positions-made es rs m l e = ap (λ x. x.entries ++ x.nodes) (e ∙ whole-made es rs l)
+-- the table that the entries and then the nodes make
+pub record IsWhole (es : List Entry) (rs : List ℕ) (m : Made) : Type 0 where
+  pub positions : m.entries ++ m.nodes ≡ table_of tree_of es
+  pub ranks : m.entry_ranks ++ m.node_ranks ≡ ranks_of tree_of es rs
 
-pub ranks-made : (es : List Entry) (rs : List ℕ) (m : Made) → length rs ≡ length es
-    → m ≡ with_all (forms es) rs (start es) → m.entry_ranks ++ m.node_ranks ≡ ranks_of tree_of es rs
-unfolding ranks_of
-ranks-made es rs m l e = ap (λ x. x.entry_ranks ++ x.node_ranks) (e ∙ whole-made es rs l)
+is_whole : (es : List Entry) (rs : List ℕ) (m : Made) → length rs ≡ length es
+    → m ≡ with_all (forms es) rs (start es) → IsWhole es rs m
+unfolding table_of ranks_of
+is_whole es rs m l e = record {
+  positions = ap (λ x. x.entries ++ x.nodes) (e ∙ whole-made es rs l);
+  ranks = ap (λ x. x.entry_ranks ++ x.node_ranks) (e ∙ whole-made es rs l);
+}
 
 -- entries of a loop
 pub all-step : (fs : List Form) (rs : List ℕ) (i : ℕ) (f : Form) (r : ℕ) (m t u : Made) → i < length fs → i < length rs
@@ -175,6 +177,14 @@ more-nodes first old new added e =
 pub ranks-count : (es : List Entry) (rs : List ℕ) → are_ranks (edges es) rs ≡ true → length rs ≡ length es
 ranks-count es rs h = are_ranks-length (edges es) rs h ∙ edges-length es
 
+-- at the end of a loop over the entries
+pub whole : (es : List Entry) (rs : List ℕ) (i : ℕ) (m : Made) → are_ranks (edges es) rs ≡ true → length es ≤ i
+    → with_all (forms es) rs (start es) ≡ with_all (drop i (forms es)) (drop i rs) m → IsWhole es rs m
+whole es rs i m h l a =
+    let count = length-map es (λ e. e.form) in
+    let past : length (forms es) ≤ i = omega (arith, count, l) in
+    is_whole es rs m (ranks-count es rs h) (all-end (forms es) rs i m (with_all (forms es) rs (start es)) past a)
+
 -- the form of an entry has its range
 pub form-ranged : (es : List Entry) (i : ℕ) (f : Form) → every (λ e. form_in_range e.form) es ≡ true → i < length es
     → f ≡ get_or (forms es) i f → form_in_range f ≡ true
@@ -188,3 +198,10 @@ form-ranged (x ∷ es) (suc i) f h l e =
 pub entries-ranged : (es : List Entry) → is_table es ≡ true → every (λ e. form_in_range e.form) es ≡ true
 entries-ranged es h =
     let weight = and_parts _ _ h in (and_parts _ (every (λ e. form_in_range e.form) es) weight.0).1
+
+pub table-root : (es : List Entry) → is_table es ≡ true → 0 < length es
+table-root es h =
+    let weight = and_parts _ _ h in
+    let ranged = and_parts _ (every (λ e. form_in_range e.form) es) weight.0 in
+    let named = and_parts (nat_lt 0 (length es)) (every (λ e. names_below (length es) e.form) es) ranged.0 in
+    ltb-true 0 (length es) named.0

@@ -3,7 +3,7 @@
 //! What a maker of `normal_forms` appends, a function of this crate pushes; and the numbers that the maker names, it
 //! adds to a list that its caller hands it. `run` of `specs/Runs.antt` says both at once.
 
-ghost use Rattle.std.specs.Prelude.{◌≡◌, ◌+◌, [], map, length, IfOk, OnOk};
+ghost use Rattle.std.specs.Prelude.{◌≡◌, ◌+◌, [], length, IfOk, OnOk};
 ghost use Rattle.js_algebra.specs.View.{node_view};
 ghost use Rattle.normal_forms.specs.Nodes as M;
 ghost use Rattle.js_normal.specs.Runs.{run};

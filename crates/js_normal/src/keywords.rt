@@ -82,9 +82,17 @@ fn number_nodes(
 {
     optional(single::multiple_of(keywords.multiple_of), builder, named)?;
     optional(single::minimum(keywords.minimum), builder, named)?;
-    optional(single::exclusive_minimum(keywords.exclusive_minimum), builder, named)?;
+    optional(
+        single::exclusive_minimum(keywords.exclusive_minimum),
+        builder,
+        named,
+    )?;
     optional(single::maximum(keywords.maximum), builder, named)?;
-    optional(single::exclusive_maximum(keywords.exclusive_maximum), builder, named)
+    optional(
+        single::exclusive_maximum(keywords.exclusive_maximum),
+        builder,
+        named,
+    )
 }
 
 fn string_nodes(
@@ -110,7 +118,13 @@ fn array_nodes(
     ensures { OnOk result (state_of builder.new named.new.items
         ≡ run (W.array_nodes tree_of (keywords_view keywords.now)) (state_of builder.old named.old.items)) }
 {
-    items(alloc, &keywords.items, keywords.additional_items, builder, named)?;
+    items(
+        alloc,
+        &keywords.items,
+        keywords.additional_items,
+        builder,
+        named,
+    )?;
     optional(single::contains(keywords.contains), builder, named)?;
     optional(single::min_items(keywords.min_items), builder, named)?;
     optional(single::max_items(keywords.max_items), builder, named)
@@ -129,7 +143,11 @@ fn member_nodes(
     properties(alloc, &keywords.properties, builder, named)?;
     pattern_properties(alloc, &keywords.pattern_properties, builder, named)?;
     optional(additional_properties(alloc, keywords)?, builder, named)?;
-    optional(single::property_names(keywords.property_names), builder, named)?;
+    optional(
+        single::property_names(keywords.property_names),
+        builder,
+        named,
+    )?;
     dependencies(alloc, &keywords.dependencies, builder, named)
 }
 
@@ -141,8 +159,16 @@ fn count_nodes(
     ensures { OnOk result (state_of builder.new named.new.items
         ≡ run (W.count_nodes tree_of (keywords_view keywords.now)) (state_of builder.old named.old.items)) }
 {
-    optional(single::min_properties(keywords.min_properties), builder, named)?;
-    optional(single::max_properties(keywords.max_properties), builder, named)
+    optional(
+        single::min_properties(keywords.min_properties),
+        builder,
+        named,
+    )?;
+    optional(
+        single::max_properties(keywords.max_properties),
+        builder,
+        named,
+    )
 }
 
 /// Of schemas that are asked of the same document.
@@ -439,10 +465,7 @@ fn patterns_of(
     }
 }
 
-fn copied_patterns(
-    alloc: Global,
-    properties: &PatternPropertyList,
-) -> Result<PatternList, Memory>
+fn copied_patterns(alloc: Global, properties: &PatternPropertyList) -> Result<PatternList, Memory>
     ensures { IfOk result (λ rs. map pattern_view rs
         ≡ map (W.pattern_of tree_of) (map (λ p. p.0) (pattern_properties_view properties.now))) }
 {

@@ -5,8 +5,13 @@
 //! and among an entry's nodes its number; the entry itself lies above its nodes.
 
 ghost use Rattle.std.specs.Prelude.{◌≡◌, ◌+◌, ◌-◌, ◌^◌, ◌<◌, ◌≤◌, ◌++◌, [], true, map, length, IfOk, OnOk};
+ghost use Rattle.documents.specs.Document.{Document, is_document};
+ghost use Rattle.patterns.specs.Decision.{finds};
 ghost use Rattle.schemas.specs.Guarded.{edges, are_ranks};
 ghost use Rattle.schemas.specs.Schema.{form_in_range};
+ghost use Rattle.draft06.specs.EntryValidity.{entry_valid};
+ghost use Rattle.positions.specs.Holds.{holds};
+ghost use Rattle.positions.specs.Position.{is_table};
 ghost use Rattle.normal_forms.specs.NormalForm as N;
 ghost use Rattle.js_algebra.specs.View.{node_view};
 ghost use Rattle.js_schema.specs.View.{form_view};
@@ -22,29 +27,22 @@ use js_guard::Ranks;
 use js_schema::{Form, Schema};
 use std::alloc::Global;
 
-/// The core table of a schema whose entries have these ranks. Position `e` is that of entry `e`. It takes time and
-/// memory in proportion to the schema, and to a copy of the names beside each `additionalProperties`.
+/// The core table of a schema whose entries have these ranks. Position `e` is that of entry `e`, so position 0 is the
+/// schema itself. It takes time and memory in proportion to the schema, and to a copy of the names and patterns beside
+/// each `additionalProperties`.
 pub fn normalise(alloc: Global, schema: &Schema, ranks: &Ranks) -> Result<Core, Memory>
     requires { are_ranks (edges (schema_view schema.now)) ranks.now ≡ true }
     ensures positions { IfOk result (λ c. c.positions ≡ N.table_of tree_of (schema_view schema.now)) }
     ensures ranks { IfOk result (λ c. c.ranks ≡ N.ranks_of tree_of (schema_view schema.now) ranks.now) }
     ensures small { IfOk result (λ c. length c.positions < 2 ^ 31) }
+    ensures valid { IfOk result (λ c. (J : Document) → is_document J ≡ true → holds c.positions 0 J
+        ≡ entry_valid (λ t. finds (tree_of t)) (schema_view schema.now) 0 J) }
 {
     let mut parts = Parts::new(alloc, schema.len());
     for entry in 0..schema.len() {
         parts.add_entry(alloc, schema.form(entry), ranks.rank(entry))?;
     }
-    let Parts {
-        mut entries,
-        mut entry_ranks,
-        builder,
-        mut node_ranks,
-    } = parts;
-    let mut nodes = builder.into_nodes();
-    entries.append(&mut nodes)?;
-    entry_ranks.append(&mut node_ranks)?;
-    let table = NodeList::from_vec(entries);
-    Ok(Core::make(table, RankList::from_vec(entry_ranks)))
+    parts.into_core()
 }
 
 /// The positions of some entries, and the nodes that these need, with their ranks.
@@ -84,6 +82,26 @@ impl Parts {
         self.entries.push(entry)?;
         self.entry_ranks.push(entry_rank(rank))?;
         add_ranks(rank, from, to, &mut self.node_ranks)
+    }
+
+    /// The table of the entries and then the nodes.
+    fn into_core(self) -> Result<Core, Memory>
+        requires table { is_table ((made_of self).entries ++ (made_of self).nodes)
+            ((made_of self).entry_ranks ++ (made_of self).node_ranks) ≡ true }
+        requires small { length ((made_of self).entries ++ (made_of self).nodes) < 2 ^ 32 }
+        ensures positions { IfOk result (λ c. c.positions ≡ (made_of self).entries ++ (made_of self).nodes) }
+        ensures ranks { IfOk result (λ c. c.ranks ≡ (made_of self).entry_ranks ++ (made_of self).node_ranks) }
+    {
+        let Parts {
+            mut entries,
+            mut entry_ranks,
+            builder,
+            mut node_ranks,
+        } = self;
+        entries.append(&mut builder.into_nodes())?;
+        entry_ranks.append(&mut node_ranks)?;
+        let nodes = NodeList::from_vec(entries);
+        Ok(Core::make(nodes, RankList::from_vec(entry_ranks)))
     }
 }
 

@@ -2,7 +2,7 @@
 //!
 //! One call a level of the value, and time and memory in proportion to it.
 
-ghost use Rattle.std.specs.Prelude.{◌≡◌, ◌∷◌, [], map, IfOk, OnOk};
+ghost use Rattle.std.specs.Prelude.{◌≡◌, ◌∷◌, [], IfOk, OnOk};
 ghost use Rattle.documents.specs.Document as D;
 ghost use Rattle.js_doc.specs.View.{view, list_view, map_view, member_view};
 ghost use Rattle.normal_forms.specs.Nodes as M;

@@ -1,11 +1,8 @@
-use Rattle.std.proofs.Common.{ℕ, ◌+ℤ◌, ◌-ℤ◌, pos, map, option_map, ◌∙◌}
+use Rattle.std.proofs.Common.{map, option_map, ◌∙◌}
 use Rattle.std.proofs.lemmas.Result.{IfOk-equal}
-use Rattle.positions.specs.Position.{All, Any, One, Not, Types, NumMin, NumMax, Multiple, Match, LengthMin, LengthMax, Contains, CountMin, CountMax, MembersOf, PropsMin, PropsMax, NamesIn}
-use Rattle.normal_forms.specs.KeywordNodes.{kinds_of, pattern_of, others_of}
+use Rattle.positions.specs.Position.{Types}
+use Rattle.normal_forms.specs.KeywordNodes.{kinds_of}
 use Rattle.js_keywords.specs.TypeView.{type_view}
-use Rattle.js_schema.specs.Patterns.{source_of}
-use Rattle.js_schema.specs.View.{keywords_view}
-use Rattle.js_normal.specs.PatternTrees.{tree_of}
 use Rattle.js_normal.proofs.RunLemmas.{chain, chain-end, run-optional}
 use Rattle.js_normal.proofs.keywords.any_nodes.Goals as goal
 

@@ -1,5 +1,5 @@
-use Rattle.std.proofs.Common.{◌≡◌, ◌<◌, ◌≤◌, map, length, arith, sym, ap, ap₂, ◌∙◌}
-use Rattle.normal_forms.specs.Nodes.{node, each}
+use Rattle.std.proofs.Common.{◌<◌, ◌≤◌, map, length, arith, ap, ◌∙◌}
+use Rattle.normal_forms.specs.Nodes.{each}
 use Rattle.normal_forms.specs.KeywordNodes.{dependency_node}
 use Rattle.js_schema.specs.View.{dependency_view}
 use Rattle.js_normal.specs.Runs.{run}

@@ -1,6 +1,6 @@
-use Rattle.std.proofs.Common.{◌≡◌, ◌<◌, ◌≤◌, map, length, arith, sym, ap, ap₂, ◌∙◌}
+use Rattle.std.proofs.Common.{◌<◌, ◌≤◌, map, length, arith, ap, ◌∙◌}
 use Rattle.normal_forms.specs.Nodes.{node, each}
-use Rattle.positions.specs.Position.{Has, MembersOf, Named, Matching}
+use Rattle.positions.specs.Position.{Has}
 use Rattle.js_normal.proofs.RunLemmas.{map-same}
 use Rattle.js_normal.specs.Runs.{run}
 use Rattle.js_normal.specs.BuilderView.{state_of}

@@ -1,6 +1,6 @@
 use Rattle.std.proofs.Common.{◌≡◌, map, drop}
 use Rattle.normal_forms.specs.Nodes.{node, each}
-use Rattle.positions.specs.Position.{Has, MembersOf, Named, Matching}
+use Rattle.positions.specs.Position.{Has}
 use Rattle.js_normal.specs.Runs.{run}
 use Rattle.js_normal.specs.BuilderView.{state_of}
 use Rattle.js_normal.proofs.keywords.has_nodes.Given as goal

@@ -1,6 +1,6 @@
 use Rattle.std.proofs.Common.{◌≡◌, map, drop}
 use Rattle.normal_forms.specs.Nodes.{node, each}
-use Rattle.positions.specs.Position.{Has, MembersOf, Named, Matching}
+use Rattle.positions.specs.Position.{MembersOf, Matching}
 use Rattle.normal_forms.specs.KeywordNodes.{pattern_of}
 use Rattle.js_schema.specs.View.{pattern_property_view}
 use Rattle.js_normal.specs.PatternTrees.{tree_of}

@@ -1,4 +1,4 @@
-use Rattle.std.proofs.Common.{◌≡◌, drop, length}
+use Rattle.std.proofs.Common.{◌≡◌, drop}
 use Rattle.js_schema.specs.SchemaView.{schema_view}
 use Rattle.js_normal.specs.Tables.{with_all, made_of}
 use Rattle.js_normal.proofs.TableRuns.{forms, start}

@@ -1,5 +1,4 @@
-use Rattle.std.proofs.Common.{◌≡◌, ◌<◌, map, length, drop, filter, arith}
-use Rattle.std.proofs.lemmas.List.{drop_more}
+use Rattle.std.proofs.Common.{◌<◌, map, length, arith}
 use Rattle.documents.specs.Tests.{some}
 use Rattle.documents.specs.Kind.{same_kind}
 use Rattle.draft06.specs.EntryValidity.{kind_named}
