@@ -21,7 +21,7 @@ use Rattle.draft06.specs.Validity.{valid}
 use Rattle.draft06.specs.EntryValidity.{entry_valid}
 use Rattle.draft06_laws.proofs.RankLaws.{fall_in_place}
 use Rattle.draft06_laws.proofs.ValidityLaws.{entry_valid-valid}
-use Rattle.js_valid.specs.Matching.{read_finds, matches}
+use Rattle.js_match.specs.Matching.{read_finds, matches}
 
 found_alike : (r : Result Tree PatternFault) (w : List ℕ) → read_finds r w ≡ finds_tree r w
 found_alike (Ok t) w = refl
