@@ -124,7 +124,8 @@ rise-step items i x whole less is before rest h =
 pub rise-end : (items : List Member) (i : ℕ) (whole : Members) → length items ≤ i
     → (names_rise (members_of (map member_view (drop i items))) ≡ true → names_rise whole ≡ true)
     → names_rise whole ≡ true
-rise-end items i whole le rest = rest (ap (λ xs. names_rise (members_of (map member_view xs))) (nothing_left items i le))
+rise-end items i whole le rest =
+    rest (ap (λ xs. names_rise (members_of (map member_view xs))) (nothing_left items i le))
   where
     nothing_left : (items : List Member) (i : ℕ) → length items ≤ i → drop i items ≡ []
     nothing_left [] zero h = refl

@@ -13,6 +13,7 @@ loop-end-preserved c =
           c.is_reached.result c.loop-end.ends.items _
           (c.is_reached.ensures
           ∙ ap (λ f. reaches f c.last_start-last.result c.args.high c.loop-end.end) from
-          ∙ ap (λ o. reaches (begins c.args.set.now c.args.word.now c.loop-end.end) o c.args.high c.loop-end.end) c.last_start-last.ensures)
+          ∙ ap (λ o. reaches (begins c.args.set.now c.args.word.now c.loop-end.end) o c.args.high c.loop-end.end)
+          c.last_start-last.ensures)
           c.loop-end.invariant.ends (search rules);
     }

@@ -13,7 +13,8 @@ pub loop-owner-preserved : goal.loop-owner-preserved
 loop-owner-preserved c =
     let form = form_at-get (schema_view c.args.schema.now) (get_or c.args.owners.now c.loop-owner.owner-index 0)
     (form_view c.form.result.now)
-    (owner_below _ c.args.owners.now c.loop-owner.owner-index c.requires.owners c.loop-owner-test.true) c.form.ensures in
+    (owner_below _ c.args.owners.now c.loop-owner.owner-index c.requires.owners c.loop-owner-test.true)
+    c.form.ensures in
     record {
       len = search rules;
       asks = owner_next (schema_view c.args.schema.now) (λ f. of_member matches f

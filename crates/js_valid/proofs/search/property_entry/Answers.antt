@@ -10,7 +10,8 @@ use Rattle.js_valid.proofs.search.property_entry.Goals as goal
 pub returns-in-Equal : goal.returns-in-Equal
 returns-in-Equal c =
     let items = c.as_slice-properties.result.now in
-    let rises = keys-rise (map property_view items) (ap (λ xs. are_keys (map property_view xs)) c.as_slice-properties.ensures
+    let rises = keys-rise (map property_view items)
+    (ap (λ xs. are_keys (map property_view xs)) c.as_slice-properties.ensures
     ∙ c.requires) in
     let found = equal_found property_view items _ c.index-properties-middle.result c.as_text.result.now c.args.name.now
     (record {
@@ -22,12 +23,14 @@ returns-in-Equal c =
       name_utf8 = c.utf8.name;
     }) c.in-Equal.ensures in
     sym (ap (lists one) found) ∙ found-named (map property_view items) (chars c.args.name.now) rises
-    ∙ ap (λ xs. of_named (λ n. same_word n (chars c.args.name.now)) (map property_view xs)) c.as_slice-properties.ensures
+    ∙ ap (λ xs. of_named (λ n. same_word n (chars c.args.name.now)) (map property_view xs))
+    c.as_slice-properties.ensures
 
 pub loop-low-preserved-in-Less : goal.loop-low-preserved-in-Less
 loop-low-preserved-in-Less c =
     let items = c.as_slice-properties.result.now in
-    let rises = keys-rise (map property_view items) (ap (λ xs. are_keys (map property_view xs)) c.as_slice-properties.ensures
+    let rises = keys-rise (map property_view items)
+    (ap (λ xs. are_keys (map property_view xs)) c.as_slice-properties.ensures
     ∙ c.requires) in
     record {
       order = omega arith;
@@ -47,7 +50,8 @@ loop-low-preserved-in-Less c =
 pub loop-low-preserved : goal.loop-low-preserved
 loop-low-preserved c =
     let items = c.as_slice-properties.result.now in
-    let rises = keys-rise (map property_view items) (ap (λ xs. are_keys (map property_view xs)) c.as_slice-properties.ensures
+    let rises = keys-rise (map property_view items)
+    (ap (λ xs. are_keys (map property_view xs)) c.as_slice-properties.ensures
     ∙ c.requires) in
     record {
       order = omega arith;
@@ -67,9 +71,11 @@ loop-low-preserved c =
 pub returns : goal.returns
 returns c =
     let items = c.as_slice-properties.result.now in
-    let rises = keys-rise (map property_view items) (ap (λ xs. are_keys (map property_view xs)) c.as_slice-properties.ensures
+    let rises = keys-rise (map property_view items)
+    (ap (λ xs. are_keys (map property_view xs)) c.as_slice-properties.ensures
     ∙ c.requires) in
     sym (ap (lists one) (not_found property_view items (chars c.args.name.now) c.loop-low.low c.loop-low.high
     c.loop-low-test.false c.loop-low.invariant.below c.loop-low.invariant.above))
     ∙ found-named (map property_view items) (chars c.args.name.now) rises
-    ∙ ap (λ xs. of_named (λ n. same_word n (chars c.args.name.now)) (map property_view xs)) c.as_slice-properties.ensures
+    ∙ ap (λ xs. of_named (λ n. same_word n (chars c.args.name.now)) (map property_view xs))
+    c.as_slice-properties.ensures
