@@ -1,0 +1,45 @@
+use Rattle.std.proofs.Common.{encode_utf8_all, string_bytes, ap, subst, ◌∙◌}
+use Rattle.draft06.specs.Validity.{valid}
+use Rattle.js_doc.specs.View.{view}
+use Rattle.js_keywords.specs.Reading.{rules}
+use Rattle.js_report.specs.WholeFile.{HasBytes}
+use Rattle.js_input.proofs.InputLemmas.{IfOk-weaker}
+use Rattle.js_validation.specs.Outcome.{DocumentRefused, of_test, of_document}
+use Rattle.js_validation.proofs.OutcomeLemmas.{validation-schema_refused, validation-read, says-judged}
+use Rattle.js_validation.proofs.validation.validate.Goals as goal
+
+pub returns-in-Some-Refused-clause-says : goal.returns-in-Some-Refused-clause-says
+returns-in-Some-Refused-clause-says g c =
+    let says = rw c.in-Some-Refused.is at c.in_ok-table.ensures.says in
+    let (same, (bytes, has, is)) = rw c.in-Some-Refused.field-0-is at says in (
+      same,
+      validation-schema_refused (g.H.Shelf.told c.args.shelf.now) c.args.schema.now c.args.document.now bytes
+          (string_bytes c.in-Some-Refused.words) has is,
+    )
+
+pub returns-in-Some-Refused-2-clause-says : goal.returns-in-Some-Refused-2-clause-says
+returns-in-Some-Refused-2-clause-says g c =
+    let first = rw c.in-Some-Read.is at c.in_ok-table.ensures.says in
+    let (same, (bytes, has, (j, is, of))) = rw c.in-Some-Read.field-0-is at first in
+    let second = rw c.in-Some-Refused-2.is at c.in_ok-doc.ensures.says in
+    let (again, (others, has_others, read)) = rw c.in-Some-Refused-2.field-0-is at second in (
+      again ∙ same,
+      validation-read (g.H.Shelf.told c.args.shelf.now) c.args.schema.now c.args.document.now bytes others j
+          (DocumentRefused (string_bytes c.in-Some-Refused-2.words)) has
+          (subst (λ t. HasBytes t (encode_utf8_all c.args.document.now) others) c.in_ok-table.ensures.told has_others) is
+          (ap (of_document j) read),
+    )
+
+pub returns-in-Some-Read-2-clause-says : goal.returns-in-Some-Read-2-clause-says
+returns-in-Some-Read-2-clause-says g c =
+    let first = rw c.in-Some-Read.is at c.in_ok-table.ensures.says in
+    let (same, (bytes, has, (j, is, of))) = rw c.in-Some-Read.field-0-is at first in
+    let second = rw c.in-Some-Read-2.is at c.in_ok-doc.ensures.says in
+    let (again, (others, has_others, (read, well))) = rw c.in-Some-Read-2.field-0-is at second in
+    IfOk-weaker c.judged.result _ _ c.judged.ensures (λ v h.
+    says-judged (g.H.Shelf.told c.args.shelf.now) c.args.schema.now c.args.document.now _ _ _ v
+    (valid rules j (view c.in-Some-Read-2.doc)) same again (h j of.well_formed of.entries)
+    (validation-read (g.H.Shelf.told c.args.shelf.now) c.args.schema.now c.args.document.now bytes others j
+    (of_test (valid rules j (view c.in-Some-Read-2.doc))) has
+    (subst (λ t. HasBytes t (encode_utf8_all c.args.document.now) others) c.in_ok-table.ensures.told has_others) is
+    (ap (of_document j) read)))
