@@ -7,7 +7,7 @@ use Rattle.draft06.specs.Matching.{finds_tree, finds_text}
 use Rattle.js_pattern.specs.Grammar.{pattern}
 use Rattle.js_pattern.specs.declared.fault.PatternFault.{PatternFault}
 use Rattle.js_keywords.specs.Reading.{rules}
-use Rattle.js_normal.specs.PatternTrees.{tree_or, tree_of}
+use Rattle.js_normal.specs.PatternTrees.{tree_or_none, tree_of}
 
 -- a set without members matches nothing
 nothing_ends : (w : List ℕ) (i : ℕ) → finds_up_to (one_of []) w i ≡ false
@@ -20,7 +20,7 @@ nothing_ends w (suc n) = ap₂ (λ a b. a || b) (nothing_ends w n) (at_end (nat_
   at_end true = refl
   at_end false = refl
 
-finds-tree_or : (r : Result Tree PatternFault) (w : List ℕ) → finds (tree_or r) w ≡ finds_tree r w
+finds-tree_or : (r : Result Tree PatternFault) (w : List ℕ) → finds (tree_or_none r) w ≡ finds_tree r w
 finds-tree_or (Ok t) w = refl
 finds-tree_or (Err f) w = nothing_ends w (length w)
 

@@ -1,0 +1,5 @@
+use Rattle.js_normal.proofs.RunLemmas.{run-missing}
+use Rattle.js_normal.proofs.keywords.pattern_properties.Goals as goal
+
+pub returns-in-None : goal.returns-in-None
+returns-in-None c = run-missing _ _ c.args.properties.now _ c.in-None.is
