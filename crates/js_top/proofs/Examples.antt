@@ -1,4 +1,4 @@
--- Worked examples of the command words and of reports, each computed from the definitions.
+-- Worked examples of reports, each computed from the definitions.
 use Rattle.std.specs.Fmt.{digits}
 use Rattle.std.specs.Prelude.{◌≡◌, ℕ, List, [], ◌∷◌, ◌++◌, flat_map, cond, Option, Some, None, refl, codes}
 use Rattle.documents.specs.Kind.{Kind, Null, Boolean, Number, Text, Array, Object}
@@ -13,32 +13,9 @@ use Rattle.js_decide.specs.Verdict.{Document, Certificate}
 use Rattle.certificates.specs.Line.{Line, Version, Goals, Goal, Entry, At, Rule, OfKind, End}
 use Rattle.certificates.specs.TreeLines.{written}
 use Rattle.js_top.specs.Accepting.{IsAccepted}
-use Rattle.js_top.specs.Command.{command}
 use Rattle.js_top.specs.Reading.{Refused}
-use Rattle.js_top.specs.Report.{Report, printed, verdict_report, of_reading, of_file, of_command}
+use Rattle.js_top.specs.Report.{Report, printed, verdict_report, of_reading, of_file, of_files}
 use Rattle.js_top.specs.declared.status.Status.TheVariants as S
-
-two_names : command (codes "include" ∷ codes "a" ∷ codes "b" ∷ []) ≡ Some (codes "a", codes "b")
-two_names = refl
-
--- a dash alone and the empty word are names
-dash_and_nothing : command (codes "include" ∷ codes "-" ∷ [] ∷ []) ≡ Some (codes "-", [])
-dash_and_nothing = refl
-
-option_is_no_name : command (codes "include" ∷ codes "-x" ∷ codes "b" ∷ []) ≡ None
-option_is_no_name = refl
-
-one_name : command (codes "include" ∷ codes "a" ∷ []) ≡ None
-one_name = refl
-
-three_names : command (codes "include" ∷ codes "a" ∷ codes "b" ∷ codes "c" ∷ []) ≡ None
-three_names = refl
-
-other_word : command (codes "frob" ∷ codes "a" ∷ codes "b" ∷ []) ≡ None
-other_word = refl
-
-no_words : command [] ≡ None
-no_words = refl
 
 text_document : verdict_report (Document Text) ≡ record { text = codes "document\n\"\"\n"; status = S.Other }
 text_document = refl
@@ -58,7 +35,7 @@ missing_file = refl
 
 -- the report of `include a b` over files `a` and `b` of these texts
 answer : List ℕ → List ℕ → Report
-answer a b = of_command files files (Some (codes "a", codes "b")) where
+answer a b = of_files files files (codes "a") (codes "b") where
   files : List ℕ → Option (List ℕ)
   files name = cond (same_word name (codes "a")) (Some a) (cond (same_word name (codes "b")) (Some b) None)
 

@@ -1,5 +1,6 @@
 -- What a report on files says: of the two schemas where it is a verdict, and of the first refusal.
-use Rattle.std.proofs.Common.{◌≡◌, ◌⊎◌, inl, inr, ℕ, List, [], ◌∷◌, ◌++◌, length, Bool, true, false, cond, nat_lt, Option, Some, None, codes, encode_utf8_all, refl, ap, sym, ◌∙◌, subst, ◌<◌, ◌≤◌, arith}
+use Rattle.std.proofs.Common.{◌≡◌, ◌⊎◌, inl, inr, ℕ, List, [], ◌∷◌, ◌++◌, length, Bool, true, false, cond, nat_lt, Option, Some, None, codes, encode_utf8_all, refl, ap, sym, ◌∙◌, subst, arith}
+use Rattle.std.specs.Prelude.{IsSome}
 use Rattle.documents.specs.Json.{Json}
 use Rattle.position_laws.specs.Join.{joined}
 use Rattle.js_outside.specs.Counts.{Rose, Stays}
@@ -9,9 +10,13 @@ use Rattle.js_report.specs.WholeFile.{longest_file}
 use Rattle.js_forms.specs.Places.{Pointer, first_fault}
 use Rattle.js_forms.specs.Table.{table_of}
 use Rattle.js_decide.specs.Verdict.{Verdict, Document, Limit, Certificate, verdict}
-use Rattle.js_top.specs.Command.{command}
+use Rattle.js_words.specs.Commands.{Command, Include, Valid, command}
+use Rattle.js_input.specs.ToldTwice.{AreFiles}
+use Rattle.js_validation.specs.Outcome as V
+use Rattle.js_validation.specs.Outcome.{Outcome}
+use Rattle.js_top.specs.Names.{of_include, include_names, IsInclude}
 use Rattle.js_top.specs.Reading.{Reading, Refused, Read, of_fault, of_value, reading, IsSchema}
-use Rattle.js_top.specs.Report.{Report, printed, verdict_report, include_report, of_reading, of_file, of_command, AreFiles, IsReport}
+use Rattle.js_top.specs.Report.{Report, printed, verdict_report, include_report, of_reading, of_file, of_files, IsIncludeReport, IsReportOf, outcome_report, IsReport}
 use Rattle.js_top.specs.Meaning.{AreSchemas, WhereTold, PassesLimit, IsCertificate, Settles, IsRefusal, IsSecondRefusal, IsFirstRefusal}
 use Rattle.js_top.specs.Accepting.{IsAcceptedFor}
 use Rattle.js_top.specs.Preparing.{report_of, PreparedSays}
@@ -37,6 +42,25 @@ reading-faultless bytes j e = of_length (nat_lt longest_file (length bytes)) e w
   of_length true e = cc
   of_length false e = of_bytes (value_of bytes) e
 
+-- the two names of `include`
+names_of : (words : List (List ℕ)) → IsInclude words
+    → (a : List ℕ) × (b : List ℕ) × (include_names words ≡ Some (a, b))
+names_of words include = go (include_names words) refl include where
+  go : (o : Option (List ℕ × List ℕ)) → include_names words ≡ o → IsSome o
+      → (a : List ℕ) × (b : List ℕ) × (include_names words ≡ Some (a, b))
+  go (Some (a, b)) e i = (a, b, e)
+  go None e i = cc
+
+-- the report of these words is that of `include`
+report-include : (told : Option Files) (words : List (List ℕ)) (r : Report) (a b : List ℕ)
+    → include_names words ≡ Some (a, b) → IsReport told words r → IsIncludeReport told a b r
+report-include told words r a b named is = go (command words) named is where
+  go : (c : Option Command) → of_include c ≡ Some (a, b) → IsReportOf told c r → IsIncludeReport told a b r
+  go None e is = cc
+  go (Some (Valid x y)) e is = cc
+  go (Some (Include x y)) e is =
+      let same : ◌≡◌ {A = List ℕ × List ℕ} (x, y) (a, b) = cc in subst (λ n. IsIncludeReport told n.0 n.1 r) same is
+
 -- the statuses of a verdict, and that of a refusal
 
 abbrev is_verdict : Status → Bool
@@ -49,18 +73,37 @@ abbrev is_refused : Status → Bool
 is_refused S.Refused = true
 is_refused _ = false
 
+abbrev is_limit : Status → Bool
+is_limit S.Limit = true
+is_limit _ = false
+
+unlimited : (o : Outcome) → is_limit (outcome_report o).status ≡ false
+unlimited V.Valid = refl
+unlimited V.Invalid = refl
+unlimited (V.SchemaRefused words) = refl
+unlimited (V.DocumentRefused words) = refl
+unlimited V.Unread = refl
+
+-- a limit is a report of `include`
+limit-include : (told : Option Files) (words : List (List ℕ)) (text : List ℕ)
+    → IsReport told words (record { text = text; status = S.Limit }) → IsInclude words
+limit-include told words text is = go (command words) is where
+  go : (c : Option Command) → IsReportOf told c (record { text = text; status = S.Limit }) → IsSome (of_include c)
+  go None is = let wrong = ap (λ s. is_limit s.status) is in cc
+  go (Some (Include a b)) is = refl
+  go (Some (Valid a d)) (o, v, e) = let wrong = sym (unlimited o) ∙ ap (λ s. is_limit s.status) e in cc
+
 unrefused : (v : Verdict) → is_refused (verdict_report v).status ≡ false
 unrefused (Document t) = refl
 unrefused (Limit g) = refl
 unrefused (Certificate ls) = refl
 
 -- the report of two files that are read is that of their schemas
-report-read : (files later : Files) (words : List (List ℕ)) (first second : List ℕ) (a b : Json)
-    → command words ≡ Some (first, second) → IsSchema files first a → IsSchema later second b
-    → of_command files later (command words) ≡ include_report a b
-report-read files later words first second a b c x y =
-    ap (of_command files later) c
-    ∙ ap (λ o. of_file (codes "first") o (λ u. of_file (codes "second") (later (encode_utf8_all second))
+report-read : (files later : Files) (first second : List ℕ) (a b : Json)
+    → IsSchema files first a → IsSchema later second b
+    → of_files files later first second ≡ include_report a b
+report-read files later first second a b x y =
+    ap (λ o. of_file (codes "first") o (λ u. of_file (codes "second") (later (encode_utf8_all second))
     (λ v. include_report u v))) x.told
     ∙ ap (λ r. of_reading (codes "first") r (λ u. of_file (codes "second") (later (encode_utf8_all second))
     (λ v. include_report u v))) x.read
@@ -76,7 +119,7 @@ record IsOfSchemas (told : Option Files) (words : List (List ℕ)) (r : Report) 
 
 module _ (told : Option Files) (words : List (List ℕ)) (r : Report) (files later : Files)
     (ok : AreFiles told files later)
-    (a b : List ℕ) (named : command words ≡ Some (a, b)) (answers : is_verdict r.status ≡ true) where
+    (a b : List ℕ) (named : include_names words ≡ Some (a, b)) (answers : is_verdict r.status ≡ true) where
   schemas-second : (x : Json) (o : Option (List ℕ)) → later (encode_utf8_all b) ≡ o → IsSchema files a x
       → of_file (codes "second") o (λ y. include_report x y) ≡ r → IsOfSchemas told words r
   schemas-second x None t is e = let wrong = ap (λ s. is_verdict s.status) e ∙ answers in cc
@@ -115,22 +158,21 @@ module _ (told : Option Files) (words : List (List ℕ)) (r : Report) (files lat
     go (Read x) h e =
         schemas-second x (later (encode_utf8_all b)) refl (record { bytes = bytes; told = t; read = h }) e
 
-report-schemas : (told : Option Files) (words : List (List ℕ)) (r : Report) → IsReport told words r
+report-schemas : (told : Option Files) (words : List (List ℕ)) (r : Report) (a b : List ℕ)
+    → include_names words ≡ Some (a, b) → IsIncludeReport told a b r
     → is_verdict r.status ≡ true
     → IsOfSchemas told words r
-report-schemas told words r is answers = go (command words) refl is.report where
-  go : (o : Option (List ℕ × List ℕ)) → command words ≡ o → of_command is.files is.later o ≡ r
-      → IsOfSchemas told words r
-  go None h e = let wrong = ap (λ s. is_verdict s.status) e ∙ answers in cc
-  go (Some (a, b)) h e =
-      schemas-first told words r is.files is.later is.are_files a b h answers (is.files (encode_utf8_all a)) refl e
+report-schemas told words r a b h is answers =
+    schemas-first told words r is.files is.later is.are_files a b h answers (is.files (encode_utf8_all a)) refl
+    is.report
 
 -- what such a report means
-means : (told : Option Files) (words : List (List ℕ)) (text : List ℕ) (status : Status)
-    → IsReport told words (record { text = text; status = status }) → is_verdict status ≡ true
+means_of : (told : Option Files) (words : List (List ℕ)) (text : List ℕ) (status : Status) (a b : List ℕ)
+    → include_names words ≡ Some (a, b) → IsIncludeReport told a b (record { text = text; status = status })
+    → is_verdict status ≡ true
     → (a : Json) × (b : Json) × AreSchemas told words a b × OfStatus a b status text
-means told words text status is answers =
-    let of = report-schemas told words (record { text = text; status = status }) is answers in (
+means_of told words text status a b named is answers =
+    let of = report-schemas told words (record { text = text; status = status }) a b named is answers in (
       of.first,
       of.second,
       of.are,
@@ -139,14 +181,20 @@ means told words text status is answers =
           (reading-faultless of.are.is_second.bytes of.second of.are.is_second.read) of.report,
     )
 
+means : (told : Option Files) (words : List (List ℕ)) (text : List ℕ) (status : Status)
+    → IsReport told words (record { text = text; status = status }) → is_verdict status ≡ true → IsInclude words
+    → (a : Json) × (b : Json) × AreSchemas told words a b × OfStatus a b status text
+means told words text status is answers include =
+    let (a, b, named) = names_of words include in
+    means_of told words text status a b named
+    (report-include told words (record { text = text; status = status }) a b named is) answers
+
 -- an answer that was prepared is a report
 
-usage-report : (told : Option Files) (words : List (List ℕ)) → command words ≡ None
+pub usage-report : (told : Option Files) (words : List (List ℕ)) → command words ≡ None
     → IsReport told words (printed (codes "usage") S.Usage)
-usage-report None words c =
-    record { files = λ n. None; later = λ n. None; are_files = tt; report = ap (of_command (λ n. None) (λ n. None)) c }
-usage-report (Some files) words c =
-    record { files = files; later = files; are_files = (refl, refl); report = ap (of_command files files) c }
+usage-report told words c =
+    subst (λ o. IsReportOf told o (printed (codes "usage") S.Usage)) (sym c) refl
 
 pub prepared-report : (told : Option Files) (words : List (List ℕ)) (before after : ℕ) (p : Prepared) (text : List ℕ)
     (status : Status)
@@ -165,11 +213,19 @@ prepared-report told words before after (Made bytes s) text status says t e n =
 module _ (told : Option Files) (words : List (List ℕ)) (before after : ℕ) (p : Prepared) (text : List ℕ)
     (says : PreparedSays told words before after p) (t : text ≡ (report_of p).text) where
   pub prepared-means : (status : Status) → (report_of p).status ≡ status → is_verdict status ≡ true
+      → IsInclude words
       → (a : Json) × (b : Json) × AreSchemas told words a b × OfStatus a b status text
-  prepared-means status e answers =
+  prepared-means status e answers include =
       means told words text status
       (prepared-report told words before after p text status says t e
-      (λ h. let wrong = sym answers ∙ ap is_verdict h in cc)) answers
+      (λ h. let wrong = sym answers ∙ ap is_verdict h in cc)) answers include
+
+  -- no other command has a limit
+  pub prepared-limit : (report_of p).status ≡ S.Limit
+      → (a : Json) × (b : Json) × AreSchemas told words a b × OfStatus a b S.Limit text
+  prepared-limit e =
+      let is = prepared-report told words before after p text S.Limit says t e (λ h. cc) in
+      means told words text S.Limit is refl (limit-include told words text is)
 
 -- and where it is a certificate, it is accepted for the bytes of the files
 pub means-accepted : (told : Option Files) (words : List (List ℕ)) (text : List ℕ)
@@ -206,22 +262,27 @@ prepared-part told words before after (Made bytes s) says = inr (says.0, says.2)
 
 -- the report of two schemas settles their question
 
-told-report : (files : Files) (words : List (List ℕ)) (r : Report) → IsReport (Some files) words r
-    → (a b : Json) → AreSchemas (Some files) words a b → r ≡ include_report a b
-told-report files words r is a b s =
+told-include : (files : Files) (words : List (List ℕ)) (r : Report) (a b : Json)
+    → (s : AreSchemas (Some files) words a b) → IsIncludeReport (Some files) s.first s.second r → r ≡ include_report a b
+told-include files words r a b s is =
     let first : is.files ≡ s.files = is.are_files.0 ∙ sym s.are_files.0 in
     let second : is.later ≡ s.later = is.are_files.1 ∙ sym s.are_files.1 in
     sym is.report
-    ∙ ap (λ f. of_command f is.later (command words)) first
-    ∙ ap (λ f. of_command s.files f (command words)) second
-    ∙ report-read s.files s.later words s.first s.second a b s.named s.is_first s.is_second
+    ∙ ap (λ f. of_files f is.later s.first s.second) first
+    ∙ ap (λ f. of_files s.files f s.first s.second) second
+    ∙ report-read s.files s.later s.first s.second a b s.is_first s.is_second
+
+told-report : (files : Files) (words : List (List ℕ)) (r : Report) → IsReport (Some files) words r
+    → (a b : Json) → AreSchemas (Some files) words a b → r ≡ include_report a b
+told-report files words r is a b s =
+    told-include files words r a b s (report-include (Some files) words r s.first s.second s.named is)
 
 pub prepared-settles : (told : Option Files) (words : List (List ℕ)) (before after : ℕ) (p : Prepared) (text : List ℕ)
     → PreparedSays told words before after p → text ≡ (report_of p).text → Stays before after
     → WhereTold told words (λ a b. Settles a b text)
 prepared-settles None words before after p text says t stays = tt
 prepared-settles (Some files) words before after Usage text says t stays = λ a b s.
-    let wrong = sym s.named ∙ says.1 in cc
+    let wrong = sym s.named ∙ ap of_include says.1 in cc
 prepared-settles (Some files) words before after Unread text says t stays = λ a b s. absurd (omega (arith, says.0, stays))
 prepared-settles (Some files) words before after (Made bytes status) text says t stays = λ a b s.
     include_report-settles a b text status (reading-faultless s.is_first.bytes a s.is_first.read)
@@ -281,21 +342,24 @@ refused-first files later a b text (Some bytes) t e = go (reading bytes) refl e 
         second = refused-second later b text x (later (encode_utf8_all b)) refl e;
       })
 
+refusal_of : (told : Option Files) (words : List (List ℕ)) (text a b : List ℕ) → include_names words ≡ Some (a, b)
+    → IsIncludeReport told a b (record { text = text; status = S.Refused }) → IsFirstRefusal told words text
+refusal_of told words text a b named is =
+    record {
+      first = a;
+      second = b;
+      named = named;
+      files = is.files;
+      later = is.later;
+      are_files = is.are_files;
+      refusal = refused-first is.files is.later a b text (is.files (encode_utf8_all a)) refl is.report;
+    }
+
 -- a report of the status of refusals is the first refusal
 pub means-refusal : (told : Option Files) (words : List (List ℕ)) (text : List ℕ)
-    → IsReport told words (record { text = text; status = S.Refused })
+    → IsReport told words (record { text = text; status = S.Refused }) → IsInclude words
     → IsFirstRefusal told words text
-means-refusal told words text is = go (command words) refl is.report where
-  go : (o : Option (List ℕ × List ℕ)) → command words ≡ o
-      → of_command is.files is.later o ≡ record { text = text; status = S.Refused } → IsFirstRefusal told words text
-  go None h e = let wrong = ap (λ r. is_refused r.status) e in cc
-  go (Some (a, b)) h e =
-      record {
-        first = a;
-        second = b;
-        named = h;
-        files = is.files;
-        later = is.later;
-        are_files = is.are_files;
-        refusal = refused-first is.files is.later a b text (is.files (encode_utf8_all a)) refl e;
-      }
+means-refusal told words text is include =
+    let (a, b, named) = names_of words include in
+    refusal_of told words text a b named
+    (report-include told words (record { text = text; status = S.Refused }) a b named is)

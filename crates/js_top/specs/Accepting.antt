@@ -4,9 +4,9 @@ use Rattle.documents.specs.Json.{Json}
 use Rattle.validity.specs.Validity.{Included}
 use Rattle.js_algebra.specs.View.{Table}
 use Rattle.js_outside.specs.Told.{Files}
-use Rattle.js_top.specs.Command.{command}
+use Rattle.js_top.specs.Names.{include_names}
 use Rattle.js_top.specs.Reading.{Read, reading}
-use Rattle.js_top.specs.Report.{AreFiles}
+use Rattle.js_input.specs.ToldTwice.{AreFiles}
 use Rattle.js_top.specs.Meaning.{IsGoodText}
 use Rattle.js_top.specs.Loading.{IsTableOf}
 
@@ -26,7 +26,7 @@ AreIncluded a b = (x y : Json) → reading a ≡ Read x → reading b ≡ Read y
 pub record IsAcceptedFor (told : Option Files) (words : List (List ℕ)) (text : List ℕ) : Type 0 where
   pub first : List ℕ
   pub second : List ℕ
-  pub named : command words ≡ Some (first, second)
+  pub named : include_names words ≡ Some (first, second)
   pub files : Files
   pub later : Files
   pub are_files : AreFiles told files later

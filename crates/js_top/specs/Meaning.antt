@@ -15,9 +15,10 @@ use Rattle.js_json.specs.Documents.{json_of_document}
 use Rattle.js_json.specs.Value.{value_of}
 use Rattle.js_forms.specs.Table.{table_of}
 use Rattle.js_decide.specs.Verdict.{is_over, is_open}
-use Rattle.js_top.specs.Command.{command}
+use Rattle.js_input.specs.ToldTwice.{AreFiles}
+use Rattle.js_top.specs.Names.{include_names}
 use Rattle.js_top.specs.Reading.{Refused, reading, IsSchema}
-use Rattle.js_top.specs.Report.{line, AreFiles}
+use Rattle.js_top.specs.Report.{line}
 
 -- the text is the line `document` and a JSON text, which is read back as the document
 pub record IsDocumentText (text : List ℕ) (d : Document) : Type 0 where
@@ -54,7 +55,7 @@ pub record IsLimit (a b : Json) (text : List ℕ) : Type 0 where
 pub record AreSchemas (told : Option Files) (words : List (List ℕ)) (a b : Json) : Type 0 where
   pub first : List ℕ
   pub second : List ℕ
-  pub named : command words ≡ Some (first, second)
+  pub named : include_names words ≡ Some (first, second)
   pub files : Files
   pub later : Files
   pub are_files : AreFiles told files later
@@ -96,7 +97,7 @@ pub record IsSecondRefusal (files later : List ℕ → Option (List ℕ)) (a b t
 pub record IsFirstRefusal (told : Option Files) (words : List (List ℕ)) (text : List ℕ) : Type 0 where
   pub first : List ℕ
   pub second : List ℕ
-  pub named : command words ≡ Some (first, second)
+  pub named : include_names words ≡ Some (first, second)
   pub files : Files
   pub later : Files
   pub are_files : AreFiles told files later

@@ -7,7 +7,10 @@ use Rattle.certificates.specs.Line.{signed_list_text, lines_text}
 use Rattle.js_outside.specs.Told.{Files}
 use Rattle.js_forms.specs.Table.{table_of}
 use Rattle.js_decide.specs.Verdict.{Verdict, Document, Limit, Certificate, verdict}
-use Rattle.js_top.specs.Command.{command}
+use Rattle.js_words.specs.Commands.{Command, Include, Valid, command}
+use Rattle.js_input.specs.ToldTwice.{AreFiles}
+use Rattle.js_validation.specs.Outcome as V
+use Rattle.js_validation.specs.Outcome.{Outcome, IsValidation}
 use Rattle.js_top.specs.Reading.{Reading, Refused, Read, reading}
 use Rattle.js_top.specs.declared.status.Status.{Status}
 use Rattle.js_top.specs.declared.status.Status.TheVariants as S
@@ -49,24 +52,35 @@ abbrev pub of_file : List ℕ → Option (List ℕ) → (Json → Report) → Re
 of_file role None more = printed (codes "readfault") S.ReadFault
 of_file role (Some bytes) more = of_reading role (reading bytes) more
 
--- the second file is looked at only where the first is read; `later` are the files by then
-abbrev pub of_command : Files → Files → Option (List ℕ × List ℕ) → Report
-of_command files later None = printed (codes "usage") S.Usage
-of_command files later (Some (a, b)) =
+-- the report of `include`. The second file is looked at only where the first is read; `later` are the files by then
+abbrev pub of_files : Files → Files → List ℕ → List ℕ → Report
+of_files files later a b =
     of_file (codes "first") (files (encode_utf8_all a))
     (λ x. of_file (codes "second") (later (encode_utf8_all b)) (λ y. include_report x y))
 
--- the files that a shelf tells stay as they are; where it tells none, they may be any, and others at the second reading
-abbrev pub AreFiles : Option Files → Files → Files → Type 0
-AreFiles None files later = Unit {0}
-AreFiles (Some told) files later = (files ≡ told) × (later ≡ told)
-
--- what is printed and the status are the report of a command on such files
-pub record IsReportOf (told : Option Files) (names : Option (List ℕ × List ℕ)) (r : Report) : Type 0 where
+-- what is printed and the status are the report of `include` on such files
+pub record IsIncludeReport (told : Option Files) (a b : List ℕ) (r : Report) : Type 0 where
   pub files : Files
   pub later : Files
   pub are_files : AreFiles told files later
-  pub report : of_command files later names ≡ r
+  pub report : of_files files later a b ≡ r
 
+-- the report of `valid`, by what its files come to
+abbrev pub outcome_report : Outcome → Report
+outcome_report V.Valid = printed (codes "valid") S.Done
+outcome_report V.Invalid = printed (codes "invalid") S.Other
+outcome_report (V.SchemaRefused words) = printed (codes "refused " ++ codes "first" ++ 32 ∷ words) S.Refused
+outcome_report (V.DocumentRefused words) = printed (codes "refused " ++ codes "document" ++ 32 ∷ words) S.Refused
+outcome_report V.Unread = printed (codes "readfault") S.ReadFault
+
+abbrev pub IsValidReport : Option Files → List ℕ → List ℕ → Report → Type 0
+IsValidReport told a d r = (o : Outcome) × IsValidation told a d o × (outcome_report o ≡ r)
+
+abbrev pub IsReportOf : Option Files → Option Command → Report → Type 0
+IsReportOf told None r = r ≡ printed (codes "usage") S.Usage
+IsReportOf told (Some (Include a b)) r = IsIncludeReport told a b r
+IsReportOf told (Some (Valid a d)) r = IsValidReport told a d r
+
+-- the report of the words
 abbrev pub IsReport : Option Files → List (List ℕ) → Report → Type 0
 IsReport told words r = IsReportOf told (command words) r

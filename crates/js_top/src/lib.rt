@@ -12,7 +12,6 @@ mod prepare;
 mod status;
 mod text;
 mod top;
-mod words;
 
 pub use accept::accepted;
 pub use status::Status;
