@@ -1,7 +1,6 @@
 -- What a report on files says: of the two schemas where it is a verdict, and of the first refusal.
-use Rattle.std.proofs.Common.{◌≡◌, ◌⊎◌, inl, inr, ℕ, List, [], ◌∷◌, ◌++◌, Bool, true, false, Option, Some, None, option_map, codes, refl, ap, sym, ◌∙◌, subst, arith}
+use Rattle.std.proofs.Common.{◌≡◌, ◌⊎◌, inl, inr, ℕ, List, [], ◌∷◌, ◌++◌, Bool, true, false, Option, Some, None, codes, refl, ap, sym, ◌∙◌, subst, arith}
 use Rattle.std.specs.Prelude.{IsSome}
-use Rattle.std.proofs.lemmas.Option.{same_Some}
 use Rattle.documents.specs.Json.{Json}
 use Rattle.js_outside.specs.Counts.{Rose, Stays}
 use Rattle.js_outside.specs.Told.{Files}
@@ -42,10 +41,7 @@ report-include told words r a b named is = go (command words) named is where
   go None e is = cc
   go (Some (Valid x y)) e is = cc
   go (Some (Include x y)) e is =
-      let first : Some x ≡ Some a = ap (option_map (λ p. p.0)) e in
-      let second : Some y ≡ Some b = ap (option_map (λ p. p.1)) e in
-      subst (λ n. IsIncludeReport told a n r) (same_Some y b second)
-      (subst (λ n. IsIncludeReport told n y r) (same_Some x a first) is)
+      let same : ◌≡◌ {A = List ℕ × List ℕ} (x, y) (a, b) = cc in subst (λ n. IsIncludeReport told n.0 n.1 r) same is
 
 -- the statuses of a verdict, and that of a refusal
 

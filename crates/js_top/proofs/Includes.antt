@@ -1,10 +1,10 @@
 -- What a report that was made says of a command.
-use Rattle.std.proofs.Common.{◌≡◌, ℕ, List, true, Option, Some, is_some, Result, Ok, Err, IfOk, ap, sym, ◌∙◌, subst, refl}
+use Rattle.std.proofs.Common.{◌≡◌, ℕ, true, Option, Some, Result, Ok, Err, IfOk, ap, sym, ◌∙◌, subst, refl}
 use Rattle.js_outside.specs.Told.{Files}
 use Rattle.js_decide.specs.Verdict.{Verdict, Document, Limit, Certificate}
-use Rattle.js_words.specs.Commands.{Command, command}
+use Rattle.js_words.specs.Commands.{Command}
 use Rattle.js_top.specs.Report.{Report, verdict_report, IsReportOf}
-use Rattle.js_top.specs.Preparing.{report_of, is_answer, CommandSays, PreparedSays}
+use Rattle.js_top.specs.Preparing.{report_of, is_answer, CommandSays}
 use Rattle.js_top.specs.declared.prepare.Prepared.{Prepared}
 use Rattle.js_top.specs.declared.prepare.Prepared.TheVariants.{Usage, Unread, Made}
 
@@ -22,18 +22,6 @@ CommandSays-answer told c before mid after Usage r m n e i is = let wrong = ap (
 CommandSays-answer told c before mid after Unread r m n e i is = let wrong = ap (λ x. is_answer x.status) e ∙ i in cc
 CommandSays-answer told c before mid after (Made bytes status) r m n e i is =
     (n ∙ m, ap (λ x. is_answer x.status) e ∙ i, subst (IsReportOf told (Some c)) (sym e) is)
-
--- what is said of the command is said of the words that give it
-pub PreparedSays-command : (told : Option Files) (words : List (List ℕ)) (c : Command) (before after : ℕ) (p : Prepared)
-    → command words ≡ Some c → CommandSays told c before after p → PreparedSays told words before after p
-PreparedSays-command told words c before after Usage e says = absurd says
-PreparedSays-command told words c before after Unread e says = (says, ap is_some e)
-PreparedSays-command told words c before after (Made bytes status) e says = (
-  says.0,
-  says.1,
-  subst (λ o. IsReportOf told o (record { text = bytes.items; status = status })) (sym e) says.2,
-  ap is_some e,
-)
 
 pub IfOk-weaker : {A E : Type 0} (r : Result A E) (P Q : A → Type 0) → IfOk r P → ((x : A) → P x → Q x) → IfOk r Q
 IfOk-weaker (Ok x) P Q h f = f x h

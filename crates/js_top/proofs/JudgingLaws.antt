@@ -1,8 +1,7 @@
 -- What the report of `valid` means, from what its files come to.
-use Rattle.std.proofs.Common.{◌≡◌, inl, inr, ℕ, List, Bool, true, false, Option, Some, None, option_map, refl, ap, sym, ◌∙◌, subst, arith}
+use Rattle.std.proofs.Common.{◌≡◌, inl, inr, ℕ, List, Bool, true, false, Option, Some, None, refl, ap, sym, ◌∙◌, subst, arith}
 use Rattle.std.specs.Io.KnownBytes.{Appends}
 use Rattle.std.specs.Prelude.{IsSome}
-use Rattle.std.proofs.lemmas.Option.{same_Some}
 use Rattle.documents.specs.Document.{Document}
 use Rattle.documents.specs.Json.{Json}
 use Rattle.draft06.specs.Validity.{valid}
@@ -38,10 +37,7 @@ report-valid told words r a d named is = go (command words) named is where
   go None e is = cc
   go (Some (Include x y)) e is = cc
   go (Some (Valid x y)) e is =
-      let first : Some x ≡ Some a = ap (option_map (λ p. p.0)) e in
-      let second : Some y ≡ Some d = ap (option_map (λ p. p.1)) e in
-      subst (λ n. IsValidReport told a n r) (same_Some y d second)
-      (subst (λ n. IsValidReport told n y r) (same_Some x a first) is)
+      let same : ◌≡◌ {A = List ℕ × List ℕ} (x, y) (a, d) = cc in subst (λ n. IsValidReport told n.0 n.1 r) same is
 
 -- the status of a verdict has its word, and is the outcome of that verdict
 record IsReportOfTest (o : Outcome) (b : Bool) (text : List ℕ) : Type 0 where
