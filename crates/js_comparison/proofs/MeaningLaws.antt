@@ -15,7 +15,7 @@ use Rattle.js_comparison.specs.Meaning.{IsSchemaFile, AreSchemas, AreDecidedOn, 
 
 -- two schemas that are told come to what their values come to
 
-same-read : (bytes : List ℕ) (a b : Json) → IsSchemaReading bytes (Read a) → IsSchemaReading bytes (Read b) → a ≡ b
+pub same-read : (bytes : List ℕ) (a b : Json) → IsSchemaReading bytes (Read a) → IsSchemaReading bytes (Read b) → a ≡ b
 same-read bytes a b is is' =
     let same : Read a ≡ Read b = IsSchemaReading-one bytes (Read a) (Read b) is is' in cc
 

@@ -20,9 +20,9 @@ nothing_ends w (suc n) = ap₂ (λ a b. a || b) (nothing_ends w n) (at_end (nat_
   at_end true = refl
   at_end false = refl
 
-finds-tree_or_none : (r : Result Tree PatternFault) (w : List ℕ) → finds (tree_or_none r) w ≡ finds_tree r w
-finds-tree_or_none (Ok t) w = refl
-finds-tree_or_none (Err f) w = nothing_ends w (length w)
+finds-tree_or : (r : Result Tree PatternFault) (w : List ℕ) → finds (tree_or_none r) w ≡ finds_tree r w
+finds-tree_or (Ok t) w = refl
+finds-tree_or (Err f) w = nothing_ends w (length w)
 
 pub finds-tree_of : (λ t. finds (tree_of t)) ≡ finds_text rules
-finds-tree_of = fun_ext (λ t. fun_ext (λ w. finds-tree_or_none (pattern t) w))
+finds-tree_of = fun_ext (λ t. fun_ext (λ w. finds-tree_or (pattern t) w))

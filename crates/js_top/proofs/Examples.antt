@@ -1,44 +1,25 @@
--- Worked examples of the command words and of reports, each computed from the definitions.
+-- Worked examples of reports, each computed from the definitions.
 use Rattle.std.specs.Fmt.{digits}
-use Rattle.std.specs.Prelude.{◌≡◌, ℕ, List, [], ◌∷◌, ◌++◌, flat_map, cond, Option, Some, None, refl, codes}
+use Rattle.std.specs.Prelude.{◌≡◌, ℕ, zero, suc, List, [], ◌∷◌, ◌++◌, flat_map, None, pos, true, false, refl, codes}
 use Rattle.documents.specs.Kind.{Kind, Null, Boolean, Number, Text, Array, Object}
 use Rattle.documents.specs.Json as J
+use Rattle.documents.specs.Json.{Json}
+use Rattle.schemas.specs.Keyword.{shape_of}
+use Rattle.schemas.specs.Places.{index_token}
+use Rattle.schemas.specs.Walk.{walk, places}
+use Rattle.schemas.specs.Guarded.{IsGuarded, leads}
+use Rattle.normal_forms.specs.NormalForm.{table_of}
 use Rattle.goals.specs.Signed.{Plus, Minus}
-use Rattle.documents.specs.Tests.{same_word}
 use Rattle.goals.specs.Goal.{follow}
 use Rattle.goals.specs.Tree.{steps}
 use Rattle.js_json.proofs.OnTexts.{json_on_texts}
-use Rattle.js_forms.specs.Places.{places_from}
 use Rattle.js_decide.specs.Verdict.{Document, Certificate}
 use Rattle.certificates.specs.Line.{Line, Version, Goals, Goal, Entry, At, Rule, OfKind, End}
 use Rattle.certificates.specs.TreeLines.{written}
+use Rattle.js_comparison.specs.Outcome.{SecondRefused, Unread, of_values}
 use Rattle.js_top.specs.Accepting.{IsAccepted}
-use Rattle.js_top.specs.Command.{command}
-use Rattle.js_top.specs.Reading.{Refused}
-use Rattle.js_top.specs.Report.{Report, printed, verdict_report, of_reading, of_file, of_command}
+use Rattle.js_top.specs.Report.{Report, verdict_report, compared_report}
 use Rattle.js_top.specs.declared.status.Status.TheVariants as S
-
-two_names : command (codes "include" ∷ codes "a" ∷ codes "b" ∷ []) ≡ Some (codes "a", codes "b")
-two_names = refl
-
--- a dash alone and the empty word are names
-dash_and_nothing : command (codes "include" ∷ codes "-" ∷ [] ∷ []) ≡ Some (codes "-", [])
-dash_and_nothing = refl
-
-option_is_no_name : command (codes "include" ∷ codes "-x" ∷ codes "b" ∷ []) ≡ None
-option_is_no_name = refl
-
-one_name : command (codes "include" ∷ codes "a" ∷ []) ≡ None
-one_name = refl
-
-three_names : command (codes "include" ∷ codes "a" ∷ codes "b" ∷ codes "c" ∷ []) ≡ None
-three_names = refl
-
-other_word : command (codes "frob" ∷ codes "a" ∷ codes "b" ∷ []) ≡ None
-other_word = refl
-
-no_words : command [] ≡ None
-no_words = refl
 
 text_document : verdict_report (Document Text) ≡ record { text = codes "document\n\"\"\n"; status = S.Other }
 text_document = refl
@@ -48,48 +29,43 @@ no_goals : verdict_report (Certificate (written [] None)) ≡ record
 unfolding digits
 no_goals = refl
 
-refused_second : of_reading (codes "second") (Refused (codes "notjson")) (λ j. printed [] S.Done)
+refused_second : compared_report (SecondRefused (codes "notjson"))
     ≡ record { text = codes "refused second notjson\n"; status = S.Refused }
 refused_second = refl
 
-missing_file : of_file (codes "first") None (λ j. printed [] S.Done) ≡ record
-    { text = codes "readfault\n"; status = S.ReadFault }
+missing_file : compared_report Unread ≡ record { text = codes "readfault\n"; status = S.ReadFault }
 missing_file = refl
 
--- the report of `include a b` over files `a` and `b` of these texts
-answer : List ℕ → List ℕ → Report
-answer a b = of_command files files (Some (codes "a", codes "b")) where
-  files : List ℕ → Option (List ℕ)
-  files name = cond (same_word name (codes "a")) (Some a) (cond (same_word name (codes "b")) (Some b) None)
+-- the report of `include` on two schemas that are read
+answer : Json → Json → Report
+answer a b = compared_report (of_values a b)
 
-everything_in_nothing : answer (codes "{}") (codes "false") ≡ record
+everything_in_nothing : answer (J.object J.no_members) (J.boolean false) ≡ record
     { text = codes "document\nnull\n"; status = S.Other }
-unfolding answer json_on_texts places_from follow steps
+unfolding answer places walk shape_of table_of follow steps
 everything_in_nothing = refl
 
-everything_in_itself : answer (codes "true") (codes "true")
+everything_in_itself : answer (J.boolean true) (J.boolean true)
     ≡ record { text = codes "certificate 1\ngoals 0\nend\n"; status = S.Done }
-unfolding answer json_on_texts places_from follow steps digits
+unfolding answer places walk shape_of table_of follow steps digits
 everything_in_itself = refl
 
--- the first refusal is told, and the second file may be anything
-first_is_refused : answer (codes "{\"minimum\":1}") (codes "5")
+-- the first place that isn't decided on
+first_is_refused : answer (J.object (J.member (codes "minimum") (J.number (pos 1)) J.no_members)) (J.boolean true)
     ≡ record { text = codes "refused first notyet \"/minimum\"\n"; status = S.Refused }
-unfolding answer json_on_texts places_from
+unfolding answer json_on_texts places walk shape_of
 first_is_refused = refl
 
-second_is_refused : answer (codes "true") (codes "{")
-    ≡ record { text = codes "refused second notjson\n"; status = S.Refused }
-unfolding answer json_on_texts places_from
-second_is_refused = refl
+-- a certificate of 24 lines
 
--- a certificate of 24 lines, from the bytes of both files
+abbrev string : Json
+string = J.object (J.member (codes "type") (J.string (codes "string")) J.no_members)
 
-abbrev string : List ℕ
-string = codes "{\"type\":\"string\"}"
-
-abbrev string_or_null : List ℕ
-string_or_null = codes "{\"type\":[\"string\",\"null\"]}"
+abbrev string_or_null : Json
+string_or_null =
+    J.object
+    (J.member (codes "type")
+    (J.array (J.item (J.string (codes "string")) (J.item (J.string (codes "null")) J.no_items))) J.no_members)
 
 abbrev certificate : List ℕ
 certificate =
@@ -99,24 +75,27 @@ certificate =
     ++ codes "end\n"
 
 string_in_string_or_null : answer string string_or_null ≡ record { text = certificate; status = S.Done }
-unfolding answer json_on_texts places_from follow steps digits
+unfolding answer places walk shape_of index_token table_of follow steps digits
 string_in_string_or_null = refl
 
 abbrev other_kind : Kind → List Line
 other_kind t = At t ∷ Rule (Plus 0) ∷ OfKind (Plus 1) ∷ []
 
--- which is accepted for them
-certificate_accepted : IsAccepted string string_or_null certificate
-unfolding json_on_texts places_from follow digits
+-- no edge leads anywhere
+no_edges : IsGuarded ([] ∷ [])
+unfolding leads
+no_edges zero n = refl
+no_edges (suc x) n = refl
+
+-- which is accepted for the bytes of both files
+certificate_accepted : IsAccepted (codes "{\"type\":\"string\"}") (codes "{\"type\":[\"string\",\"null\"]}") certificate
+unfolding json_on_texts places walk shape_of index_token table_of follow digits
 certificate_accepted =
     record {
-      first = J.object (J.member (codes "type") (J.string (codes "string")) J.no_members);
-      second =
-          J.object
-          (J.member (codes "type")
-          (J.array (J.item (J.string (codes "string")) (J.item (J.string (codes "null")) J.no_items))) J.no_members);
-      is_first = refl;
-      is_second = refl;
+      first = string;
+      second = string_or_null;
+      is_first = (refl, no_edges);
+      is_second = (refl, no_edges);
       good = record {
         lines =
             Version ∷ Goals 1 ∷ Goal (Plus 0 ∷ Minus 2 ∷ []) ∷ Entry 0

@@ -1,6 +1,6 @@
-pub mod CommandWords
 pub mod Includes
 pub mod MeaningLaws
 pub mod FileLaws
+pub mod JudgingLaws
 pub mod AcceptLaws
 mod Examples

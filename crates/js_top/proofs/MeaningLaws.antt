@@ -1,34 +1,21 @@
--- What the report of two schemas that are read means.
-use Rattle.std.proofs.Common.{◌≡◌, inl, inr, ℕ, ◌+◌, ◌<◌, ◌≤◌, List, [], ◌∷◌, ◌++◌, length, Bool, true, false, ◌||◌, cond, Option, Some, None, codes, pos, refl, ap, sym, ◌∙◌, subst, arith}
-use Rattle.documents.specs.Tests.{some}
-use Rattle.documents.specs.Kind.{Kind, Null, Boolean, Number, Text, Array, Object, all_kinds}
+-- What the report of two schemas means.
+use Rattle.std.proofs.Common.{◌≡◌, inl, inr, ℕ, List, [], ◌++◌, true, false, Some, codes, pos, refl, ap, sym, ◌∙◌, subst}
+use Rattle.documents.specs.Kind.{Kind, Null, Boolean, Number, Text, Array, Object}
 use Rattle.documents.specs.Document as D
 use Rattle.documents.specs.Document.{Document, is_document, kind_of}
 use Rattle.documents.specs.Json.{Json}
-use Rattle.validity.specs.Validity.{valid}
-use Rattle.positions.specs.Position.{Position}
-use Rattle.positions.specs.Holds.{holds, IsTable}
-use Rattle.position_laws.specs.Join.{joined}
-use Rattle.position_laws.proofs.Joined.{length-joined, joined-IsTable, holds-joined_left, holds-joined_right}
-use Rattle.goals.specs.Signed.{Signed, Plus, Minus}
-use Rattle.goals.specs.Goal.{form}
-use Rattle.goals.specs.Tree.{first}
+use Rattle.goals.specs.Signed.{Signed}
 use Rattle.certificates.specs.Line.{Line, lines_text, signed_list_text, IsText}
-use Rattle.certificates.specs.TreeLines.{written}
 use Rattle.js_json.specs.Documents.{json_of_document}
 use Rattle.js_json.specs.Value.{value_of}
 use Rattle.js_json.proofs.OnTexts.{json_on_texts}
-use Rattle.js_forms.specs.Table.{table_of, ranks_of}
-use Rattle.js_forms.proofs.Ranks.{IsTable-table_of, is_table-table_of}
-use Rattle.js_forms.proofs.Meaning.{valid-holds}
-use Rattle.js_forms.proofs.Small.{length-table_of}
-use Rattle.js_forms.specs.Places.{first_fault}
-use Rattle.js_decide.specs.Verdict.{Verdict, Document as OfKind, Limit, Certificate, is_over, is_open, of_kinds, of_goal, verdict}
-use Rattle.position_laws.proofs.Plainness.{is_plain-joined}
-use Rattle.js_forms.proofs.Plain.{is_plain-table_of}
-use Rattle.js_decide.proofs.VerdictLaws.{verdict-document, verdict-good, verdict-text, verdict-certificate}
-use Rattle.js_top.specs.Report.{line, sample_text, verdict_report, include_report}
-use Rattle.js_top.specs.Meaning.{IsCounterexample, IsCertificate, IsLimit, PassesLimit, Settles}
+use Rattle.js_decide.specs.Verdict.{Verdict, Document as OfKind, Limit, Certificate, verdict}
+use Rattle.js_inclusion.specs.Comparison.{Decided, both, second_root}
+use Rattle.js_inclusion.specs.Meaning.{Tells}
+use Rattle.js_inclusion.proofs.MeaningLaws.{passes-limit}
+use Rattle.js_comparison.specs.Outcome.{entries_read}
+use Rattle.js_top.specs.Report.{line, sample_text, verdict_report}
+use Rattle.js_top.specs.Meaning.{IsCounterexample, IsCertificate, IsLimit, PassLimit, Settles}
 use Rattle.js_top.specs.declared.status.Status.{Status}
 use Rattle.js_top.specs.declared.status.Status.TheVariants as S
 
@@ -66,128 +53,39 @@ value_of-sample Text = refl
 value_of-sample Array = refl
 value_of-sample Object = refl
 
--- what the verdict of a limit says of its goal
-first-none : (p : Kind → Bool) (ts : List Kind) → first p ts ≡ None → some p ts ≡ false
-first-none p [] e = refl
-first-none p (t ∷ ts) e = go (p t) refl e (first-none p ts) where
-  go : (b : Bool) → p t ≡ b → cond b (Some t) (first p ts) ≡ None → (first p ts ≡ None → some p ts ≡ false)
-      → (p t || some p ts) ≡ false
-  go true h e more = cc
-  go false h e more = ap (λ b. b || some p ts) h ∙ more e
+-- the verdict on two schemas, and what it means for their values
+abbrev pub IsVerdict : Json → Json → Verdict → Type 0
+IsVerdict a b v = verdict (both (entries_read a) (entries_read b)) 0 (second_root (entries_read a)) ≡ v
 
-limit_goal : (T : List Position) (h g : List Signed) → of_goal T (Some h) ≡ Limit g
-    → (h ≡ g) × (some (is_over T h) all_kinds ≡ true) × (some (is_open T h) all_kinds ≡ false)
-limit_goal T h g e = go (first (is_open T h) all_kinds) refl e where
-  at : (b : Bool) → some (is_over T h) all_kinds ≡ b → cond b (Limit h) (Certificate (written T (Some h))) ≡ Limit g
-      → first (is_open T h) all_kinds ≡ None
-      → (h ≡ g) × (some (is_over T h) all_kinds ≡ true) × (some (is_open T h) all_kinds ≡ false)
-  at true i e f = (cc, i, first-none (is_open T h) all_kinds f)
-  at false i e f = cc
+abbrev pub VerdictTells : Json → Json → Verdict → Type 0
+VerdictTells a b v = Tells (entries_read a) (entries_read b) a b (Decided v)
 
-  go : (o : Option Kind) → first (is_open T h) all_kinds ≡ o → of_kinds T h o ≡ Limit g
-      → (h ≡ g) × (some (is_over T h) all_kinds ≡ true) × (some (is_open T h) all_kinds ≡ false)
-  go (Some t) f e = cc
-  go None f e = at (some (is_over T h) all_kinds) refl e f
+-- two schemas whose trees pass the limit have its report
+pub passes-report : (a b : Json) (v : Verdict) → IsVerdict a b v → PassLimit a b → (verdict_report v).status ≡ S.Limit
+passes-report a b v is (goal, passes) =
+    ap (λ w. (verdict_report w).status) (sym is ∙ passes-limit (entries_read a) (entries_read b) goal passes)
 
 module _ (a b : Json) where
-  abbrev both : List Position
-  both = joined (table_of a) (table_of b)
-
-  filled : (j : Json) → 0 < length (table_of j)
-  filled j = let ok = IsTable-table_of j in omega (arith, ok.ranked.bounded 0)
-
-  pub both_table : IsTable (joined (table_of a) (table_of b))
-  both_table =
-      joined-IsTable (table_of a) (table_of b) (ranks_of a) (ranks_of b) (is_table-table_of a) (is_table-table_of b)
-      (omega (arith, length-joined (table_of a) (table_of b), filled a))
-
-  -- a document is valid for the first schema where position 0 holds, and for the second where its position 0 does
-  pub valid-first : (J : Document) → valid a J ≡ holds (joined (table_of a) (table_of b)) 0 J
-  valid-first J =
-      valid-holds a J (IsTable-table_of a)
-      ∙ sym (holds-joined_left (table_of a) (table_of b) (ranks_of a) (ranks_of b) (is_table-table_of a)
-      (is_table-table_of b) 0 J (filled a))
-
-  pub valid-second : (J : Document) → valid b J ≡ holds (joined (table_of a) (table_of b)) (length (table_of a)) J
-  valid-second J =
-      let same : length (table_of a) + 0 ≡ length (table_of a) = omega arith in
-      valid-holds b J (IsTable-table_of b)
-      ∙ sym (holds-joined_right (table_of a) (table_of b) (ranks_of a) (ranks_of b) (is_table-table_of a)
-      (is_table-table_of b) 0 J (filled b))
-      ∙ ap (λ p. holds (joined (table_of a) (table_of b)) p J) same
-
-  in_first : 0 < length (joined (table_of a) (table_of b))
-  in_first = omega (arith, length-joined (table_of a) (table_of b), filled a)
-
-  in_second : length (table_of a) < length (joined (table_of a) (table_of b))
-  in_second = omega (arith, length-joined (table_of a) (table_of b), filled b)
-
-  -- its positions are within the numbers of a certificate
-  few : first_fault a ≡ None → first_fault b ≡ None → length (joined (table_of a) (table_of b)) ≤ 4294967296
-  few sound_a sound_b =
-      omega (arith, length-joined (table_of a) (table_of b), length-table_of a sound_a, length-table_of b sound_b)
-
-  -- a document's report
-  counterexample : (t : Kind) (text : List ℕ) → verdict (joined (table_of a) (table_of b)) 0
-      (length (table_of a)) ≡ OfKind t
+  counterexample : (t : Kind) (text : List ℕ) → VerdictTells a b (OfKind t)
       → line (codes "document") ++ line (sample_text t) ≡ text → IsCounterexample a b text
-  counterexample t text e is =
-      let (first, second) = verdict-document (joined (table_of a) (table_of b)) both_table 0 (length (table_of a))
-      (is_plain-joined (table_of a) (table_of b) (is_plain-table_of a) (is_plain-table_of b)) t e (sample t)
-      (kind_of-sample t) in
+  counterexample t text tells is =
       record {
         document = sample t;
         is = record { rest = line (sample_text t); line = sym is; value = value_of-sample t };
-        separates = record {
-          document = is_document-sample t;
-          first = valid-first (sample t) ∙ first;
-          second = valid-second (sample t) ∙ second;
-        };
+        separates = tells (sample t) (is_document-sample t) (kind_of-sample t);
       }
 
-  -- a certificate's report
-  certificate : (ls : List Line) (text : List ℕ) → verdict (joined (table_of a) (table_of b)) 0
-      (length (table_of a)) ≡ Certificate ls
-      → first_fault a ≡ None → first_fault b ≡ None → lines_text ls ≡ text → IsCertificate a b text
-  certificate ls text e sound_a sound_b is =
-      let good = verdict-good both both_table 0 (length (table_of a)) ls in_first in_second e in
-      let in_grammar = verdict-text both both_table 0 (length (table_of a)) ls
-      (few sound_a sound_b) in_first in_second e in
+  certificate : (ls : List Line) (text : List ℕ) → VerdictTells a b (Certificate ls) → lines_text ls ≡ text
+      → IsCertificate a b text
+  certificate ls text tells is =
       record {
-        good = record { lines = ls; is_text = subst (λ t. IsText t ls) is in_grammar; good = good };
-        included = λ J document h.
-            valid-second J
-            ∙ verdict-certificate both both_table 0 (length (table_of a)) ls in_first in_second e J
-            (sym (valid-first J) ∙ h);
+        good = record { lines = ls; is_text = subst (λ t. IsText t ls) is tells.in_grammar; good = tells.good };
+        included = tells.included;
       }
 
-  -- a limit's report
-  limit_parts : (g : List Signed) → verdict (joined (table_of a) (table_of b)) 0 (length (table_of a)) ≡ Limit g
-      → (form (joined (table_of a) (table_of b)) (Plus 0 ∷ Minus (length (table_of a)) ∷ []) ≡ Some g)
-      × (some (is_over (joined (table_of a) (table_of b)) g) all_kinds ≡ true)
-      × (some (is_open (joined (table_of a) (table_of b)) g) all_kinds ≡ false)
-  limit_parts g e = go (form (joined (table_of a) (table_of b)) (Plus 0 ∷ Minus (length (table_of a)) ∷ [])) refl e
-    where
-      go : (o : Option (List Signed)) → form (joined (table_of a) (table_of b))
-          (Plus 0 ∷ Minus (length (table_of a)) ∷ []) ≡ o
-          → of_goal (joined (table_of a) (table_of b)) o ≡ Limit g
-          → (form (joined (table_of a) (table_of b)) (Plus 0 ∷ Minus (length (table_of a)) ∷ []) ≡ Some g)
-          × (some (is_over (joined (table_of a) (table_of b)) g) all_kinds ≡ true)
-          × (some (is_open (joined (table_of a) (table_of b)) g) all_kinds ≡ false)
-      go None f e = cc
-      go (Some h) f e =
-          let (same, over, none) = limit_goal (joined (table_of a) (table_of b)) h g e in (
-            f ∙ ap Some same,
-            subst (λ k. some (is_over (joined (table_of a) (table_of b)) k) all_kinds ≡ true) same over,
-            subst (λ k. some (is_open (joined (table_of a) (table_of b)) k) all_kinds ≡ false) same none,
-          )
-
-  limited : (g : List Signed) (text : List ℕ) → verdict (joined (table_of a) (table_of b)) 0
-      (length (table_of a)) ≡ Limit g
+  limited : (g : List Signed) (text : List ℕ) → VerdictTells a b (Limit g)
       → line (codes "limit branches" ++ signed_list_text g) ≡ text → IsLimit a b text
-  limited g text e is =
-      let (formed, over, none) = limit_parts g e in
-      record { goal = g; formed = formed; written = is; over = over; none_open = none }
+  limited g text tells is = record { goal = g; passed = tells; written = is }
 
   -- what the status of a report and its text mean
   abbrev pub OfStatus : Status → List ℕ → Type 0
@@ -196,54 +94,23 @@ module _ (a b : Json) where
   OfStatus S.Limit text = IsLimit a b text
   OfStatus _ text = Unit {0}
 
-  pub include_report-means : (text : List ℕ) (status : Status) → first_fault a ≡ None → first_fault b ≡ None
-      → include_report a b ≡ record { text = text; status = status } → OfStatus status text
-  include_report-means text status sound_a sound_b e =
-      go (verdict (joined (table_of a) (table_of b)) 0 (length (table_of a))) refl e where
-        go : (v : Verdict) → verdict (joined (table_of a) (table_of b)) 0 (length (table_of a)) ≡ v
-            → verdict_report v ≡ record { text = text; status = status } → OfStatus status text
-        go (OfKind t) h e =
-            subst (λ s. OfStatus s text) (ap (λ r. r.status) e) (counterexample t text h (ap (λ r. r.text) e))
-        go (Certificate ls) h e =
-            subst (λ s. OfStatus s text) (ap (λ r. r.status) e)
-            (certificate ls text h sound_a sound_b (ap (λ r. r.text) e))
-        go (Limit g) h e = subst (λ s. OfStatus s text) (ap (λ r. r.status) e) (limited g text h (ap (λ r. r.text) e))
+  pub verdict_report-means : (v : Verdict) → VerdictTells a b v → (text : List ℕ) (status : Status)
+      → verdict_report v ≡ record { text = text; status = status } → OfStatus status text
+  verdict_report-means (OfKind t) tells text status e =
+      subst (λ s. OfStatus s text) (ap (λ r. r.status) e) (counterexample t text tells (ap (λ r. r.text) e))
+  verdict_report-means (Certificate ls) tells text status e =
+      subst (λ s. OfStatus s text) (ap (λ r. r.status) e) (certificate ls text tells (ap (λ r. r.text) e))
+  verdict_report-means (Limit g) tells text status e =
+      subst (λ s. OfStatus s text) (ap (λ r. r.status) e) (limited g text tells (ap (λ r. r.text) e))
 
--- where none passes a test there is no first
-first-absent : (p : Kind → Bool) (ts : List Kind) → some p ts ≡ false → first p ts ≡ None
-first-absent p [] e = refl
-first-absent p (t ∷ ts) e = go (p t) refl e (first-absent p ts) where
-  go : (b : Bool) → p t ≡ b → (b || some p ts) ≡ false → (some p ts ≡ false → first p ts ≡ None)
-      → cond b (Some t) (first p ts) ≡ None
-  go true h e more = cc
-  go false h e more = more e
+  unpassed : (v : Verdict) → IsVerdict a b v → ((verdict_report v).status ≡ S.Limit → ⊥) → PassLimit a b → ⊥
+  unpassed v is other passes = other (passes-report a b v is passes)
 
--- two schemas whose trees pass the limit have its report
-pub passes-report : (a b : Json) → PassesLimit a b → (include_report a b).status ≡ S.Limit
-passes-report a b x =
-    ap (λ o. (verdict_report (of_goal (joined (table_of a) (table_of b)) o)).status) x.formed
-    ∙ ap (λ o. (verdict_report (of_kinds (joined (table_of a) (table_of b)) x.goal o)).status)
-    (first-absent (is_open (joined (table_of a) (table_of b)) x.goal) all_kinds x.none_open)
-    ∙ ap (λ c. (verdict_report (cond c (Limit x.goal)
-    (Certificate (written (joined (table_of a) (table_of b)) (Some x.goal))))).status) x.over
-
--- the report of two schemas settles their question
-module _ (a b : Json) where
-  unpassed : (v : Verdict) → verdict (joined (table_of a) (table_of b)) 0 (length (table_of a)) ≡ v
-      → ((verdict_report v).status ≡ S.Limit → ⊥) → PassesLimit a b → ⊥
-  unpassed v h other x = other (ap (λ w. (verdict_report w).status) (sym h) ∙ passes-report a b x)
-
-  pub include_report-settles : (text : List ℕ) (status : Status) → first_fault a ≡ None → first_fault b ≡ None
-      → include_report a b ≡ record { text = text; status = status } → Settles a b text
-  include_report-settles text status sound_a sound_b e =
-      go (verdict (joined (table_of a) (table_of b)) 0 (length (table_of a))) refl e where
-        go : (v : Verdict) → verdict (joined (table_of a) (table_of b)) 0 (length (table_of a)) ≡ v
-            → verdict_report v ≡ record { text = text; status = status } → Settles a b text
-        go (OfKind t) h e =
-            inr (unpassed (OfKind t) h (λ w. cc), inl (counterexample a b t text h (ap (λ r. r.text) e)))
-        go (Certificate ls) h e =
-            inr (
-              unpassed (Certificate ls) h (λ w. cc),
-              inr (certificate a b ls text h sound_a sound_b (ap (λ r. r.text) e)),
-            )
-        go (Limit g) h e = inl (limited a b g text h (ap (λ r. r.text) e))
+  -- it settles their question
+  pub verdict_report-settles : (v : Verdict) → IsVerdict a b v → VerdictTells a b v → (text : List ℕ) (status : Status)
+      → verdict_report v ≡ record { text = text; status = status } → Settles a b text
+  verdict_report-settles (OfKind t) is tells text status e =
+      inr (unpassed (OfKind t) is (λ w. cc), inl (counterexample t text tells (ap (λ r. r.text) e)))
+  verdict_report-settles (Certificate ls) is tells text status e =
+      inr (unpassed (Certificate ls) is (λ w. cc), inr (certificate ls text tells (ap (λ r. r.text) e)))
+  verdict_report-settles (Limit g) is tells text status e = inl (limited g text tells (ap (λ r. r.text) e))

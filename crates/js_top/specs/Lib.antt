@@ -1,13 +1,12 @@
--- What a reader must believe: the command of the words, what a schema file is read as, the report of a command over
--- files with its status, what a report's document, certificate or limit means, when a certificate is accepted, and
--- what a run writes.
+-- What a reader must believe: the names that the words give, the report of a command over files with its status, what
+-- a report's document, certificate, limit or refusal means, when a certificate is accepted, what a run writes, and what
+-- it writes for `valid`.
 pub mod StatusCode
-pub mod Command
-pub mod Reading
+pub mod Names
 pub mod Report
 pub mod Meaning
 pub mod Accepting
 pub mod Running
--- Used inside: what loading a file and preparing a report say.
-pub mod Loading
+pub mod Judging
+-- Used inside: what preparing a report says.
 pub mod Preparing

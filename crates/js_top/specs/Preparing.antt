@@ -2,7 +2,7 @@
 use Rattle.std.specs.Prelude.{◌≡◌, ℕ, List, Bool, true, false, codes, Option, Some, None, IsSome}
 use Rattle.js_outside.specs.Counts.{Rose}
 use Rattle.js_outside.specs.Told.{Files}
-use Rattle.js_top.specs.Command.{command}
+use Rattle.js_words.specs.Commands.{Command, command}
 use Rattle.js_top.specs.Report.{Report, printed, IsReportOf, IsReport}
 use Rattle.js_top.specs.declared.status.Status.{Status}
 use Rattle.js_top.specs.declared.status.Status.TheVariants as S
@@ -29,10 +29,10 @@ PreparedSays told words before after (P.Made bytes status) =
     (after ≡ before) × (is_answer status ≡ true) × IsReport told words (record { text = bytes.items; status = status })
     × IsSome (command words)
 
--- the same of `include` with two names
-abbrev pub IncludeSays : Option Files → List ℕ → List ℕ → ℕ → ℕ → Prepared → Type 0
-IncludeSays told a b before after P.Usage = ⊥
-IncludeSays told a b before after P.Unread = Rose before after
-IncludeSays told a b before after (P.Made bytes status) =
-    (after ≡ before) × (is_answer status ≡ true) × IsReportOf told (Some (a, b))
+-- the same of a command
+abbrev pub CommandSays : Option Files → Command → ℕ → ℕ → Prepared → Type 0
+CommandSays told c before after P.Usage = ⊥
+CommandSays told c before after P.Unread = Rose before after
+CommandSays told c before after (P.Made bytes status) =
+    (after ≡ before) × (is_answer status ≡ true) × IsReportOf told (Some c)
     (record { text = bytes.items; status = status })

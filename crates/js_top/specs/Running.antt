@@ -6,7 +6,7 @@ use Rattle.js_outside.specs.Counts.{Rose}
 use Rattle.js_outside.specs.Told.{Files}
 use Rattle.js_report.specs.Written.{AppendsPrefix}
 use Rattle.js_top.specs.Report.{Report, printed, IsReport}
-use Rattle.js_top.specs.Meaning.{AreSchemas, WhereTold, Settles, IsFirstRefusal}
+use Rattle.js_top.specs.Meaning.{AreNamed, WhereTold, Settles, IsRefusal}
 use Rattle.js_top.specs.Accepting.{IsAcceptedFor}
 use Rattle.js_top.specs.declared.status.Status.{Status}
 use Rattle.js_top.specs.declared.status.Status.TheVariants.{ReadFault}
@@ -22,15 +22,16 @@ abbrev pub WritesReport : Option Files → List (List ℕ) → Option (List ℕ)
 WritesReport told words old new status =
     (text : List ℕ) × Appends old new text × IsReport told words (record { text = text; status = status })
 
--- for every two schemas that the words name and that are read, a text that settles their question
+-- for every two schemas that the words name and that are decided on, a text that settles their question
 abbrev pub WritesAnswer : Option Files → List (List ℕ) → Option (List ℕ) → Option (List ℕ) → Type 0
-WritesAnswer told words old new = (text : List ℕ) × Appends old new text × WhereTold told words (λ a b. Settles a b text)
+WritesAnswer told words old new =
+    (text : List ℕ) × Appends old new text × WhereTold told words (λ a b. Settles a b text)
 
--- a text of which a fact holds for the two schemas that the words name, which are both read
+-- a text of which a fact holds for the two schemas that the words name, which are decided on
 abbrev pub WritesMeaning : Option Files → List (List ℕ) → Option (List ℕ) → Option (List ℕ)
     → (Json → Json → List ℕ → Type 0) → Type 0
 WritesMeaning told words old new P =
-    (text : List ℕ) × Appends old new text × ((a : Json) × (b : Json) × AreSchemas told words a b × P a b text)
+    (text : List ℕ) × Appends old new text × ((a : Json) × (b : Json) × AreNamed told words a b × P a b text)
 
 -- a text that is accepted as a certificate for the bytes of the two files
 abbrev pub WritesAccepted : Option Files → List (List ℕ) → Option (List ℕ) → Option (List ℕ) → Type 0
@@ -38,4 +39,4 @@ WritesAccepted told words old new = (text : List ℕ) × Appends old new text ×
 
 -- the line of the first refusal in the order of work
 abbrev pub WritesRefusal : Option Files → List (List ℕ) → Option (List ℕ) → Option (List ℕ) → Type 0
-WritesRefusal told words old new = (text : List ℕ) × Appends old new text × IsFirstRefusal told words text
+WritesRefusal told words old new = (text : List ℕ) × Appends old new text × IsRefusal told words text

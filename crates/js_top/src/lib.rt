@@ -7,12 +7,10 @@
 #![tactic(auto)]
 
 mod accept;
-mod load;
 mod prepare;
 mod status;
 mod text;
 mod top;
-mod words;
 
 pub use accept::accepted;
 pub use status::Status;

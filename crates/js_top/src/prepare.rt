@@ -1,24 +1,20 @@
 //! The report of a command, made whole before anything is written.
 
-ghost use Rattle.std.specs.Prelude.{◌≡◌, ◌<◌, ◌≤◌, IfOk, OnErr, IsSome, length, true};
-ghost use Rattle.position_laws.specs.Join.{joined};
-ghost use Rattle.position_laws.specs.Plain.{is_plain};
-ghost use Rattle.js_forms.specs.Places.{most_weight};
-ghost use Rattle.js_decide.specs.Verdict.{verdict};
+ghost use Rattle.std.specs.Prelude.{◌≡◌, IfOk, OnErr, IsSome};
+ghost use Rattle.js_decide.specs.View.{verdict_view};
 ghost use Rattle.js_top.specs.Report.{verdict_report};
-ghost use Rattle.js_top.specs.Command.{command};
+ghost use Rattle.js_words.specs.Commands.{command, Include, Valid};
 ghost use Rattle.js_top.specs.Preparing.{PreparedSays, report_of};
 
-use crate::load::{Loaded, load};
 use crate::status::Status;
 use crate::text::{limit, refusal, sample};
-use crate::words::include_names;
-use js_algebra::Core;
 use js_cert::cert_text;
-use js_decide::{Verdict, make_verdict};
+use js_comparison::{FilesOutcome, compare_files};
+use js_decide::Verdict;
 use js_doc::{Memory, Str};
-use js_normal::join_tables;
 use js_outside::Shelf;
+use js_validation::{Validation, validate};
+use js_words::{Command, read_words};
 use std::alloc::Global;
 
 /// What is to be written, and the status that it comes with. The first two take no memory.
@@ -67,8 +63,9 @@ pub(crate) fn prepare<H: Shelf>(
     ensures memory { OnErr result (H.faults shelf.new ≡ H.faults shelf.old) }
     ensures some_words { OnErr result (IsSome (command words.now)) }
 {
-    match include_names(words) {
-        Some((first, second)) => prepare_include(alloc, shelf, first, second),
+    match read_words(words) {
+        Some(Command::Include(first, second)) => prepare_include(alloc, shelf, first, second),
+        Some(Command::Valid(schema, document)) => prepare_valid(alloc, shelf, schema, document),
         None => Ok(Prepared::Usage),
     }
 }
@@ -82,26 +79,49 @@ fn prepare_include<H: Shelf>(
 ) -> Result<Prepared, Memory>
     ensures told { H.told shelf.new ≡ H.told shelf.old }
     ensures says { IfOk result
-        (IncludeSays (H.told shelf.old) first.now second.now (H.faults shelf.old) (H.faults shelf.new)) }
+        (CommandSays (H.told shelf.old) (Include first.now second.now) (H.faults shelf.old) (H.faults shelf.new)) }
     ensures memory { OnErr result (H.faults shelf.new ≡ H.faults shelf.old) }
 {
-    let a = match load(alloc, shelf, first)? {
-        Loaded::Table(core) => core,
-        Loaded::Refused(words) => return refused(alloc, "first", words),
-        Loaded::Unread => return Ok(Prepared::Unread),
-    };
-    let b = match load(alloc, shelf, second)? {
-        Loaded::Table(core) => core,
-        Loaded::Refused(words) => return refused(alloc, "second", words),
-        Loaded::Unread => return Ok(Prepared::Unread),
-    };
-    compared(alloc, &a, &b)
+    match compare_files(alloc, shelf, first, second)? {
+        FilesOutcome::Decided(verdict) => decided(alloc, verdict),
+        FilesOutcome::FirstRefused(words) => refused(alloc, "first", words),
+        FilesOutcome::SecondRefused(words) => refused(alloc, "second", words),
+        FilesOutcome::Unread => Ok(Prepared::Unread),
+    }
 }
 
-ghost use Rattle.js_top.specs.Preparing.{IncludeSays};
+ghost use Rattle.js_top.specs.Preparing.{CommandSays};
 ghost use Rattle.js_top.specs.Report.{printed};
 ghost use Rattle.js_top.specs.declared.status.Status.TheVariants.{Refused};
 ghost use Rattle.std.specs.Prelude.{◌++◌, ◌∷◌, codes, string_bytes};
+
+/// The report of `valid`: the document is read only where the schema is one.
+fn prepare_valid<H: Shelf>(
+    alloc: Global,
+    shelf: &mut H,
+    schema: &Str,
+    document: &Str,
+) -> Result<Prepared, Memory>
+    ensures told { H.told shelf.new ≡ H.told shelf.old }
+    ensures says { IfOk result
+        (CommandSays (H.told shelf.old) (Valid schema.now document.now) (H.faults shelf.old) (H.faults shelf.new)) }
+    ensures memory { OnErr result (H.faults shelf.new ≡ H.faults shelf.old) }
+{
+    match validate(alloc, shelf, schema, document)? {
+        Validation::Valid => made(alloc, "valid\n", Status::Done),
+        Validation::Invalid => made(alloc, "invalid\n", Status::Other),
+        Validation::SchemaRefused(words) => refused(alloc, "first", words),
+        Validation::DocumentRefused(words) => refused(alloc, "document", words),
+        Validation::Unread => Ok(Prepared::Unread),
+    }
+}
+
+fn made(alloc: Global, text: &str, status: Status) -> Result<Prepared, Memory>
+    ensures { IfOk result (λ p. report_of p ≡ record { text = text.now; status = status }) }
+{
+    let bytes = String::from_str(alloc, text)?.into_bytes();
+    Ok(Prepared::Made(bytes, status))
+}
 
 fn refused(alloc: Global, role: &str, words: String) -> Result<Prepared, Memory>
     ensures { IfOk result
@@ -111,19 +131,10 @@ fn refused(alloc: Global, role: &str, words: String) -> Result<Prepared, Memory>
     Ok(Prepared::Made(text.into_bytes(), Status::Refused))
 }
 
-/// The report on two tables with their schemas at position 0.
-fn compared(alloc: Global, a: &Core, b: &Core) -> Result<Prepared, Memory>
-    requires a_filled { 0 < length a.now.positions }
-    requires b_filled { 0 < length b.now.positions }
-    requires a_plain { is_plain a.now.positions ≡ true }
-    requires b_plain { is_plain b.now.positions ≡ true }
-    requires a_small { length a.now.positions ≤ most_weight }
-    requires b_small { length b.now.positions ≤ most_weight }
-    ensures { IfOk result (λ p. report_of p
-        ≡ verdict_report (verdict (joined a.now.positions b.now.positions) 0 (length a.now.positions))) }
+fn decided(alloc: Global, verdict: Verdict) -> Result<Prepared, Memory>
+    ensures { IfOk result (λ p. report_of p ≡ verdict_report (verdict_view verdict)) }
 {
-    let (core, at_a, at_b) = join_tables(alloc, a, b)?;
-    let (text, status) = match make_verdict(alloc, &core, at_a, at_b)? {
+    let (text, status) = match verdict {
         Verdict::Document(kind) => (sample(alloc, kind)?.into_bytes(), Status::Other),
         Verdict::Limit(goal) => (limit(alloc, &goal)?.into_bytes(), Status::Limit),
         Verdict::Certificate(cert) => (cert_text(alloc, &cert)?, Status::Done),

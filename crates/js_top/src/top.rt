@@ -1,12 +1,14 @@
 //! The top call.
 
-ghost use Rattle.std.specs.Prelude.{◌≡◌, ◌≢◌, ◌<◌, None, codes};
+ghost use Rattle.std.specs.Prelude.{◌≡◌, ◌≢◌, ◌<◌, true, false, None, codes};
 ghost use Rattle.std.specs.Io.KnownBytes.{Appends};
 ghost use Rattle.js_outside.specs.Counts.{Rose, Stays};
-ghost use Rattle.js_top.specs.Command.{command};
+ghost use Rattle.js_words.specs.Commands.{command};
+ghost use Rattle.js_top.specs.Names.{IsInclude, IsValid};
+ghost use Rattle.js_top.specs.Judging.{WritesJudgement, WritesDecision, WritesJudgedRefusal};
 ghost use Rattle.js_top.specs.Report.{line};
 ghost use Rattle.js_top.specs.Running.{WritesPart, WritesReport, WritesMeaning, WritesRefusal, WritesAnswer, WritesAccepted};
-ghost use Rattle.js_top.specs.Meaning.{IsCounterexample, IsCertificate, IsLimit, PassesLimit, WhereTold};
+ghost use Rattle.js_top.specs.Meaning.{IsCounterexample, IsCertificate, IsLimit, PassLimit, WhereTold};
 
 use crate::prepare::prepare;
 use crate::status::Status;
@@ -27,9 +29,9 @@ pub fn run<R, H: Shelf, K: Sink>(
     shelf: &mut H,
     sink: &mut K,
 ) -> Status
-    // The headline: where files are told, no fault is counted and memory suffices, two schemas that are read get the
-    // limit exactly where it is passed, and else a document that the first accepts and the second doesn't, or a
-    // certificate and with it the inclusion.
+    // The headline: where files are told, no fault is counted and memory suffices, two schemas that are decided on get
+    // the limit exactly where it is passed, and else a document that is valid for the first and not for the second, or
+    // a certificate and with it the inclusion.
     ensures headline { Stays (H.faults shelf.old) (H.faults shelf.new) → Stays (K.faults sink.old) (K.faults sink.new)
         → result ≢ Status.Memory
         → WritesAnswer (H.told shelf.old) words.now (K.written sink.old) (K.written sink.new) }
@@ -60,22 +62,36 @@ pub fn run<R, H: Shelf, K: Sink>(
         → WritesReport (H.told shelf.old) words.now (K.written sink.old) (K.written sink.new) result }
 
     // A refusal is the first in the order of work, with its role, word and pointer.
-    ensures refusal { result ≡ Status.Refused
+    ensures refusal { result ≡ Status.Refused → IsInclude words.now
         → WritesRefusal (H.told shelf.old) words.now (K.written sink.old) (K.written sink.new) }
 
-    // And for two schemas that are read this means:
-    ensures document { result ≡ Status.Other
+    // And for two schemas that are decided on this means:
+    ensures document { result ≡ Status.Other → IsInclude words.now
         → WritesMeaning (H.told shelf.old) words.now (K.written sink.old) (K.written sink.new) IsCounterexample }
-    ensures certificate { result ≡ Status.Done
+    ensures certificate { result ≡ Status.Done → IsInclude words.now
         → WritesMeaning (H.told shelf.old) words.now (K.written sink.old) (K.written sink.new) IsCertificate }
-    ensures accepted { result ≡ Status.Done
+    ensures accepted { result ≡ Status.Done → IsInclude words.now
         → WritesAccepted (H.told shelf.old) words.now (K.written sink.old) (K.written sink.new) }
     ensures limit { result ≡ Status.Limit
         → WritesMeaning (H.told shelf.old) words.now (K.written sink.old) (K.written sink.new) IsLimit }
 
     // The limit comes wherever it is passed.
     ensures limited { result ≢ Status.ReadFault → result ≢ Status.WriteFault → result ≢ Status.Memory
-        → WhereTold (H.told shelf.old) words.now (λ a b. PassesLimit a b → result ≡ Status.Limit) }
+        → WhereTold (H.told shelf.old) words.now (λ a b. PassLimit a b → result ≡ Status.Limit) }
+
+    // The headline of `valid`: where files are told, no fault is counted and memory suffices, the word is `valid` exactly
+    // where the document is valid for the schema, and else `invalid`.
+    ensures decided { Stays (H.faults shelf.old) (H.faults shelf.new) → Stays (K.faults sink.old) (K.faults sink.new)
+        → result ≢ Status.Memory
+        → WritesDecision (H.told shelf.old) words.now (K.written sink.old) (K.written sink.new) result }
+
+    // The same status by status, whatever the shelf tells.
+    ensures valid { result ≡ Status.Done → IsValid words.now
+        → WritesJudgement (H.told shelf.old) words.now (K.written sink.old) (K.written sink.new) true }
+    ensures invalid { result ≡ Status.Other → IsValid words.now
+        → WritesJudgement (H.told shelf.old) words.now (K.written sink.old) (K.written sink.new) false }
+    ensures valid_refusal { result ≡ Status.Refused → IsValid words.now
+        → WritesJudgedRefusal (H.told shelf.old) words.now (K.written sink.old) (K.written sink.new) }
 
     // The files that the shelf tells are the same after the call.
     ensures told { H.told shelf.new ≡ H.told shelf.old }

@@ -36,6 +36,9 @@ fn two_schemas_are_compared(rt: HostRuntime) -> Result<(), Memory> {
         (STRING, STRING_OR_NULL, 0, CERTIFICATE),
         (STRING_OR_NULL, STRING, 1, "document\nnull\n"),
         ("{\"title\":{\"type\":5}}", "true", 0, NOTHING_LISTED),
+        ("{\"$id\":\"urn:a\"}", "true", 0, NOTHING_LISTED),
+        ("{\"additionalItems\":false}", "true", 0, NOTHING_LISTED),
+        ("{}", "{\"type\":[]}", 1, "document\nnull\n"),
         ("{\"type\":\"boolean\"}", "false", 1, "document\nfalse\n"),
         (
             "true",
@@ -64,49 +67,41 @@ fn two_schemas_are_compared(rt: HostRuntime) -> Result<(), Memory> {
 }
 
 #[test]
-fn a_file_that_is_no_schema_of_the_forms_is_refused(rt: HostRuntime) -> Result<(), Memory> {
+fn a_file_that_is_no_schema_is_refused(rt: HostRuntime) -> Result<(), Memory> {
     for (a, b, report) in [
         ("", "true", "refused first notjson\n"),
         ("{\"type\":", "true", "refused first notjson\n"),
         ("\u{feff}true", "true", "refused first notjson\n"),
         ("{\"title\":\"\\ud800\"}", "true", "refused first notjson\n"),
         ("{\"title\":1e999}", "true", "refused first notjson\n"),
-        ("5", "true", "refused first notyet \"\"\n"),
+        ("5", "true", "refused first notaschema \"\"\n"),
         (
             "{\"type\":\"frob\"}",
             "true",
-            "refused first notyet \"/type\"\n",
+            "refused first wrongshape type \"/type\"\n",
         ),
-        ("{\"type\":[]}", "true", "refused first notyet \"/type\"\n"),
         (
             "{\"allOf\":[]}",
             "true",
-            "refused first notyet \"/allOf\"\n",
+            "refused first emptylist \"/allOf\"\n",
         ),
-        ("{\"allOf\":5}", "true", "refused first notyet \"/allOf\"\n"),
+        (
+            "{\"allOf\":5}",
+            "true",
+            "refused first wrongshape allOf \"/allOf\"\n",
+        ),
         (
             "{\"allOf\":[5]}",
             "true",
-            "refused first notyet \"/allOf/0\"\n",
+            "refused first notaschema \"/allOf/0\"\n",
         ),
         (
             "{\"$ref\":\"#\"}",
             "true",
-            "refused first notyet \"/$ref\"\n",
-        ),
-        (
-            "{\"minimum\":1}",
-            "true",
-            "refused first notyet \"/minimum\"\n",
+            "refused first cycle \"\"\n",
         ),
         ("true", "", "refused second notjson\n"),
-        (
-            "true",
-            "{\"not\":{\"minimum\":1}}",
-            "refused second notyet \"/not/minimum\"\n",
-        ),
-        ("", "{\"minimum\":1}", "refused first notjson\n"),
-        ("{\"minimum\":1}", "", "refused first notyet \"/minimum\"\n"),
+        ("", "5", "refused first notjson\n"),
     ] {
         let files = (a.as_bytes(), b.as_bytes());
         expect(&rt, rt.alloc(), "include a b", files, (3, report))?;
@@ -119,6 +114,39 @@ fn a_file_that_is_no_schema_of_the_forms_is_refused(rt: HostRuntime) -> Result<(
         files,
         (3, "refused first notjson\n"),
     )
+}
+
+/// A file that is no schema is told before a place that isn't decided on.
+#[test]
+fn a_place_that_is_not_decided_on_is_refused(rt: HostRuntime) -> Result<(), Memory> {
+    for (a, b, report) in [
+        (
+            "{\"minimum\":1}",
+            "true",
+            "refused first notyet \"/minimum\"\n",
+        ),
+        (
+            "{\"required\":[],\"enum\":[1],\"type\":\"null\"}",
+            "{\"minimum\":1}",
+            "refused first notyet \"/enum\"\n",
+        ),
+        (
+            "{\"allOf\":[{\"$ref\":\"#/definitions/a\"}],\"definitions\":{\"a\":true}}",
+            "true",
+            "refused first notyet \"/allOf/0/$ref\"\n",
+        ),
+        (
+            "true",
+            "{\"not\":{\"minimum\":1}}",
+            "refused second notyet \"/not/minimum\"\n",
+        ),
+        ("", "{\"minimum\":1}", "refused first notjson\n"),
+        ("{\"minimum\":1}", "", "refused second notjson\n"),
+    ] {
+        let files = (a.as_bytes(), b.as_bytes());
+        expect(&rt, rt.alloc(), "include a b", files, (3, report))?;
+    }
+    Ok(())
 }
 
 /// `inner` between `count` copies of `open` and of `close`.
@@ -151,7 +179,7 @@ fn a_file_may_have_16777216_bytes(rt: HostRuntime) -> Result<(), Memory> {
 #[test]
 fn lists_may_nest_127_deep(rt: HostRuntime) -> Result<(), Memory> {
     for (count, report) in [
-        (127, "refused first notyet \"\"\n"),
+        (127, "refused first notaschema \"\"\n"),
         (128, "refused first notjson\n"),
     ] {
         let a = nested(rt.alloc(), count, "[", "", "]")?;

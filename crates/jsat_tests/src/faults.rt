@@ -28,7 +28,7 @@ fn a_file_that_is_not_there_is_a_read_fault(rt: HostRuntime) -> Result<(), Memor
         ("include a c", "true", fault),
         ("include - b", "true", fault),
         ("include c a", "5", fault),
-        ("include a c", "5", (3, "refused first notyet \"\"\n")),
+        ("include a c", "5", (3, "refused first notaschema \"\"\n")),
     ] {
         expect(&rt, rt.alloc(), line, (a.as_bytes(), b"true"), answer)?;
     }

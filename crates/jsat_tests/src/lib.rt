@@ -10,4 +10,6 @@ mod answers;
 #[cfg(test)]
 mod faults;
 #[cfg(test)]
+mod judging;
+#[cfg(test)]
 mod setting;

@@ -1,8 +1,10 @@
-use Rattle.std.proofs.Common.{◌≡◌, refl, sym, ◌∙◌, subst}
+use Rattle.std.proofs.Common.{◌≡◌, true, false, refl, sym, ◌∙◌, subst}
 use Rattle.js_top.specs.declared.status.Status.TheVariants.{Other, Done, Limit, Refused}
-use Rattle.js_top.proofs.FileLaws.{prepared-means, prepared-report, prepared-part, prepared-settles, prepared-limited, means-accepted, means-refusal}
+use Rattle.js_top.proofs.FileLaws.{prepared-means, prepared-limit, prepared-report, prepared-part, prepared-settles, prepared-limited, means-accepted, means-refusal}
+use Rattle.js_top.proofs.JudgingLaws.{means-judgement, prepared-decision, means-judged_refusal}
+use Rattle.js_top.specs.Judging.{WritesDecision}
 use Rattle.js_report.specs.Written.{AppendsPrefix}
-use Rattle.js_top.specs.Meaning.{WhereTold, PassesLimit}
+use Rattle.js_top.specs.Meaning.{WhereTold, PassLimit}
 use Rattle.js_top.specs.Preparing.{report_of}
 use Rattle.js_top.proofs.top.run.Goals as goal
 
@@ -15,41 +17,41 @@ returns-in-Ok-write_report-clause-report g c = λ r w m. (
 )
 
 pub returns-in-Ok-write_report-clause-document : goal.returns-in-Ok-write_report-clause-document
-returns-in-Ok-write_report-clause-document g c = λ e. (
+returns-in-Ok-write_report-clause-document g c = λ e i. (
   c.text.result.now,
   c.in-Ok-write_report.ensures.whole,
   prepared-means (g.H.Shelf.told c.args.shelf.now) c.args.words.now _ _ c.in-Ok.prepared c.text.result.now
-      c.in-Ok.ensures.says c.text.ensures Other (sym c.status.ensures ∙ e) refl,
+      c.in-Ok.ensures.says c.text.ensures Other (sym c.status.ensures ∙ e) refl i,
 )
 
 pub returns-in-Ok-write_report-clause-certificate : goal.returns-in-Ok-write_report-clause-certificate
-returns-in-Ok-write_report-clause-certificate g c = λ e. (
+returns-in-Ok-write_report-clause-certificate g c = λ e i. (
   c.text.result.now,
   c.in-Ok-write_report.ensures.whole,
   prepared-means (g.H.Shelf.told c.args.shelf.now) c.args.words.now _ _ c.in-Ok.prepared c.text.result.now
-      c.in-Ok.ensures.says c.text.ensures Done (sym c.status.ensures ∙ e) refl,
+      c.in-Ok.ensures.says c.text.ensures Done (sym c.status.ensures ∙ e) refl i,
 )
 
 pub returns-in-Ok-write_report-clause-limit : goal.returns-in-Ok-write_report-clause-limit
 returns-in-Ok-write_report-clause-limit g c = λ e. (
   c.text.result.now,
   c.in-Ok-write_report.ensures.whole,
-  prepared-means (g.H.Shelf.told c.args.shelf.now) c.args.words.now _ _ c.in-Ok.prepared c.text.result.now
-      c.in-Ok.ensures.says c.text.ensures Limit (sym c.status.ensures ∙ e) refl,
+  prepared-limit (g.H.Shelf.told c.args.shelf.now) c.args.words.now _ _ c.in-Ok.prepared c.text.result.now
+      c.in-Ok.ensures.says c.text.ensures (sym c.status.ensures ∙ e),
 )
 
 pub returns-in-Ok-write_report-clause-refusal : goal.returns-in-Ok-write_report-clause-refusal
-returns-in-Ok-write_report-clause-refusal g c = λ e. (
+returns-in-Ok-write_report-clause-refusal g c = λ e i. (
   c.text.result.now,
   c.in-Ok-write_report.ensures.whole,
   means-refusal (g.H.Shelf.told c.args.shelf.now) c.args.words.now c.text.result.now
       (prepared-report (g.H.Shelf.told c.args.shelf.now) c.args.words.now _ _ c.in-Ok.prepared c.text.result.now Refused
-      c.in-Ok.ensures.says c.text.ensures (sym c.status.ensures ∙ e) (λ w. cc)),
+      c.in-Ok.ensures.says c.text.ensures (sym c.status.ensures ∙ e) (λ w. cc)) i,
 )
 
 pub returns-in-Ok-write_report-clause-limited : goal.returns-in-Ok-write_report-clause-limited
 returns-in-Ok-write_report-clause-limited g c = λ r w m.
-    subst (λ s. WhereTold (g.H.Shelf.told c.args.shelf.now) c.args.words.now (λ a b. PassesLimit a b → s ≡ Limit))
+    subst (λ s. WhereTold (g.H.Shelf.told c.args.shelf.now) c.args.words.now (λ a b. PassLimit a b → s ≡ Limit))
     (sym c.status.ensures)
     (prepared-limited (g.H.Shelf.told c.args.shelf.now) c.args.words.now _ _ c.in-Ok.prepared c.in-Ok.ensures.says
     (λ e. r (c.status.ensures ∙ e)))
@@ -72,10 +74,40 @@ returns-in-Ok-write_report-clause-headline g c = λ h k m. (
 )
 
 pub returns-in-Ok-write_report-clause-accepted : goal.returns-in-Ok-write_report-clause-accepted
-returns-in-Ok-write_report-clause-accepted g c = λ e. (
+returns-in-Ok-write_report-clause-accepted g c = λ e i. (
   c.text.result.now,
   c.in-Ok-write_report.ensures.whole,
   means-accepted (g.H.Shelf.told c.args.shelf.now) c.args.words.now c.text.result.now
       (prepared-means (g.H.Shelf.told c.args.shelf.now) c.args.words.now _ _ c.in-Ok.prepared c.text.result.now
-      c.in-Ok.ensures.says c.text.ensures Done (sym c.status.ensures ∙ e) refl),
+      c.in-Ok.ensures.says c.text.ensures Done (sym c.status.ensures ∙ e) refl i),
+)
+
+pub returns-in-Ok-write_report-clause-decided : goal.returns-in-Ok-write_report-clause-decided
+returns-in-Ok-write_report-clause-decided g c = λ h k m.
+    subst (WritesDecision (g.H.Shelf.told c.args.shelf.now) c.args.words.now (g.K.Sink.written c.args.sink.now)
+    (g.K.Sink.written c.write_report.new.sink)) (sym c.status.ensures)
+    (prepared-decision (g.H.Shelf.told c.args.shelf.now) c.args.words.now _ _ c.in-Ok.prepared _ _ c.text.result.now
+    c.in-Ok.ensures.says c.text.ensures h c.in-Ok-write_report.ensures.whole)
+
+pub returns-in-Ok-write_report-clause-valid : goal.returns-in-Ok-write_report-clause-valid
+returns-in-Ok-write_report-clause-valid g c = λ e i.
+    means-judgement (g.H.Shelf.told c.args.shelf.now) c.args.words.now _ _ c.text.result.now true
+    (prepared-report (g.H.Shelf.told c.args.shelf.now) c.args.words.now _ _ c.in-Ok.prepared c.text.result.now Done
+    c.in-Ok.ensures.says c.text.ensures (sym c.status.ensures ∙ e) (λ w. cc)) i
+    c.in-Ok-write_report.ensures.whole
+
+pub returns-in-Ok-write_report-clause-invalid : goal.returns-in-Ok-write_report-clause-invalid
+returns-in-Ok-write_report-clause-invalid g c = λ e i.
+    means-judgement (g.H.Shelf.told c.args.shelf.now) c.args.words.now _ _ c.text.result.now false
+    (prepared-report (g.H.Shelf.told c.args.shelf.now) c.args.words.now _ _ c.in-Ok.prepared c.text.result.now Other
+    c.in-Ok.ensures.says c.text.ensures (sym c.status.ensures ∙ e) (λ w. cc)) i
+    c.in-Ok-write_report.ensures.whole
+
+pub returns-in-Ok-write_report-clause-valid_refusal : goal.returns-in-Ok-write_report-clause-valid_refusal
+returns-in-Ok-write_report-clause-valid_refusal g c = λ e i. (
+  c.text.result.now,
+  c.in-Ok-write_report.ensures.whole,
+  means-judged_refusal (g.H.Shelf.told c.args.shelf.now) c.args.words.now c.text.result.now
+      (prepared-report (g.H.Shelf.told c.args.shelf.now) c.args.words.now _ _ c.in-Ok.prepared c.text.result.now Refused
+      c.in-Ok.ensures.says c.text.ensures (sym c.status.ensures ∙ e) (λ w. cc)) i,
 )

@@ -1,9 +1,0 @@
-use Rattle.std.proofs.Common.{◌≡◌, ◌++◌, map, drop}
-use Rattle.js_forms.specs.Table.{node_ranks}
-use Rattle.js_forms.specs.Walk.{entry_view}
-use Rattle.js_forms.proofs.layout.push_node_ranks.Given as goal
-
-abbrev pub invariant-loop-i : goal.invariant-loop-i
-invariant-loop-i l =
-    l.ranks.items ++ node_ranks (map entry_view (drop l.i l.entries))
-    ≡ l.fn.ranks.items ++ node_ranks (map entry_view l.fn.entries)

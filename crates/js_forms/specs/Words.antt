@@ -1,7 +1,0 @@
--- Words of the program's text, whose bytes are their scalar values.
-use Rattle.std.specs.Prelude.{ℕ, List, Bool, nat_lt}
-use Rattle.documents.specs.Tests.{every}
-
--- each byte is ASCII
-abbrev pub is_ascii : List ℕ → Bool
-is_ascii bytes = every (λ c. nat_lt c 128) bytes
