@@ -5,16 +5,17 @@ use Rattle.documents.specs.Json.{Json}
 use Rattle.js_outside.specs.Counts.{Rose, Stays}
 use Rattle.js_outside.specs.Told.{Files}
 use Rattle.js_decide.specs.Verdict.{Verdict, Document, Limit, Certificate, verdict}
-use Rattle.js_words.specs.Commands.{Command, Include, Valid, command}
+use Rattle.js_words.specs.Commands.{Command, Include, Valid, Norm, command}
 use Rattle.js_inclusion.specs.Comparison.{both, second_root}
 use Rattle.js_comparison.specs.Outcome as Compared
 use Rattle.js_comparison.specs.Outcome.{entries_read, IsComparison}
 use Rattle.js_comparison.specs.Meaning.{AreSchemas, IsDecided, MeansFor}
 use Rattle.js_comparison.proofs.MeaningLaws.{told-values, told-same, decided-values, first-refusal, second-refusal}
+use Rattle.js_norm.specs.Outcome as N
 use Rattle.js_validation.specs.Outcome as V
 use Rattle.js_validation.specs.Outcome.{Outcome}
 use Rattle.js_top.specs.Names.{of_include, include_names, IsInclude}
-use Rattle.js_top.specs.Report.{Report, printed, verdict_report, compared_report, IsIncludeReport, IsReportOf, outcome_report, IsReport}
+use Rattle.js_top.specs.Report.{Report, printed, verdict_report, compared_report, IsIncludeReport, IsReportOf, outcome_report, listed_report, IsReport}
 use Rattle.js_top.specs.Meaning.{AreNamed, WhereTold, PassLimit, IsCertificate, Settles, IsRefusal}
 use Rattle.js_top.specs.Accepting.{IsAcceptedFor}
 use Rattle.js_top.specs.Preparing.{report_of, PreparedSays}
@@ -40,6 +41,7 @@ report-include told words r a b named is = go (command words) named is where
   go : (c : Option Command) → of_include c ≡ Some (a, b) → IsReportOf told c r → IsIncludeReport told a b r
   go None e is = cc
   go (Some (Valid x y)) e is = cc
+  go (Some (Norm x)) e is = cc
   go (Some (Include x y)) e is =
       let same : ◌≡◌ {A = List ℕ × List ℕ} (x, y) (a, b) = cc in subst (λ n. IsIncludeReport told n.0 n.1 r) same is
 
@@ -66,6 +68,11 @@ unlimited (V.SchemaRefused words) = refl
 unlimited (V.DocumentRefused words) = refl
 unlimited V.Unread = refl
 
+unlimited_norm : (o : N.Outcome) → is_limit (listed_report o).status ≡ false
+unlimited_norm (N.Listed text) = refl
+unlimited_norm (N.SchemaRefused words) = refl
+unlimited_norm N.Unread = refl
+
 -- a limit is a report of `include`
 limit-include : (told : Option Files) (words : List (List ℕ)) (text : List ℕ)
     → IsReport told words (record { text = text; status = S.Limit }) → IsInclude words
@@ -74,6 +81,7 @@ limit-include told words text is = go (command words) is where
   go None is = let wrong = ap (λ s. is_limit s.status) is in cc
   go (Some (Include a b)) is = refl
   go (Some (Valid a d)) (o, v, e) = let wrong = sym (unlimited o) ∙ ap (λ s. is_limit s.status) e in cc
+  go (Some (Norm a)) (o, v, e) = let wrong = sym (unlimited_norm o) ∙ ap (λ s. is_limit s.status) e in cc
 
 -- a report with the status of a verdict is that of two schemas
 record IsOfSchemas (told : Option Files) (words : List (List ℕ)) (r : Report) : Type 0 where

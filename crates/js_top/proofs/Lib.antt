@@ -2,5 +2,6 @@ pub mod Includes
 pub mod MeaningLaws
 pub mod FileLaws
 pub mod JudgingLaws
+pub mod ListingLaws
 pub mod AcceptLaws
 mod Examples

@@ -1,24 +1,36 @@
 -- The names of files that the words give, for each command.
 use Rattle.std.specs.Prelude.{ℕ, List, Option, Some, None, IsSome}
-use Rattle.js_words.specs.Commands.{Command, Include, Valid, command}
+use Rattle.js_words.specs.Commands.{Command, Include, Valid, Norm, command}
 
 -- two schemas
 abbrev pub of_include : Option Command → Option (List ℕ × List ℕ)
 of_include (Some (Include a b)) = Some (a, b)
 of_include (Some (Valid a d)) = None
+of_include (Some (Norm a)) = None
 of_include None = None
 
 -- a schema and a document
 abbrev pub of_valid : Option Command → Option (List ℕ × List ℕ)
 of_valid (Some (Include a b)) = None
 of_valid (Some (Valid a d)) = Some (a, d)
+of_valid (Some (Norm a)) = None
 of_valid None = None
+
+-- a schema alone
+abbrev pub of_norm : Option Command → Option (List ℕ)
+of_norm (Some (Include a b)) = None
+of_norm (Some (Valid a d)) = None
+of_norm (Some (Norm a)) = Some a
+of_norm None = None
 
 abbrev pub include_names : List (List ℕ) → Option (List ℕ × List ℕ)
 include_names words = of_include (command words)
 
 abbrev pub valid_names : List (List ℕ) → Option (List ℕ × List ℕ)
 valid_names words = of_valid (command words)
+
+abbrev pub norm_name : List (List ℕ) → Option (List ℕ)
+norm_name words = of_norm (command words)
 
 -- the words are those of `include`
 abbrev pub IsInclude : List (List ℕ) → Type 0
@@ -27,3 +39,7 @@ IsInclude words = IsSome (include_names words)
 -- the words are those of `valid`
 abbrev pub IsValid : List (List ℕ) → Type 0
 IsValid words = IsSome (valid_names words)
+
+-- the words are those of `norm`
+abbrev pub IsNorm : List (List ℕ) → Type 0
+IsNorm words = IsSome (norm_name words)

@@ -4,12 +4,14 @@ use Rattle.documents.specs.Kind.{Kind, Null, Boolean, Number, Text, Array, Objec
 use Rattle.certificates.specs.Line.{signed_list_text, lines_text}
 use Rattle.js_outside.specs.Told.{Files}
 use Rattle.js_decide.specs.Verdict.{Verdict, Document, Limit, Certificate}
-use Rattle.js_words.specs.Commands.{Command, Include, Valid, command}
+use Rattle.js_words.specs.Commands.{Command, Include, Valid, Norm, command}
 use Rattle.js_comparison.specs.Outcome as C
 use Rattle.js_comparison.specs.Outcome.{IsComparison}
 use Rattle.js_comparison.specs.Meaning.{MeansFor}
 use Rattle.js_validation.specs.Outcome as V
 use Rattle.js_validation.specs.Outcome.{Outcome, IsValidation}
+use Rattle.js_norm.specs.Outcome as N
+use Rattle.js_norm.specs.Outcome.{IsListing}
 use Rattle.js_top.specs.declared.status.Status.{Status}
 use Rattle.js_top.specs.declared.status.Status.TheVariants as S
 
@@ -60,10 +62,20 @@ outcome_report V.Unread = printed (codes "readfault") S.ReadFault
 abbrev pub IsValidReport : Option Files → List ℕ → List ℕ → Report → Type 0
 IsValidReport told a d r = (o : Outcome) × IsValidation told a d o × (outcome_report o ≡ r)
 
+-- the report of `norm`, by what its file comes to
+abbrev pub listed_report : N.Outcome → Report
+listed_report (N.Listed text) = record { text = text; status = S.Done }
+listed_report (N.SchemaRefused words) = printed (codes "refused " ++ codes "first" ++ 32 ∷ words) S.Refused
+listed_report N.Unread = printed (codes "readfault") S.ReadFault
+
+abbrev pub IsNormReport : Option Files → List ℕ → Report → Type 0
+IsNormReport told a r = (o : N.Outcome) × IsListing told a o × (listed_report o ≡ r)
+
 abbrev pub IsReportOf : Option Files → Option Command → Report → Type 0
 IsReportOf told None r = r ≡ printed (codes "usage") S.Usage
 IsReportOf told (Some (Include a b)) r = IsIncludeReport told a b r
 IsReportOf told (Some (Valid a d)) r = IsValidReport told a d r
+IsReportOf told (Some (Norm a)) r = IsNormReport told a r
 
 -- the report of the words
 abbrev pub IsReport : Option Files → List (List ℕ) → Report → Type 0

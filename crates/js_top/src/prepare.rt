@@ -3,7 +3,7 @@
 ghost use Rattle.std.specs.Prelude.{◌≡◌, IfOk, OnErr, IsSome};
 ghost use Rattle.js_decide.specs.View.{verdict_view};
 ghost use Rattle.js_top.specs.Report.{verdict_report};
-ghost use Rattle.js_words.specs.Commands.{command, Include, Valid};
+ghost use Rattle.js_words.specs.Commands.{command, Include, Valid, Norm};
 ghost use Rattle.js_top.specs.Preparing.{PreparedSays, report_of};
 
 use crate::status::Status;
@@ -12,6 +12,7 @@ use js_cert::cert_text;
 use js_comparison::{FilesOutcome, compare_files};
 use js_decide::Verdict;
 use js_doc::{Memory, Str};
+use js_norm::{Listing, list};
 use js_outside::Shelf;
 use js_validation::{Validation, validate};
 use js_words::{Command, read_words};
@@ -66,6 +67,7 @@ pub(crate) fn prepare<H: Shelf>(
     match read_words(words) {
         Some(Command::Include(first, second)) => prepare_include(alloc, shelf, first, second),
         Some(Command::Valid(schema, document)) => prepare_valid(alloc, shelf, schema, document),
+        Some(Command::Norm(schema)) => prepare_norm(alloc, shelf, schema),
         None => Ok(Prepared::Usage),
     }
 }
@@ -113,6 +115,20 @@ fn prepare_valid<H: Shelf>(
         Validation::SchemaRefused(words) => refused(alloc, "first", words),
         Validation::DocumentRefused(words) => refused(alloc, "document", words),
         Validation::Unread => Ok(Prepared::Unread),
+    }
+}
+
+/// The report of `norm`.
+fn prepare_norm<H: Shelf>(alloc: Global, shelf: &mut H, schema: &Str) -> Result<Prepared, Memory>
+    ensures told { H.told shelf.new ≡ H.told shelf.old }
+    ensures says { IfOk result
+        (CommandSays (H.told shelf.old) (Norm schema.now) (H.faults shelf.old) (H.faults shelf.new)) }
+    ensures memory { OnErr result (H.faults shelf.new ≡ H.faults shelf.old) }
+{
+    match list(alloc, shelf, schema)? {
+        Listing::Text(text) => Ok(Prepared::Made(text.into_bytes(), Status::Done)),
+        Listing::Refused(words) => refused(alloc, "first", words),
+        Listing::Unread => Ok(Prepared::Unread),
     }
 }
 

@@ -4,8 +4,9 @@ ghost use Rattle.std.specs.Prelude.{◌≡◌, ◌≢◌, ◌<◌, true, false, 
 ghost use Rattle.std.specs.Io.KnownBytes.{Appends};
 ghost use Rattle.js_outside.specs.Counts.{Rose, Stays};
 ghost use Rattle.js_words.specs.Commands.{command};
-ghost use Rattle.js_top.specs.Names.{IsInclude, IsValid};
+ghost use Rattle.js_top.specs.Names.{IsInclude, IsValid, IsNorm};
 ghost use Rattle.js_top.specs.Judging.{WritesJudgement, WritesDecision, WritesJudgedRefusal};
+ghost use Rattle.js_top.specs.Listing.{WritesNamedTable, WritesListing, WritesNormRefusal};
 ghost use Rattle.js_top.specs.Report.{line};
 ghost use Rattle.js_top.specs.Running.{WritesPart, WritesReport, WritesMeaning, WritesRefusal, WritesAnswer, WritesAccepted};
 ghost use Rattle.js_top.specs.Meaning.{IsCounterexample, IsCertificate, IsLimit, PassLimit, WhereTold};
@@ -92,6 +93,18 @@ pub fn run<R, H: Shelf, K: Sink>(
         → WritesJudgement (H.told shelf.old) words.now (K.written sink.old) (K.written sink.new) false }
     ensures valid_refusal { result ≡ Status.Refused → IsValid words.now
         → WritesJudgedRefusal (H.told shelf.old) words.now (K.written sink.old) (K.written sink.new) }
+
+    // The headline of `norm`: where files are told, no fault is counted and memory suffices, a schema gets the text of
+    // its core table, of which position 0 holds exactly of the documents that are valid for it.
+    ensures listed { Stays (H.faults shelf.old) (H.faults shelf.new) → Stays (K.faults sink.old) (K.faults sink.new)
+        → result ≢ Status.Memory
+        → WritesListing (H.told shelf.old) words.now (K.written sink.old) (K.written sink.new) result }
+
+    // The same status by status, whatever the shelf tells.
+    ensures table { result ≡ Status.Done → IsNorm words.now
+        → WritesNamedTable (H.told shelf.old) words.now (K.written sink.old) (K.written sink.new) }
+    ensures norm_refusal { result ≡ Status.Refused → IsNorm words.now
+        → WritesNormRefusal (H.told shelf.old) words.now (K.written sink.old) (K.written sink.new) }
 
     // The files that the shelf tells are the same after the call.
     ensures told { H.told shelf.new ≡ H.told shelf.old }

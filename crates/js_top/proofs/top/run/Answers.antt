@@ -2,7 +2,9 @@ use Rattle.std.proofs.Common.{◌≡◌, true, false, refl, sym, ◌∙◌, subs
 use Rattle.js_top.specs.declared.status.Status.TheVariants.{Other, Done, Limit, Refused}
 use Rattle.js_top.proofs.FileLaws.{prepared-means, prepared-limit, prepared-report, prepared-part, prepared-settles, prepared-limited, means-accepted, means-refusal}
 use Rattle.js_top.proofs.JudgingLaws.{means-judgement, prepared-decision, means-judged_refusal}
+use Rattle.js_top.proofs.ListingLaws.{means-table, prepared-listing, means-norm_refusal}
 use Rattle.js_top.specs.Judging.{WritesDecision}
+use Rattle.js_top.specs.Listing.{WritesListing}
 use Rattle.js_report.specs.Written.{AppendsPrefix}
 use Rattle.js_top.specs.Meaning.{WhereTold, PassLimit}
 use Rattle.js_top.specs.Preparing.{report_of}
@@ -108,6 +110,29 @@ returns-in-Ok-write_report-clause-valid_refusal g c = λ e i. (
   c.text.result.now,
   c.in-Ok-write_report.ensures.whole,
   means-judged_refusal (g.H.Shelf.told c.args.shelf.now) c.args.words.now c.text.result.now
+      (prepared-report (g.H.Shelf.told c.args.shelf.now) c.args.words.now _ _ c.in-Ok.prepared c.text.result.now Refused
+      c.in-Ok.ensures.says c.text.ensures (sym c.status.ensures ∙ e) (λ w. cc)) i,
+)
+
+pub returns-in-Ok-write_report-clause-listed : goal.returns-in-Ok-write_report-clause-listed
+returns-in-Ok-write_report-clause-listed g c = λ h k m.
+    subst (WritesListing (g.H.Shelf.told c.args.shelf.now) c.args.words.now (g.K.Sink.written c.args.sink.now)
+    (g.K.Sink.written c.write_report.new.sink)) (sym c.status.ensures)
+    (prepared-listing (g.H.Shelf.told c.args.shelf.now) c.args.words.now _ _ c.in-Ok.prepared _ _ c.text.result.now
+    c.in-Ok.ensures.says c.text.ensures h c.in-Ok-write_report.ensures.whole)
+
+pub returns-in-Ok-write_report-clause-table : goal.returns-in-Ok-write_report-clause-table
+returns-in-Ok-write_report-clause-table g c = λ e i.
+    means-table (g.H.Shelf.told c.args.shelf.now) c.args.words.now _ _ c.text.result.now
+    (prepared-report (g.H.Shelf.told c.args.shelf.now) c.args.words.now _ _ c.in-Ok.prepared c.text.result.now Done
+    c.in-Ok.ensures.says c.text.ensures (sym c.status.ensures ∙ e) (λ w. cc)) i
+    c.in-Ok-write_report.ensures.whole
+
+pub returns-in-Ok-write_report-clause-norm_refusal : goal.returns-in-Ok-write_report-clause-norm_refusal
+returns-in-Ok-write_report-clause-norm_refusal g c = λ e i. (
+  c.text.result.now,
+  c.in-Ok-write_report.ensures.whole,
+  means-norm_refusal (g.H.Shelf.told c.args.shelf.now) c.args.words.now c.text.result.now
       (prepared-report (g.H.Shelf.told c.args.shelf.now) c.args.words.now _ _ c.in-Ok.prepared c.text.result.now Refused
       c.in-Ok.ensures.says c.text.ensures (sym c.status.ensures ∙ e) (λ w. cc)) i,
 )
