@@ -1,5 +1,5 @@
 -- What is kept while the classes of characters are found, the one with the first character first.
-use Rattle.std.specs.Prelude.{◌≡◌, ℕ, List, Bool, true, ◌&&◌}
+use Rattle.std.specs.Prelude.{◌≡◌, ℕ, List, ◌&&◌}
 use Rattle.patterns.specs.CharSet.{has, is_scalar}
 use Rattle.words.specs.Classes.{are_alike}
 

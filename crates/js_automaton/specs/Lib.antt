@@ -1,4 +1,5 @@
 -- The letters of lists of words.
 pub mod Letters
--- What is kept while classes are found.
+-- What a contract sees of classes.
 pub mod Dividing
+pub mod ClassView

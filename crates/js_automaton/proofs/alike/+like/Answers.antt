@@ -1,5 +1,4 @@
-use Rattle.std.proofs.Common.{rules, ◌≡◌, ◌∙◌, ℕ, ◌+◌, ◌&&◌, map, refl, sym, ap, subst}
-use Rattle.std.specs.Result.{IfOk}
+use Rattle.std.proofs.Common.{rules, ◌≡◌, ◌∙◌, ◌+◌, ◌&&◌, refl, sym, ap}
 use Rattle.std.proofs.lemmas.Result.{IfOk-weaker}
 use Rattle.patterns.specs.CharSet.{has, is_scalar}
 use Rattle.patterns.specs.Tree.{repeated}

@@ -1,4 +1,4 @@
-use Rattle.std.proofs.Common.{◌≡◌, ℕ, ◌&&◌, ◌*◌, map}
+use Rattle.std.proofs.Common.{◌≡◌, ℕ, ◌&&◌, map}
 use Rattle.patterns.specs.CharSet.{has, is_scalar}
 use Rattle.patterns.specs.Tree.{trees_of}
 use Rattle.words.specs.Position.{sets_in}

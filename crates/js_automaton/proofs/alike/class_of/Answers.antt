@@ -1,9 +1,8 @@
-use Rattle.std.proofs.Common.{◌≡◌, ◌∙◌, ℕ, ◌+◌, ◌&&◌, map, drop, sym, ap, refl, arith}
-use Rattle.std.proofs.lemmas.Result.{IfOk-weaker}
+use Rattle.std.proofs.Common.{◌∙◌, ◌+◌, ◌&&◌, map, drop, sym, ap}
 use Rattle.patterns.specs.CharSet.{has, is_scalar}
 use Rattle.words.specs.Classes.{are_alike, divider_sets, dividers}
 use Rattle.js_nfa.specs.AtomView.{atom_view}
-use Rattle.js_automaton.proofs.AlikeLemmas.{like-next, dividers-drop, dividers-none, letters-at, class-whole}
+use Rattle.js_automaton.proofs.AlikeLemmas.{like-next, dividers-drop, letters-at}
 use Rattle.js_automaton.proofs.alike.class_of.Goals as goal
 
 pub like_atom-requires : goal.like_atom-requires
@@ -19,4 +18,3 @@ loop-i-preserved c = λ d.
     ∙ sym (ap (λ ss. is_scalar d && (has c.loop-i.class d && are_alike ss c.args.c d))
     (dividers-drop c.args.atoms.now c.loop-i.i c.index-atoms-i.result c.loop-i-test.true c.index-atoms-i.is))
     ∙ c.loop-i.invariant d
-

@@ -1,9 +1,6 @@
-use Rattle.std.proofs.Common.{◌≡◌, ◌∙◌, ℕ, ◌&&◌, not, nat_eq, if◌then◌else◌, sym, ap, ap₂}
+use Rattle.std.proofs.Common.{◌∙◌, ◌&&◌, ap}
 use Rattle.std.proofs.lemmas.Result.{IfOk-weaker}
 use Rattle.patterns.specs.CharSet.{has, is_scalar}
-use Rattle.words.specs.Classes.{are_alike, divider_sets}
-use Rattle.js_nfa.specs.AtomView.{atom_view}
-use Rattle.js_automaton.specs.Letters.{is_letter, letters_of}
 use Rattle.js_automaton.proofs.AlikeLemmas.{alike-words}
 use Rattle.js_automaton.proofs.alike.like_atom.Goals as goal
 

@@ -1,4 +1,4 @@
-use Rattle.std.proofs.Common.{◌≡◌, ◌∙◌, ◌||◌, ap, ap₂, nat_eq}
+use Rattle.std.proofs.Common.{◌∙◌, ◌||◌, ap₂, nat_eq}
 use Rattle.std.specs.List.{list_any}
 use Rattle.std.proofs.lemmas.Result.{IfOk-weaker}
 use Rattle.js_automaton.proofs.AlikeLemmas.{halves}
