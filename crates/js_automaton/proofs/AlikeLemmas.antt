@@ -17,7 +17,7 @@ use Rattle.js_nfa.specs.declared.atom.Atom.TheVariants as C
 use Rattle.js_nfa.specs.AtomView.{atom_view}
 use Rattle.js_automaton.specs.Letters.{is_letter, letters_of, AreLetters}
 
-and_assoc : (a b c : Bool) → ((a && b) && c) ≡ (a && (b && c))
+pub and_assoc : (a b c : Bool) → ((a && b) && c) ≡ (a && (b && c))
 and_assoc true b c = refl
 and_assoc false b c = refl
 

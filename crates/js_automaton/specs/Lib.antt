@@ -3,3 +3,5 @@ pub mod Letters
 -- What a contract sees of classes.
 pub mod Dividing
 pub mod ClassView
+-- Which listed words a word begins.
+pub mod Begun

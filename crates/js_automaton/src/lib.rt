@@ -2,6 +2,7 @@
 #![tactic(auto)]
 
 mod alike;
+mod begun;
 mod classes;
 mod fault;
 mod letters;
