@@ -1,14 +1,14 @@
 -- Classes are found one by one, the one with the first character first.
-use Rattle.std.proofs.Common.{◌≡◌, ℕ, ◌<◌, ◌⊎◌, inl, inr, Bool, true, false, ◌&&◌, ◌||◌, not, List, [], ◌∷◌, ◌++◌, length, refl, sym, ◌∙◌, ap, ap₂, subst, arith, length-append}
+use Rattle.std.proofs.Common.{get_or, ◌≡◌, ℕ, ◌<◌, ◌⊎◌, inl, inr, Bool, true, false, ◌&&◌, ◌||◌, not, List, [], ◌∷◌, ◌++◌, length, refl, sym, ◌∙◌, ap, ap₂, subst, arith, length-append}
 use Rattle.std.proofs.Math.Bool.{and-true, or-false}
 use Rattle.std.specs.Cmp.{IsEquivalence}
 use Rattle.std.specs.List.{list_any, IsDistinct}
-use Rattle.std.proofs.lemmas.Bool.{and_parts, or_left, cases_Bool}
+use Rattle.std.proofs.lemmas.Bool.{and_parts, or_left, cases_Bool, cases_lt}
 use Rattle.std.proofs.lemmas.List.Folds.{list_any-append}
 use Rattle.std.proofs.lemmas.Map.Keys.{IsDistinct-push}
 use Rattle.patterns.specs.CharSet.{has, is_scalar, comes_no_later}
 use Rattle.words.specs.Classes.{are_alike, characters, firsts_among}
-use Rattle.word_laws.proofs.Lists.{IsIn, in_left, in_right, in_append}
+use Rattle.word_laws.proofs.Lists.{IsIn, in_left, in_right, in_append, get_left, get_end}
 use Rattle.word_laws.proofs.Mentions as M
 use Rattle.word_laws.proofs.Classes.{alike_laws}
 use Rattle.word_laws.proofs.Firsts.{Before, Rising, before_or_same, firsts_are, firsts_one}
@@ -202,10 +202,18 @@ dividing-count sets firsts left x d member =
       ]
 
 -- ---- lists of classes
+pub classes-none : (sets : List (List (ℕ × ℕ))) → AreClasses sets []
+classes-none sets k c within at = absurd (omega (arith, within))
+
 pub classes-push : (sets : List (List (ℕ × ℕ))) (cs : List Class) (c : Class) → AreClasses sets cs
     → IsClass sets c.set c.first → AreClasses sets (cs ++ c ∷ [])
-classes-push sets [] c a i = (i, tt)
-classes-push sets (b ∷ cs) c a i = (a.0, classes-push sets cs c a.1 i)
+classes-push sets cs c a i = λ k e within at. elim (cases_lt k (length cs)) [
+  | inl l ↦ a k e l (at ∙ get_left k cs (c ∷ []) e l)
+  | inr m ↦
+      let q : k ≡ length cs = omega (arith, m, within, length-append cs (c ∷ [])) in
+      let p : e ≡ c = at ∙ ap (λ n. get_or (cs ++ c ∷ []) n e) q ∙ get_end cs c e in
+      subst (λ z. IsClass sets z.set z.first) (sym p) i
+]
 
 pub less-is : (after left rest set : List (ℕ × ℕ)) → ((c : ℕ) → has after c ≡ (is_scalar c && (has left c && has rest c)))
     → ((c : ℕ) → has rest c ≡ (is_scalar c && not (has set c)))

@@ -5,3 +5,7 @@ pub mod Dividing
 pub mod ClassView
 -- Which listed words a word begins.
 pub mod Begun
+-- The state of a word for a list of atoms.
+pub mod Tuple
+pub mod Faults
+pub mod TuplesView

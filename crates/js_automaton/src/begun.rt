@@ -1,7 +1,6 @@
 //! Listed words that a word begins.
 
-use js_doc::Str;
-use js_pattern::Memory;
+use js_doc::{Memory, Str};
 use std::alloc::Global;
 use std::marker::Model;
 

@@ -3,7 +3,7 @@
 //! A class is found from its first character, which is the first that lies in none before. So classes come in the order
 //! of their first characters. It costs a few operations on sets for each class and each set of an atom's pattern.
 
-ghost use Rattle.std.specs.Prelude.{◌≡◌, ◌<◌, ◌≤◌, ◌⊎◌, map, IfOk, OnOk, IfErr};
+ghost use Rattle.std.specs.Prelude.{◌≡◌, ◌<◌, ◌≤◌, ◌⊎◌, length, map, IfOk, OnOk, IfErr};
 ghost use Rattle.words.specs.Classes.{dividers, class_firsts, class_count};
 ghost use Rattle.js_nfa.specs.AtomView.{atom_view};
 ghost use Rattle.js_automaton.specs.Letters.{AreLetters};
@@ -34,6 +34,7 @@ pub(crate) fn classes(
     requires { AreLetters (map atom_view atoms.now) letters.now }
     ensures firsts { IfOk result (λ cs. map first_of cs.items ≡ class_firsts (map atom_view atoms.now)) }
     ensures classes { IfOk result (λ cs. AreClasses (dividers (map atom_view atoms.now)) cs.items) }
+    ensures few { IfOk result (λ cs. length cs.items ≤ 1024) }
     ensures within { OnOk result (class_count (map atom_view atoms.now) ≤ 1024) }
     ensures limit { IfErr result (λ fault. fault ≡ AutoFault.LimitClasses
         → 1024 < class_count (map atom_view atoms.now)) }

@@ -1,5 +1,6 @@
 //! Why a list of atoms has no automaton.
 
+use js_nfa::NfaFault;
 use std::alloc::{AllocError, AllocFailed};
 use thiserror::Error;
 
@@ -58,5 +59,18 @@ impl<T: Drop> From<AllocFailed<T>> for AutoFault {
 
     fn from(_: AllocFailed<T>) -> AutoFault {
         AutoFault::Memory
+    }
+}
+
+impl From<NfaFault> for AutoFault {
+    ghost use Rattle.js_automaton.specs.Faults.{Becomes};
+
+    ghost from_gives = { λ fault made. Becomes fault made };
+
+    fn from(fault: NfaFault) -> AutoFault {
+        match fault {
+            NfaFault::LimitPositions => AutoFault::LimitPositions,
+            NfaFault::Memory => AutoFault::Memory,
+        }
     }
 }

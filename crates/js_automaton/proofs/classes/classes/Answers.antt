@@ -13,7 +13,7 @@ loop-first-init c = record {
       (sym c.new-classes.ensures.items)
       (S.dividing-none (dividers (map atom_view c.args.atoms.now)) c.in_ok-left.left c.in_ok-left.ensures);
   classes = subst (λ (cs : List Class). AreClasses (dividers (map atom_view c.args.atoms.now)) cs)
-      (sym c.new-classes.ensures.items) tt;
+      (sym c.new-classes.ensures.items) (S.classes-none (dividers (map atom_view c.args.atoms.now)));
   few = omega (arith, ap length c.new-classes.ensures.items);
 }
 
