@@ -1,15 +1,16 @@
 -- States of words for lists of atoms.
-use Rattle.std.proofs.Common.{◌≡◌, ℕ, zero, suc, ◌+◌, ◌<◌, ◌≤◌, inl, inr, min, Bool, true, false, if◌then◌else◌, List, [], ◌∷◌, ◌++◌, map, filter, length, take, get_or, refl, sym, ◌∙◌, ap, ap₂, subst, arith, length-append}
+use Rattle.std.proofs.Common.{Some, ◌≡◌, ℕ, zero, suc, ◌+◌, ◌<◌, ◌≤◌, inl, inr, min, Bool, true, false, if◌then◌else◌, List, [], ◌∷◌, ◌++◌, map, filter, length, take, get_or, refl, sym, ◌∙◌, ap, ap₂, subst, arith, length-append}
 use Rattle.patterns.specs.Decision.{is_empty}
 use Rattle.words.specs.Atom.{Atom, Match, Words, LengthMin, is_true}
 use Rattle.words.specs.PatternState.{numbers_from, pattern_state}
 use Rattle.std.proofs.lemmas.List.{take_more, take_all, map-append, get_or-map, length-map}
 use Rattle.std.proofs.lemmas.Bool.{and_parts}
+use Rattle.std.specs.Prelude.{IsTrue, ◌↔◌}
 use Rattle.patterns.specs.CharSet.{is_scalar}
 use Rattle.words.specs.Classes.{are_alike, dividers, class_firsts, class_count, is_in_class}
 use Rattle.js_automaton.specs.declared.classes.Class.{Class}
 use Rattle.js_automaton.specs.ClassView.{first_of}
-use Rattle.words.specs.WordState.{is_prefix, atom_state, least_length, greatest_least, word_state}
+use Rattle.words.specs.WordState.{is_prefix, begun, beginning, atom_state, least_length, greatest_least, word_state}
 use Rattle.state_laws.specs.Flow.{next_state, is_accepted}
 use Rattle.state_laws.proofs.States.{state_goes_on, state_decides}
 use Rattle.word_laws.proofs.StateSteps.{begun_cases, state_next}
@@ -199,3 +200,97 @@ first-alike atoms classes k x d firsts within at member =
     ap first_of at ∙ sym (get_or-map first_of classes k x 0 inside) ∙ ap (λ (l : List ℕ). get_or l k 0) firsts in
     ap (λ n. are_alike (dividers atoms) n d) first
     ∙ (and_parts (is_scalar d) (are_alike (dividers atoms) (get_or (class_firsts atoms) k 0) d) member).1
+
+-- ---- the same state
+-- the places of words tell which words they are
+numbers-apart : (k j : ℕ) (bs : List Bool) → k < j → (rest : List ℕ) → numbers_from j bs ≡ k ∷ rest → ⊥
+numbers-apart k j [] l rest e = cc e
+numbers-apart k j (true ∷ bs) l rest e = let q : j ≡ k = cc e in omega (arith, q, l)
+numbers-apart k j (false ∷ bs) l rest e = numbers-apart k (suc j) bs (omega (arith, l)) rest e
+
+filter-same : (k : ℕ) (p q : List ℕ → Bool) (ws : List (List ℕ)) → numbers_from k (map p ws) ≡ numbers_from k (map q ws)
+    → filter p ws ≡ filter q ws
+filter-same k p q [] e = refl
+filter-same k p q (v ∷ ws) e = by (p v) (q v) e (filter-same (suc k) p q ws) where
+  by : (a b : Bool)
+      → (if a then k ∷ numbers_from (suc k) (map p ws) else numbers_from (suc k) (map p ws))
+      ≡ (if b then k ∷ numbers_from (suc k) (map q ws) else numbers_from (suc k) (map q ws))
+      → (numbers_from (suc k) (map p ws) ≡ numbers_from (suc k) (map q ws) → filter p ws ≡ filter q ws)
+      → (if a then v ∷ filter p ws else filter p ws) ≡ (if b then v ∷ filter q ws else filter q ws)
+  by true true f h = let g : numbers_from (suc k) (map p ws) ≡ numbers_from (suc k) (map q ws) = cc f in ap (λ us. v ∷ us) (h g)
+  by true false f h = absurd (numbers-apart k (suc k) (map q ws) (omega arith) (numbers_from (suc k) (map p ws)) (sym f))
+  by false true f h = absurd (numbers-apart k (suc k) (map p ws) (omega arith) (numbers_from (suc k) (map q ws)) f)
+  by false false f h = h f
+
+some_begun : (k : ℕ) (p : List ℕ → Bool) (ws : List (List ℕ)) (x : List ℕ) (xs : List (List ℕ)) → filter p ws ≡ x ∷ xs
+    → numbers_from k (map p ws) ≡ [] → ⊥
+some_begun k p [] x xs e f = cc e
+some_begun k p (v ∷ ws) x xs e f = by (p v) e f (some_begun (suc k) p ws x xs) where
+  by : (b : Bool) → (if b then v ∷ filter p ws else filter p ws) ≡ x ∷ xs
+      → (if b then k ∷ numbers_from (suc k) (map p ws) else numbers_from (suc k) (map p ws)) ≡ []
+      → (filter p ws ≡ x ∷ xs → numbers_from (suc k) (map p ws) ≡ [] → ⊥) → ⊥
+  by true g h r = cc h
+  by false g h r = r g h
+
+pub words-same : (ws : List (List ℕ)) (a b : Begun) (v w : List ℕ) → IsBegun ws a v → IsBegun ws b w
+    → a.words.items ≡ b.words.items → a.length ≡ b.length → atom_state v (Words ws) ≡ atom_state w (Words ws)
+words-same ws a b v w (is, kept) (js, held) e l =
+    let f : filter (is_prefix v) ws ≡ filter (is_prefix w) ws =
+    filter-same 0 (is_prefix v) (is_prefix w) ws (sym is ∙ e ∙ js) in
+    ap (λ us. begun us v) f ∙ lengths (filter (is_prefix w) ws) refl where
+      kept_some : (ns : List ℕ) (u : List ℕ) → (ns ≡ [] → ⊥) → length_kept ns u ≡ length u
+      kept_some [] u h = absurd (h refl)
+      kept_some (n ∷ ns) u h = refl
+
+      lengths : (us : List (List ℕ)) → filter (is_prefix w) ws ≡ us → begun us v ≡ begun us w
+      lengths [] g = refl
+      lengths (x ∷ us) g =
+          let some : b.words.items ≡ [] → ⊥ = λ h. some_begun 0 (is_prefix w) ws x us g (sym js ∙ h) in
+          let some_a : a.words.items ≡ [] → ⊥ = λ h. some (sym e ∙ h) in
+          let q : length v ≡ length w =
+          sym (kept_some a.words.items v some_a) ∙ sym kept ∙ l ∙ held ∙ kept_some b.words.items w some in
+          ap (λ n. beginning (x ∷ us) (Some n)) q
+
+pub words-apart : (ws : List (List ℕ)) (a b : Begun) (v w : List ℕ) → IsBegun ws a v → IsBegun ws b w
+    → atom_state v (Words ws) ≡ atom_state w (Words ws) → (a.words.items ≡ b.words.items) × (a.length ≡ b.length)
+words-apart ws a b v w ia ib e =
+    let (is, kept) = begun-same ws a v w e ia in
+    let (js, held) = ib in
+    let q : a.words.items ≡ b.words.items = is ∙ sym js in
+    (q, kept ∙ ap (λ ns. length_kept ns w) q ∙ sym held)
+
+pub same-beginning : (p q : PartState) (x y : Begun) (r : Bool) → p ≡ S.Beginning x → q ≡ S.Beginning y
+    → IsTrue r ↔ ((x.words.items ≡ y.words.items) × (x.length ≡ y.length))
+    → (a : Atom) (v w : List ℕ) → IsPart a p v → IsPart a q w → IsTrue r ↔ (atom_state v a ≡ atom_state w a)
+same-beginning p q x y r ep eq d a v w i j =
+    by a (subst (λ s. IsPart a s v) ep i) (subst (λ s. IsPart a s w) eq j) where
+      by : (a : Atom) → IsPart a (S.Beginning x) v → IsPart a (S.Beginning y) w
+          → IsTrue r ↔ (atom_state v a ≡ atom_state w a)
+      by (Match t) h k = absurd h
+      by (Words ws) h k = (
+        (λ t. words-same ws x y v w h k (d.0 t).0 (d.0 t).1),
+        (λ e. d.1 (words-apart ws x y v w h k e)),
+      )
+      by (LengthMin n) h k = absurd h
+
+pub maps-next : {A B : Type 0} (f g : A → B) (xs : List A) (i : ℕ) (d : A) → i < length xs
+    → map f (take i xs) ≡ map g (take i xs) → f (get_or xs i d) ≡ g (get_or xs i d)
+    → map f (take (i + 1) xs) ≡ map g (take (i + 1) xs)
+maps-next f g xs i d within e h =
+    ap (map f) (take_more xs i d within) ∙ map-append f (take i xs) (get_or xs i d ∷ [])
+    ∙ ap₂ (λ ys y. ys ++ y ∷ []) e h
+    ∙ sym (ap (map g) (take_more xs i d within) ∙ map-append g (take i xs) (get_or xs i d ∷ []))
+
+pub maps-at : {A B : Type 0} (f g : A → B) (xs : List A) (i : ℕ) (d : A) → i < length xs
+    → map f xs ≡ map g xs → f (get_or xs i d) ≡ g (get_or xs i d)
+maps-at f g xs i d within e =
+    sym (get_or-map f xs i d (f d) within) ∙ ap (λ ys. get_or ys i (f d)) e ∙ get_or-map g xs i d (f d) within
+
+pub maps-all : {A B : Type 0} (f g : A → B) (xs : List A) (i : ℕ) → length xs ≤ i
+    → map f (take i xs) ≡ map g (take i xs) → map f xs ≡ map g xs
+maps-all f g xs i past e = subst (λ ys. map f ys ≡ map g ys) (take_all i xs past) e
+
+pub part-of : (atoms : List Atom) (states : List PartState) (v : List ℕ) (i : ℕ) (s : PartState) → i < length atoms
+    → s ≡ get_or states i s → AreParts atoms states v → IsPart (get_or atoms i (LengthMin 0)) s v
+part-of atoms states v i s within at h =
+    subst (λ z. IsPart (get_or atoms i (LengthMin 0)) z v) (sym at) (parts-at atoms states v i (LengthMin 0) s h within)

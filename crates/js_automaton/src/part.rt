@@ -91,3 +91,23 @@ impl Part {
         }
     }
 }
+
+impl PartState {
+    ghost use Rattle.std.specs.Prelude.{◌≡◌, ◌↔◌, ℕ, List, IsTrue};
+    ghost use Rattle.words.specs.Atom as words;
+    ghost use Rattle.words.specs.WordState.{atom_state};
+    ghost use Rattle.js_automaton.specs.Tuple.{IsPart};
+
+    /// Whether the same is kept of two words.
+    pub(crate) fn same(&self, other: &PartState) -> bool
+        ensures { (a : words.Atom) (v w : List ℕ) → IsPart a self.now v → IsPart a other.now w
+            → (IsTrue result ↔ (atom_state v a ≡ atom_state w a)) }
+    {
+        match (self, other) {
+            (PartState::Matching(x), PartState::Matching(y)) => x.same(y),
+            (PartState::Beginning(x), PartState::Beginning(y)) => x.same(y),
+            (PartState::Counting, PartState::Counting) => true,
+            _ => false,
+        }
+    }
+}

@@ -30,7 +30,8 @@ pub struct Tuples {
 }
 
 impl Tuples {
-    ghost use Rattle.std.specs.Prelude.{◌<◌, [], ◌∷◌, ◌++◌, ℕ, List, true, get_or, IfOk, IfErr, OnOk};
+    ghost use Rattle.std.specs.Prelude.{◌<◌, [], ◌∷◌, ◌++◌, ℕ, List, true, get_or, IfOk, IfErr, OnOk, IsTrue, ◌↔◌};
+    ghost use Rattle.words.specs.WordState.{atom_state, word_state};
     ghost use Rattle.patterns.specs.CharSet.{has};
     ghost use Rattle.words.specs.Atom.{LengthMin, is_true};
     ghost use Rattle.words.specs.Classes.{class_count, is_in_class};
@@ -120,5 +121,29 @@ impl Tuples {
             → result ≡ is_true (get_or (atoms_of self.now) atom (LengthMin 0)) w }
     {
         self.parts[atom].truth(&state.parts[atom], state.is_empty, state.length)
+    }
+
+    /// Whether two states are the same. It costs a look at each of their parts.
+    pub fn same(&self, x: &TupleState, y: &TupleState) -> bool
+        requires first { (v : List ℕ) × IsStateOf (atoms_of self.now) x.now v }
+        requires second { (w : List ℕ) × IsStateOf (atoms_of self.now) y.now w }
+        ensures { (v w : List ℕ) → IsStateOf (atoms_of self.now) x.now v → IsStateOf (atoms_of self.now) y.now w
+            → (IsTrue result ↔ (word_state (atoms_of self.now) v ≡ word_state (atoms_of self.now) w)) }
+    {
+        x.is_empty == y.is_empty && x.length == y.length && self.same_parts(x, y)
+    }
+
+    fn same_parts(&self, x: &TupleState, y: &TupleState) -> bool
+        requires first { (v : List ℕ) × IsStateOf (atoms_of self.now) x.now v }
+        requires second { (w : List ℕ) × IsStateOf (atoms_of self.now) y.now w }
+        ensures { (v w : List ℕ) → IsStateOf (atoms_of self.now) x.now v → IsStateOf (atoms_of self.now) y.now w
+            → (IsTrue result ↔ (map (atom_state v) (atoms_of self.now) ≡ map (atom_state w) (atoms_of self.now))) }
+    {
+        for (i, part) in x.parts.iter().enumerate() {
+            if !part.same(&y.parts[i]) {
+                return false;
+            }
+        }
+        true
     }
 }
