@@ -129,7 +129,8 @@ impl Begun {
     ghost use Rattle.std.specs.Prelude.{◌≡◌, ◌↔◌, IsTrue};
 
     pub(crate) fn same(&self, other: &Begun) -> bool
-        ensures { IsTrue result ↔ ((self.now.words.items ≡ other.now.words.items) × (self.now.length ≡ other.now.length)) }
+        ensures { IsTrue result
+            ↔ ((self.now.words.items ≡ other.now.words.items) × (self.now.length ≡ other.now.length)) }
     {
         self.words == other.words && self.length == other.length
     }
