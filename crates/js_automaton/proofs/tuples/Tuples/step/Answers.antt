@@ -23,7 +23,7 @@ loop-i-preserved c = λ w h.
     let at = part-at c.deref-part-items.result.now c.args.state.now.parts.items w c.loop-i.i c.part-item.result
     c.index-in-loop-i.result.now c.loop-i-test.true c.part-item.is c.index-in-loop-i.ensures h.parts in
     subst (λ (ss : List PartState). AreParts (map part_view (take (c.loop-i.i + 1) c.deref-part-items.result.now)) ss
-    (w ++ c.index.result.now.first ∷ [])) (sym c.in_ok-push.ensures.items)
+    (w ++ c.index.result.now.first ∷ [])) (sym {A = List PartState} c.in_ok-push.ensures.items)
     (parts-step c.deref-part-items.result.now c.loop-i.parts.items (w ++ c.index.result.now.first ∷ []) c.loop-i.i
     c.part-item.result c.in_ok-next.field-0 c.loop-i-test.true c.part-item.is (c.loop-i.invariant w h)
     (c.in_ok-next.ensures w h.empty at.1))
