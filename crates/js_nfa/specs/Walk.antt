@@ -32,7 +32,8 @@ abbrev pub begins_with : (again : Bool) (one : ℕ → Bool → Bool) (n base : 
 begins_with again one n base here = if again && nat_eq n 0 then here || one base false else here
 
 -- what `next` says of the positions of n copies
-abbrev pub next_after : (again : Bool) (next : ℕ → Bool → List Bool) (one : ℕ → Bool → Bool) (count n base : ℕ) (here : Bool) → List Bool
+abbrev pub next_after : (again : Bool) (next : ℕ → Bool → List Bool) (one : ℕ → Bool → Bool) (count n base : ℕ)
+    (here : Bool) → List Bool
 next_after again next one count zero base here = []
 next_after again next one count (suc n) base here =
     next base (begins_with again one n base here)

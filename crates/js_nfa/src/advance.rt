@@ -1,8 +1,8 @@
 //! Which positions of a tree read the next character, and whether a match could end before it.
 //!
-//! The walk is that of `ends`, and fills a set in the order of the positions. The last copy of a repeat without an upper
-//! number may begin where it ends, so it is first looked through for that: where such repeats nest, each adds one look
-//! at what it repeats.
+//! The walk is that of `ends`, and fills a set in the order of the positions. The last copy of a repeat without an
+//! upper number may begin where it ends, so it is first looked through for that: where such repeats nest, each adds one
+//! look at what it repeats.
 
 ghost use Rattle.std.specs.Prelude.{◌≡◌, ◌+◌, ◌*◌, ◌<◌, ◌≤◌, ◌^◌, ◌&&◌, ◌||◌, ◌++◌, nat_eq, false, if◌then◌else◌, length};
 ghost use Rattle.std.specs.Option.{is_none};
@@ -24,8 +24,8 @@ pub(crate) struct Next {
 }
 
 /// Appends for each position of the tree whether it reads the next character, and answers whether a match of the tree
-/// can end before it. `read` are the positions that were read last, and `begins` says that a match of the tree can begin
-/// before the character.
+/// can end before it. `read` are the positions that were read last, and `begins` says that a match of the tree can
+/// begin before the character.
 #[cycle(advance)]
 pub(crate) fn advance(
     re: &Re,

@@ -93,7 +93,8 @@ impl Nfa {
         first: bool,
         character: char,
     ) -> Result<PatternState, Memory>
-        ensures { IfOk result (λ s. state_view s ≡ next_state (tree_of self.now) first character (state_view state.now)) }
+        ensures { IfOk result (λ s. state_view s
+            ≡ next_state (tree_of self.now) first character (state_view state.now)) }
     {
         let PatternState::Reading(read) = state else {
             return Ok(PatternState::Done);

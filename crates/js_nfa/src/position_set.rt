@@ -1,6 +1,7 @@
 //! Sets of positions, filled in the order of the positions.
 
-ghost use Rattle.std.specs.Prelude.{◌≡◌, ◌+◌, ◌<◌, ◌≤◌, ◌++◌, ◌∷◌, [], length, replicate, false, IfOk};
+ghost use Rattle.std.specs.Prelude.{◌≡◌, ◌+◌, ◌<◌, ◌≤◌, ◌++◌, ◌∷◌, [], length, replicate, false, IfOk, IsTrue, ◌↔◌};
+ghost use Rattle.words.specs.PatternState.{numbers_from};
 ghost use Rattle.state_laws.specs.Flow.{flag_at};
 
 use js_doc::Memory;
@@ -78,5 +79,18 @@ impl PositionSet {
         ensures room { self.new.room ≡ self.old.room }
     {
         self.len = 0;
+    }
+
+    /// Whether the sets have the same positions.
+    pub(crate) fn same(&self, other: &PositionSet) -> bool
+        ensures { IsTrue result ↔ (numbers_from 0 self.now.flags ≡ numbers_from 0 other.now.flags) }
+    {
+        let len = self.len().max(other.len());
+        for position in 0..len {
+            if self.contains(position) != other.contains(position) {
+                return false;
+            }
+        }
+        true
     }
 }

@@ -10,3 +10,19 @@ pub enum PatternState {
     /// The positions that partial matches read last at the word's end.
     Reading(PositionSet),
 }
+
+impl PatternState {
+    ghost use Rattle.std.specs.Prelude.{◌≡◌, ◌↔◌, IsTrue};
+    ghost use Rattle.js_nfa.specs.View.{state_view};
+
+    /// Whether the states are the same. It costs a look at each position.
+    pub fn same(&self, other: &PatternState) -> bool
+        ensures { IsTrue result ↔ (state_view self.now ≡ state_view other.now) }
+    {
+        match (self, other) {
+            (PatternState::Done, PatternState::Done) => true,
+            (PatternState::Reading(x), PatternState::Reading(y)) => x.same(y),
+            _ => false,
+        }
+    }
+}

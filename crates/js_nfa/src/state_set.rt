@@ -46,7 +46,8 @@ pub fn step(alloc: Global, nfa: &Nfa, set: &StateSet, c: char) -> Result<StateSe
 /// Whether the pattern matches in the words of that state.
 pub fn accepts(nfa: &Nfa, set: &StateSet) -> bool
     ensures state { result ≡ is_accepted (tree_of nfa.now) (set_view set.now).0 (set_view set.now).1 }
-    ensures finds { (w : List ℕ) → set_view set.now ≡ state_of (tree_of nfa.now) w → result ≡ finds (tree_of nfa.now) w }
+    ensures finds { (w : List ℕ) → set_view set.now ≡ state_of (tree_of nfa.now) w
+        → result ≡ finds (tree_of nfa.now) w }
     ensures relation { (w : List ℕ) → set_view set.now ≡ state_of (tree_of nfa.now) w
         → (IsTrue result ↔ IsFoundIn w (tree_of nfa.now)) }
 {

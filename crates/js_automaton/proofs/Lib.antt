@@ -1,0 +1,4 @@
+pub mod AlikeLemmas
+pub mod ClassSteps
+pub mod BegunLemmas
+pub mod TupleLemmas

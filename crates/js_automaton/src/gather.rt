@@ -1,0 +1,75 @@
+//! What lists of atoms have together.
+
+ghost use Rattle.std.specs.Prelude.{◌≡◌, ◌+◌, ◌<◌, ◌⊎◌, [], ◌∷◌, min, map, IfOk, IfErr};
+ghost use Rattle.words.specs.WordState.{greatest_least};
+ghost use Rattle.js_nfa.specs.AtomView.{atom_view};
+ghost use Rattle.js_automaton.specs.Tuple.{part_view, positions_of};
+
+use crate::fault::AutoFault;
+use crate::part::Part;
+use js_nfa::{Atom, count_positions};
+use std::alloc::Global;
+
+/// One more than the most positions that the patterns may have together.
+pub(crate) const PAST: u32 = 16385;
+
+/// The positions of all patterns, or 16,385 where there are more than 16,384.
+pub(crate) fn count_all(atoms: &[Atom]) -> u32
+    ensures { result ≡ min (positions_of (map atom_view atoms.now)) PAST }
+{
+    let mut count = 0;
+    for atom in atoms {
+        count = (count + count_of(atom)).min(PAST);
+    }
+    count
+}
+
+fn count_of(atom: &Atom) -> u32
+    ensures { result ≡ min (positions_of (atom_view atom.now ∷ [])) PAST }
+{
+    match atom {
+        Atom::Match(re) => count_positions(re),
+        Atom::Words(_) | Atom::LengthMin(_) => 0,
+    }
+}
+
+/// The greatest of the least lengths that atoms ask for.
+pub(crate) fn longest(atoms: &[Atom]) -> u128
+    ensures { result ≡ greatest_least (map atom_view atoms.now) }
+{
+    let mut longest = 0;
+    for atom in atoms {
+        if let Atom::LengthMin(least) = atom {
+            longest = longest.max(*least);
+        }
+    }
+    longest
+}
+
+/// The length of a word with one more character, as far as an atom asks for it.
+pub(crate) fn longer(length: u128, longest: u128) -> u128
+    ensures { result ≡ min (length + 1) longest }
+{
+    if length < longest {
+        length + 1
+    } else {
+        longest
+    }
+}
+
+/// The parts of the atoms.
+pub(crate) fn parts_of(alloc: Global, atoms: &[Atom]) -> Result<Vec<Part>, AutoFault>
+    ensures atoms { IfOk result (λ parts. map part_view parts.items ≡ map atom_view atoms.now) }
+    ensures limit { IfErr result (λ fault. fault ≡ AutoFault.LimitPositions
+        → 16384 < positions_of (map atom_view atoms.now)) }
+    ensures only { IfErr result (λ fault. (fault ≡ AutoFault.LimitPositions) ⊎ (fault ≡ AutoFault.Memory)) }
+{
+    let mut parts = Vec::with_capacity(alloc, atoms.len())?;
+    for atom in atoms {
+        match Part::of(alloc, atom) {
+            Ok(part) => parts.push(part)?,
+            Err(fault) => return Err(fault),
+        }
+    }
+    Ok(parts)
+}
