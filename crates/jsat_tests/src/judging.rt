@@ -2,7 +2,6 @@
 
 use crate::setting::expect;
 use js_doc::Memory;
-use std::alloc::{AllocError, Global};
 
 #[test]
 fn documents_are_judged(rt: HostRuntime) -> Result<(), Memory> {
