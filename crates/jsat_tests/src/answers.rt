@@ -95,11 +95,7 @@ fn a_file_that_is_no_schema_is_refused(rt: HostRuntime) -> Result<(), Memory> {
             "true",
             "refused first notaschema \"/allOf/0\"\n",
         ),
-        (
-            "{\"$ref\":\"#\"}",
-            "true",
-            "refused first cycle \"\"\n",
-        ),
+        ("{\"$ref\":\"#\"}", "true", "refused first cycle \"\"\n"),
         ("true", "", "refused second notjson\n"),
         ("", "5", "refused first notjson\n"),
     ] {
