@@ -12,4 +12,6 @@ mod faults;
 #[cfg(test)]
 mod judging;
 #[cfg(test)]
+mod listing;
+#[cfg(test)]
 mod setting;
