@@ -79,11 +79,21 @@ def schema(rng, depth):
     return {word: makers[word]() for word in rng.sample(list(makers), rng.randrange(1, 5))}
 
 
+def in_python(root):
+    """The schema with `\\d` and `\\w` as sets of ASCII: Python's have letters and digits of all scripts, those of the
+    profile have not."""
+    return json.loads(json.dumps(root).replace(r'\\d', '[0-9]').replace(r'\\w', '[A-Za-z0-9_]'))
+
+
 def verdict(root, instance):
+    """The package's verdict; None where it has none: it fails on `additionalItems` beside `items` that is `true` or
+    `false`."""
     try:
-        return 'valid' if Draft6Validator(root).is_valid(instance) else 'invalid'
+        return 'valid' if Draft6Validator(in_python(root)).is_valid(instance) else 'invalid'
     except RecursionError:
         return 'endless'
+    except TypeError:
+        return None
 
 
 def main():
@@ -107,9 +117,12 @@ def main():
     assert len(answers) == len(cases), 'as many answers as cases'
     agreed, differed, refused = 0, 0, collections.Counter()
     for (root, instance), answer in zip(cases, answers):
-        wanted = verdict(root, instance)
         if answer.startswith('refused'):
             refused[' '.join(answer.split(' ')[1:3])] += 1
+            continue
+        wanted = verdict(root, instance)
+        if wanted is None:
+            refused['by the package'] += 1
         elif answer == wanted:
             agreed += 1
         else:
