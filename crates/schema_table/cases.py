@@ -223,6 +223,9 @@ refuse('{"patternProperties":{"a":true,"(":true}}', 'pattern syntax 1 "/patternP
 refuse('{"patternProperties":{"b{2,1}":5,"a":5}}', 'pattern quantifierorder 1 "/patternProperties/b{2,1}"')
 refuse('{"patternProperties":{"/(":true}}', 'pattern syntax 2 "/patternProperties/~1("')
 refuse('{"patternProperties":{"\\"(":true}}', 'pattern syntax 2 "/patternProperties/\\"("')
+refuse('{"patternProperties":{"(?!a)":true}}', 'pattern unsupported lookaround 0 "/patternProperties/(?!a)"')
+refuse('{"patternProperties":{"x[z-a]":true}}', 'pattern rangeorder 2 "/patternProperties/x[z-a]"')
+refuse('{"patternProperties":{"ab{0,16385}":true}}', 'pattern repeattoowide 2 "/patternProperties/ab{0,16385}"')
 refuse('{"properties":{"(":{"pattern":"["}}}', 'pattern syntax 1 "/properties/(/pattern"')
 
 # ---- cycles in place, and circles that descend

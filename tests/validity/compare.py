@@ -1,17 +1,21 @@
 #!/usr/bin/env python3
 """Compares `jsat valid` with the validator of the Python package `jsonschema` for draft-06.
 
-    compare.py [--cases N] [--seed S] PATH-OF-THE-BUILT-schema_table
+    compare.py [--cases N] [--seed S] PATH-OF-THE-BUILT-jsat
+    compare.py [--cases N] [--seed S] --table PATH-OF-THE-BUILT-schema_table
 
 Random schemas and documents of the common ground are made: whole numbers, patterns of ASCII that both engines read the
-same way, references that descend or don't. The program `schema_table` takes them all in one run. Each difference is
-listed; schemas that are refused are counted by the word of the refusal. The last line is 'N agreed, M differed'."""
+same way, references that descend or don't. `jsat valid` is run on each pair; the program `schema_table`, which makes the
+same calls, takes them all in one run. Each difference is listed; schemas that are refused are counted by the word of the
+refusal. The last line is 'N agreed, M differed'."""
 import argparse
 import collections
 import json
+import os
 import random
 import subprocess
 import sys
+import tempfile
 
 from jsonschema import Draft6Validator
 
@@ -96,10 +100,27 @@ def verdict(root, instance):
         return None
 
 
+def of_table(program, cases):
+    lines = ''.join('%s\t%s\n' % tuple(json.dumps(x, ensure_ascii=False) for x in case) for case in cases)
+    told = subprocess.run([program], input=lines.encode(), capture_output=True, check=True).stdout.decode()
+    return told.splitlines()
+
+
+def of_jsat(program, cases):
+    with tempfile.TemporaryDirectory() as folder:
+        names = [os.path.join(folder, name) for name in ('schema', 'document')]
+        for case in cases:
+            for name, value in zip(names, case):
+                with open(name, 'w', encoding='utf-8') as f:
+                    json.dump(value, f, ensure_ascii=False)
+            yield subprocess.run([program, 'valid', *names], capture_output=True).stdout.decode().rstrip('\n')
+
+
 def main():
     words = argparse.ArgumentParser()
     words.add_argument('--cases', type=int, default=4000)
     words.add_argument('--seed', type=int, default=1)
+    words.add_argument('--table', action='store_true')
     words.add_argument('program')
     words = words.parse_args()
     rng = random.Random(words.seed)
@@ -111,9 +132,7 @@ def main():
         elif isinstance(root, dict):
             root = {'allOf': [root], 'definitions': {name: schema(rng, 2) for name in DEFINITIONS}}
         cases.extend((root, document(rng, 3)) for _ in range(3))
-    lines = ''.join('%s\t%s\n' % tuple(json.dumps(x, ensure_ascii=False) for x in case) for case in cases)
-    told = subprocess.run([words.program], input=lines.encode(), capture_output=True, check=True).stdout.decode()
-    answers = told.splitlines()
+    answers = list((of_table if words.table else of_jsat)(words.program, cases))
     assert len(answers) == len(cases), 'as many answers as cases'
     agreed, differed, refused = 0, 0, collections.Counter()
     for (root, instance), answer in zip(cases, answers):

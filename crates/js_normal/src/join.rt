@@ -1,11 +1,13 @@
 //! Two core tables in one.
 //!
-//! The first table stands as it is, and the positions of the second are moved up by its length; that this keeps what
-//! every position means is a law of `position_laws`. The cost is that of a copy.
+//! The first table stands as it is, and the positions of the second are moved up by its length. Each keeps what it means.
+//! The cost is that of a copy.
 
-ghost use Rattle.std.specs.Prelude.{true, ◌≡◌, ◌+◌, ◌^◌, ◌<◌, ◌++◌, IfOk, length, map};
+ghost use Rattle.std.specs.Prelude.{ℕ, true, ◌≡◌, ◌+◌, ◌^◌, ◌<◌, ◌++◌, IfOk, length, map};
 ghost use Rattle.position_laws.specs.Join.{joined, moved};
 ghost use Rattle.positions.specs.Position.{in_place, of_parts};
+ghost use Rattle.positions.specs.Holds.{holds};
+ghost use Rattle.documents.specs.Document.{Document};
 ghost use Rattle.documents.specs.Tests.{every};
 ghost use Rattle.js_normal.specs.Room.{has_room};
 ghost use Rattle.js_algebra.specs.View.{node_view, places};
@@ -20,6 +22,12 @@ pub fn join_tables(alloc: Global, a: &Core, b: &Core) -> Result<(Core, Pos, Pos)
     ensures positions { IfOk result (λ r. r.0.positions ≡ joined a.now.positions b.now.positions) }
     ensures first { IfOk result (λ r. r.1.0 ≡ 0) }
     ensures second { IfOk result (λ r. r.2.0 ≡ length a.now.positions) }
+
+    // Every position of both tables keeps what it means.
+    ensures first_means { IfOk result (λ r. (p : ℕ) (J : Document) → p < length a.now.positions
+        → holds r.0.positions p J ≡ holds a.now.positions p J) }
+    ensures second_means { IfOk result (λ r. (p : ℕ) (J : Document) → p < length b.now.positions
+        → holds r.0.positions (length a.now.positions + p) J ≡ holds b.now.positions p J) }
 {
     let mut nodes = Vec::with_capacity(alloc, (a.len() + b.len()) as usize)?;
     let mut ranks = Vec::with_capacity(alloc, (a.len() + b.len()) as usize)?;
