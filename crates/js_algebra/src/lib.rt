@@ -5,6 +5,7 @@
 //! they read. The search, the trees and the certificates stand on this crate.
 #![tactic(auto)]
 
+mod branch;
 mod choice;
 mod copies;
 mod goal;
@@ -15,6 +16,7 @@ mod rules;
 mod signed;
 mod table;
 
+pub use branch::BranchId;
 pub use choice::{Choice, Rule};
 pub use goal::{Goal, contains, form};
 pub use lists::{Choices, KindList, NodeList, PatternList, PosList, RankList, SignedList};

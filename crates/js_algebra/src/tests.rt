@@ -59,13 +59,19 @@ fn wide_table(alloc: Global) -> Result<Core, Fail>
 }
 
 #[test]
-fn choices_of_further_kinds(rt: HostRuntime) -> Result<(), Fail> {
+fn references_are_followed(rt: HostRuntime) -> Result<(), Fail> {
     let core = wide_table(rt.alloc())?;
     let goal = form(rt.alloc(), &core, &[Signed::minus(Pos(0))])?.ok_or("a clash")?;
     assert_eq!(rt; goal.as_slice(), [Signed::minus(Pos(1))].as_slice());
+    Ok(())
+}
 
-    let number = JsonKind::Number;
-    let one = rule_choices(rt.alloc(), &core, Signed::plus(Pos(2)), number)?.ok_or("a literal")?;
+#[test]
+fn one_of_three(rt: HostRuntime) -> Result<(), Fail> {
+    let core = wide_table(rt.alloc())?;
+    let one = rule_choices(rt.alloc(), &core, Signed::plus(Pos(2)), JsonKind::Number)?.ok_or(
+        "a literal",
+    )?;
     assert_eq!(rt; one.as_slice().len(), 3);
     let second = [
         Signed::minus(Pos(1)),
@@ -73,20 +79,36 @@ fn choices_of_further_kinds(rt: HostRuntime) -> Result<(), Fail> {
         Signed::minus(Pos(4)),
     ];
     assert_eq!(rt; one.as_slice()[1].as_slice(), second.as_slice());
+    Ok(())
+}
 
-    let not_one = rule_choices(rt.alloc(), &core, Signed::minus(Pos(2)), number)?.ok_or(
+#[test]
+fn not_one_of_three(rt: HostRuntime) -> Result<(), Fail> {
+    let core = wide_table(rt.alloc())?;
+    let not_one = rule_choices(rt.alloc(), &core, Signed::minus(Pos(2)), JsonKind::Number)?.ok_or(
         "a literal",
     )?;
     assert_eq!(rt; not_one.as_slice().len(), 4);
     let pair = [Signed::plus(Pos(1)), Signed::plus(Pos(4))];
     assert_eq!(rt; not_one.as_slice()[2].as_slice(), pair.as_slice());
+    Ok(())
+}
 
-    let depends = Signed::minus(Pos(5));
-    let object = rule_choices(rt.alloc(), &core, depends, JsonKind::Object)?.ok_or("a literal")?;
+#[test]
+fn dependencies_speak_of_objects(rt: HostRuntime) -> Result<(), Fail> {
+    let core = wide_table(rt.alloc())?;
+    let x = Signed::minus(Pos(5));
+    let object = rule_choices(rt.alloc(), &core, x, JsonKind::Object)?.ok_or("a literal")?;
     assert_eq!(rt; object.as_slice().len(), 1);
-    let elsewhere = rule_choices(rt.alloc(), &core, depends, number)?.ok_or("a literal")?;
+    let elsewhere = rule_choices(rt.alloc(), &core, x, JsonKind::Number)?.ok_or("a literal")?;
     assert_eq!(rt; elsewhere.as_slice().len(), 0);
-    assert!(rt; core.is_wrong(Signed::minus(Pos(3)), number));
-    assert!(rt; !core.is_wrong(Signed::plus(Pos(3)), number));
+    Ok(())
+}
+
+#[test]
+fn typed_literals_are_wrong_elsewhere(rt: HostRuntime) -> Result<(), Fail> {
+    let core = wide_table(rt.alloc())?;
+    assert!(rt; core.is_wrong(Signed::minus(Pos(3)), JsonKind::Number));
+    assert!(rt; !core.is_wrong(Signed::plus(Pos(3)), JsonKind::Number));
     Ok(())
 }
