@@ -10,7 +10,8 @@ abbrev pub first_marked : List (Bool × List ℕ) → Option (List ℕ)
 first_marked [] = None
 first_marked (n ∷ ns) = cond n.0 (Some n.1) (first_marked ns)
 
--- all keywords but `type`, `not`, `allOf` and `anyOf`, in the order of their names, each marked where it is there
+-- the keywords that a schema's entries keep, but `type`, `not`, `allOf` and `anyOf`, in the order of their names, each
+-- marked where it is there
 abbrev pub other_keywords : Keywords → List (Bool × List ℕ)
 other_keywords k =
     (is_some k.additional_items, codes "additionalItems")

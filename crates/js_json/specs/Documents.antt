@@ -21,8 +21,8 @@ abbrev mutual
   json_of_members D.no_members = J.no_members
   json_of_members (D.member k d ms) = J.member k (json_of_document d) (json_of_members ms)
 
--- the places of the numbers that aren't whole, in the order of the text: for each level of nesting the element's
--- index or the member's name
+-- the places of the numbers that aren't whole, elements in their order and members in the order of their names: for
+-- each level of nesting the element's index or the member's name
 abbrev mutual
   pub unwhole_places : J.Json → List (List (List ℕ))
   unwhole_places J.null = []
