@@ -1,5 +1,5 @@
 -- What files come to, from what each was read as.
-use Rattle.std.proofs.Common.{◌≡◌, ℕ, List, Option, Some, None, encode_utf8_all, refl, ap, ap₂, sym, ◌∙◌, subst}
+use Rattle.std.proofs.Common.{◌≡◌, ℕ, List, Option, Some, None, Result, Ok, Err, OnErr, encode_utf8_all, refl, ap, ap₂, sym, ◌∙◌, subst}
 use Rattle.documents.specs.Json.{Json}
 use Rattle.schemas.specs.Entry.{Entry}
 use Rattle.js_outside.specs.Told.{Files}
@@ -122,6 +122,11 @@ module _ (told : Option Files) (first second one two : List ℕ) (a : Json) wher
       subst (MeansFor told first second) (sym e)
           (means-read (comparison es fs) refl means (schemas-told b f g is is')),
     )
+
+-- what holds holds where there is a fault
+pub at_fault : {A E : Type 0} (P : Type 0) (r : Result A E) → P → OnErr r P
+at_fault P (Ok x) p = tt
+at_fault P (Err e) p = p
 
 unread-of_comparison : (c : Comparison) → Unread ≡ of_comparison c → ⊥
 unread-of_comparison (C.FirstUnread p) e = cc

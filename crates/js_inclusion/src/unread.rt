@@ -20,7 +20,7 @@ pub fn first_unread(alloc: Global, schema: &Schema) -> Result<Option<Pointer>, M
 {
     for entry in 0..schema.len() {
         if let Some(keyword) = unread_keyword(schema.form(entry)) {
-            let mut place = schema.pointer(entry).copy(alloc)?;
+            let mut place = schema.pointer(alloc, entry)?;
             place.push_name(keyword.name())?;
             return Ok(Some(place));
         }

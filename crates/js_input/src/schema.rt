@@ -82,7 +82,8 @@ fn told_cycle(alloc: Global, schema: &Schema, cycle: &EntryList) -> Result<Strin
     let mut words = String::from_str(alloc, "cycle")?;
     let entries = cycle.as_slice();
     for entry in entries {
-        push_place(&mut words, schema.pointer(*entry), alloc)?;
+        let place = schema.pointer(alloc, *entry)?;
+        push_place(&mut words, &place, alloc)?;
     }
     Ok(words)
 }

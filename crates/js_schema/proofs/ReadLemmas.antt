@@ -1,6 +1,6 @@
 -- From the places of a schema to its entries.
-use Rattle.std.proofs.Common.{◌≡◌, ℕ, zero, suc, ◌<◌, ◌≤◌, List, [], ◌∷◌, map, length, get_or, inl, inr, true, None, Ok, refl, sym, ap, subst, ◌∙◌, arith}
-use Rattle.std.proofs.Math.ListN.{length-map}
+use Rattle.std.proofs.Common.{◌≡◌, ℕ, zero, suc, ◌<◌, ◌≤◌, List, [], ◌∷◌, length, get_or, inl, inr, true, None, Ok, sym, ap, subst, ◌∙◌, arith}
+use Rattle.std.proofs.Math.ListN.{length-map, get_or-map}
 use Rattle.documents.specs.Json.{Json}
 use Rattle.documents.specs.WellFormed.{is_json}
 use Rattle.schemas.specs.Places.{Place}
@@ -15,7 +15,6 @@ use Rattle.schema_laws.proofs.Faultless.{faultless}
 use Rattle.schema_laws.proofs.WellFormedLaws.{values_well_formed}
 use Rattle.schema_laws.proofs.TableLaws.{is_table-length}
 use Rattle.js_keywords.specs.Reading.{rules}
-use Rattle.js_schema.specs.Answering.{entries_by}
 use Rattle.js_schema.proofs.Soundness.{is_table-read}
 
 in_list : {A : Type 0} (xs : List A) (i : ℕ) (x : A) → i < length xs → x ≡ get_or xs i x → IsIn x xs
@@ -39,10 +38,14 @@ module _ (root : Json) (cs : List Place) (all : places rules root ≡ cs) where
 
 -- ---- all of them
 
-entries_by-places : (f : Place → Form) (cs : List Place)
-    → entries_by (map (λ c. c.0) cs) (map f cs) ≡ map (λ c. entry c.0 (f c)) cs
-entries_by-places f [] = refl
-entries_by-places f (c ∷ cs) = ap (λ es. entry c.0 (f c) ∷ es) (entries_by-places f cs)
+module _ (root : Json) (cs : List Place) where
+  -- the entry at place i
+  pub entry_made : (i : ℕ) (c : Place) (f : Form) → c ≡ get_or cs i c → f ≡ form_at rules root (number_of cs) c
+      → entry c.0 f ≡ get_or (entries_at rules root cs) i (entry c.0 f)
+  entry_made i c f h form =
+      let made = ap (entry c.0) form in
+      made ∙ ap (entry_at rules root (number_of cs)) h ∙ sym (get_or-map (entry_at rules root (number_of cs)) cs i c)
+      ∙ ap (get_or (entries_at rules root cs) i) (sym made)
 
 module _ (root : Json) (cs : List Place) (well : is_json root ≡ true) (none : first_fault rules root ≡ None)
     (all : places rules root ≡ cs) where
@@ -54,18 +57,10 @@ module _ (root : Json) (cs : List Place) (well : is_json root ≡ true) (none : 
       let here = ap length all in
       omega (arith, few.1, same, here)
 
-  -- entries that are made of forms at their pointers are those of the places
-  pub entries_made : (es : List Entry) (fs : List Form) → es ≡ entries_by (map (λ c. c.0) cs) fs
-      → fs ≡ map (form_at rules root (number_of cs)) cs → es ≡ entries_at rules root (places rules root)
-  entries_made es fs made forms =
-      made ∙ ap (entries_by (map (λ c. c.0) cs)) forms ∙ entries_by-places (form_at rules root (number_of cs)) cs
-      ∙ ap (entries_at rules root) (sym all)
+  pub table_made : (es : List Entry) → es ≡ entries_at rules root cs → is_table es ≡ true
+  table_made es made =
+      ap is_table (made ∙ ap (entries_at rules root) (sym all)) ∙ is_table-read root well none
 
-  pub table_made : (es : List Entry) (fs : List Form) → es ≡ entries_by (map (λ c. c.0) cs) fs
-      → fs ≡ map (form_at rules root (number_of cs)) cs → is_table es ≡ true
-  table_made es fs made forms = ap is_table (entries_made es fs made forms) ∙ is_table-read root well none
-
-  pub schema_made : (es : List Entry) (fs : List Form) → es ≡ entries_by (map (λ c. c.0) cs) fs
-      → fs ≡ map (form_at rules root (number_of cs)) cs → read rules root ≡ Ok es
-  schema_made es fs made forms =
-      ap (entries_or rules root) none ∙ ap Ok (sym (entries_made es fs made forms))
+  pub schema_made : (es : List Entry) → es ≡ entries_at rules root cs → read rules root ≡ Ok es
+  schema_made es made =
+      ap (entries_or rules root) none ∙ ap Ok (ap (entries_at rules root) all ∙ sym made)

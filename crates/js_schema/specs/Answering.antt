@@ -1,8 +1,7 @@
 -- What reading a schema answers.
-use Rattle.std.specs.Prelude.{◌≡◌, List, [], ◌∷◌, Option, Result, Ok, Err}
+use Rattle.std.specs.Prelude.{◌≡◌, List, Result, Ok, Err}
 use Rattle.std.specs.Result.{result_err}
-use Rattle.schemas.specs.Places.{Pointer}
-use Rattle.schemas.specs.Entry.{Form, Entry, entry}
+use Rattle.schemas.specs.Entry.{Entry}
 use Rattle.schemas.specs.Fault.{Fault}
 use Rattle.js_json.specs.declared.fault.RefFault.{RefFault}
 use Rattle.js_pattern.specs.declared.fault.PatternFault.{PatternFault}
@@ -15,9 +14,3 @@ use Rattle.js_schema.specs.SchemaView.{schema_view}
 abbrev pub Answers : Result (List Entry) (Fault PatternFault RefFault) → Result Schema SchemaFault → Type 0
 Answers owed (Ok s) = owed ≡ Ok (schema_view s)
 Answers owed (Err f) = Tells (result_err owed) f
-
--- each form at its pointer
-abbrev pub entries_by : List Pointer → List Form → List Entry
-entries_by [] fs = []
-entries_by (p ∷ ps) [] = []
-entries_by (p ∷ ps) (f ∷ fs) = entry p f ∷ entries_by ps fs

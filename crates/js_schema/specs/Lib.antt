@@ -7,5 +7,7 @@ pub mod Answering
 pub mod TreeTests
 pub mod NumbersView
 pub mod ObjectView
+pub mod KeywordPlaceView
+pub mod LeadsProp
 pub mod Faultless
 pub mod Links

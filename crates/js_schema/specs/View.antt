@@ -1,8 +1,10 @@
 -- The entries that the program's values stand for.
-use Rattle.std.specs.Prelude.{ℕ, List, map, option_map}
+use Rattle.std.specs.Prelude.{ℕ, List, [], map, length, get_or, Bool, nat_lt, option_map}
+use Rattle.documents.specs.Tests.{every}
 use Rattle.documents.specs.Document as D
 use Rattle.js_doc.specs.View.{view, list_view}
 use Rattle.schemas.specs.Entry as E
+use Rattle.schemas.specs.Places.{Pointer}
 use Rattle.js_keywords.specs.TypeView.{type_view}
 use Rattle.js_schema.specs.declared.part.ItemsPart.{ItemsPart}
 use Rattle.js_schema.specs.declared.part.ItemsPart.TheVariants as I
@@ -76,5 +78,10 @@ form_view F.Never = E.Never
 form_view (F.Ref e) = E.Ref e
 form_view (F.Keywords k) = E.Asks (keywords_view k.value)
 
-abbrev pub entry_view : Entry → E.Entry
-entry_view e = E.entry e.pointer (form_view e.form)
+-- an entry, where pointers are numbered so
+abbrev pub entry_view : List Pointer → Entry → E.Entry
+entry_view ps e = E.entry (get_or ps e.pointer []) (form_view e.form)
+
+-- each entry has one of these pointers
+abbrev pub are_placed : List Pointer → List Entry → Bool
+are_placed ps es = every (λ e. nat_lt e.pointer (length ps)) es

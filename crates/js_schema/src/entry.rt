@@ -1,9 +1,8 @@
-//! An entry of a schema: where its place is, and what it accepts.
+//! An entry of a schema: where its place is, by the number of its pointer, and what it accepts.
 //!
 //! Keywords stand in a box, so that the other forms take little memory.
 
 use crate::constraints::Keywords;
-use js_json::Pointer;
 
 /// What a place accepts: everything, nothing, what another entry accepts, or what its keywords ask for.
 #[derive(Drop)]
@@ -16,6 +15,6 @@ pub enum Form {
 
 #[derive(Drop)]
 pub(crate) struct Entry {
-    pub(crate) pointer: Pointer,
+    pub(crate) pointer: u32,
     pub(crate) form: Form,
 }

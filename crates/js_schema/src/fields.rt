@@ -2,7 +2,7 @@
 //!
 //! A field takes a binary search among the members, and then time and memory in proportion to the value.
 
-ghost use Rattle.std.specs.Prelude.{◌≡◌, ◌++◌, ◌∷◌, [], true, Some, codes, map, option_map, option_and_then, IfOk};
+ghost use Rattle.std.specs.Prelude.{◌≡◌, true, Some, codes, map, option_map, option_and_then, IfOk};
 ghost use Rattle.documents.specs.Document as D;
 ghost use Rattle.documents.specs.Json as J;
 ghost use Rattle.schemas.specs.Keyword as S;
@@ -12,30 +12,20 @@ ghost use Rattle.js_keywords.specs.Names.{keyword_name};
 ghost use Rattle.js_keywords.specs.TypeView.{type_view};
 ghost use Rattle.js_keywords.specs.Words.{shape_by};
 ghost use Rattle.js_schema.specs.Faultless.{is_natural};
-ghost use Rattle.js_walk.specs.Keys.{pointer_of};
 ghost use Rattle.js_schema.specs.NumbersView.{numbered};
-ghost use Rattle.js_schema.specs.ObjectView.{members_of, place_of};
+ghost use Rattle.js_schema.specs.ObjectView.{members_of, numbers_of, place_of};
 ghost use Rattle.js_schema.specs.Patterns.{source_of};
 ghost use Rattle.js_schema.specs.View.{items_view, property_view, pattern_properties_view, dependency_view};
 
+use crate::keyword_place::KeywordPlace;
 use crate::lists::{DependencyList, EntryList, PatternPropertyList, PropertyList, TypeList};
-use crate::numbers::Numbers;
 use crate::object::Object;
 use crate::part::ItemsPart;
 use crate::pattern::PatternText;
 use crate::{links, values};
 use js_doc::{Doc, DocList, Json, Memory, StrList};
 use js_keywords::Keyword;
-use js_walk::{Key, below_name};
 use std::alloc::Global;
-
-/// The place of the keyword's value.
-#[tactic(auto, using(js_walk::proofs::MembersLemmas::keyword_names))]
-fn keyword_place(alloc: Global, object: &Object, keyword: Keyword) -> Result<Key, Memory>
-    ensures { IfOk result (λ k. pointer_of k ≡ place_of object.now ++ keyword_name keyword ∷ []) }
-{
-    below_name(alloc, object.place(), keyword.name())
-}
 
 pub(crate) fn whole(object: &Object, keyword: Keyword) -> Option<i128>
     ensures { result ≡ E.field (members_of object.now) (keyword_name keyword) (λ k. E.whole) }
@@ -129,133 +119,119 @@ pub(crate) fn documents(
     }
 }
 
-pub(crate) fn one<'a>(
-    alloc: Global,
-    numbers: &Numbers<'a>,
-    object: &Object,
-    keyword: Keyword,
-) -> Result<Option<u32>, Memory>
-    ensures { IfOk result (λ o. o ≡ E.field (members_of object.now) (keyword_name keyword)
-        (E.one_number (E.number_of (numbered numbers.now)) (place_of object.now))) }
+pub(crate) fn one(object: &Object, keyword: Keyword) -> Option<u32>
+    ensures { result ≡ E.field (members_of object.now) (keyword_name keyword)
+        (E.one_number (E.number_of (numbered (numbers_of object.now))) (place_of object.now)) }
 {
     match object.value(keyword) {
-        Some(_) => Ok(Some(numbers.number(&keyword_place(alloc, object, keyword)?))),
-        None => Ok(None),
+        Some(_) => Some(KeywordPlace::of(object, keyword).itself()),
+        None => None,
     }
 }
 
 #[tactic(auto, using(crate::proofs::FieldsLemmas::links))]
-pub(crate) fn list<'a>(
+pub(crate) fn list(
     alloc: Global,
-    numbers: &Numbers<'a>,
     object: &Object,
     keyword: Keyword,
 ) -> Result<Option<EntryList>, Memory>
     ensures { IfOk result (λ o. o ≡ E.field (members_of object.now) (keyword_name keyword)
-        (E.list_numbers (E.number_of (numbered numbers.now)) (place_of object.now))) }
+        (E.list_numbers (E.number_of (numbered (numbers_of object.now))) (place_of object.now))) }
 {
     match object.value(keyword) {
         Some(value) => {
-            let mut at = keyword_place(alloc, object, keyword)?;
-            Ok(Some(links::list(alloc, numbers, &mut at, value)?))
+            let place = KeywordPlace::of(object, keyword);
+            Ok(Some(links::list(alloc, &place, value)?))
         }
         None => Ok(None),
     }
 }
 
 #[tactic(auto, using(crate::proofs::FieldsLemmas::links))]
-pub(crate) fn items<'a>(
+pub(crate) fn items(
     alloc: Global,
-    numbers: &Numbers<'a>,
     object: &Object,
     keyword: Keyword,
 ) -> Result<Option<ItemsPart>, Memory>
     ensures { IfOk result (λ o. option_map items_view o ≡ E.field (members_of object.now) (keyword_name keyword)
-        (E.items_part (E.number_of (numbered numbers.now)) (place_of object.now))) }
+        (E.items_part (E.number_of (numbered (numbers_of object.now))) (place_of object.now))) }
 {
     match object.value(keyword) {
         Some(value) => {
-            let mut at = keyword_place(alloc, object, keyword)?;
-            Ok(Some(links::items(alloc, numbers, &mut at, value)?))
+            let place = KeywordPlace::of(object, keyword);
+            Ok(Some(links::items(alloc, &place, value)?))
         }
         None => Ok(None),
     }
 }
 
 #[tactic(auto, using(crate::proofs::FieldsLemmas::links))]
-pub(crate) fn properties<'a>(
+pub(crate) fn properties(
     alloc: Global,
-    numbers: &Numbers<'a>,
     object: &Object,
     keyword: Keyword,
 ) -> Result<Option<PropertyList>, Memory>
     ensures { IfOk result (λ o. option_map (λ ps. map property_view ps) o
         ≡ E.field (members_of object.now) (keyword_name keyword)
-        (E.named_numbers (E.number_of (numbered numbers.now)) (place_of object.now))) }
+        (E.named_numbers (E.number_of (numbered (numbers_of object.now))) (place_of object.now))) }
 {
     match object.value(keyword) {
         Some(value) => {
-            let mut at = keyword_place(alloc, object, keyword)?;
-            Ok(Some(links::properties(alloc, numbers, &mut at, value)?))
+            let place = KeywordPlace::of(object, keyword);
+            Ok(Some(links::properties(alloc, &place, value)?))
         }
         None => Ok(None),
     }
 }
 
 #[tactic(auto, using(crate::proofs::FieldsLemmas::links))]
-pub(crate) fn pattern_properties<'a>(
+pub(crate) fn pattern_properties(
     alloc: Global,
-    numbers: &Numbers<'a>,
     object: &Object,
     keyword: Keyword,
 ) -> Result<Option<PatternPropertyList>, Memory>
     requires { shape_by keyword ≡ Some S.PatternMap }
     ensures { IfOk result (λ o. option_map pattern_properties_view o
         ≡ E.field (members_of object.now) (keyword_name keyword)
-        (E.named_numbers (E.number_of (numbered numbers.now)) (place_of object.now))) }
+        (E.named_numbers (E.number_of (numbered (numbers_of object.now))) (place_of object.now))) }
 {
     match object.value(keyword) {
         Some(value) => {
-            let mut at = keyword_place(alloc, object, keyword)?;
-            Ok(Some(links::pattern_properties(alloc, numbers, &mut at, value)?))
+            let place = KeywordPlace::of(object, keyword);
+            Ok(Some(links::pattern_properties(alloc, &place, value)?))
         }
         None => Ok(None),
     }
 }
 
 #[tactic(auto, using(crate::proofs::FieldsLemmas::links))]
-pub(crate) fn dependencies<'a>(
+pub(crate) fn dependencies(
     alloc: Global,
-    numbers: &Numbers<'a>,
     object: &Object,
     keyword: Keyword,
 ) -> Result<Option<DependencyList>, Memory>
     ensures { IfOk result (λ o. option_map (λ ds. map dependency_view ds) o
         ≡ E.field (members_of object.now) (keyword_name keyword)
-        (E.all_needs (E.number_of (numbered numbers.now)) (place_of object.now))) }
+        (E.all_needs (E.number_of (numbered (numbers_of object.now))) (place_of object.now))) }
 {
     match object.value(keyword) {
         Some(value) => {
-            let mut at = keyword_place(alloc, object, keyword)?;
-            Ok(Some(links::dependencies(alloc, numbers, &mut at, value)?))
+            let place = KeywordPlace::of(object, keyword);
+            Ok(Some(links::dependencies(alloc, &place, value)?))
         }
         None => Ok(None),
     }
 }
 
 /// The schema of `additionalItems`, beside `items` that is a list.
-pub(crate) fn additional_items<'a>(
-    alloc: Global,
-    numbers: &Numbers<'a>,
-    object: &Object,
-) -> Result<Option<u32>, Memory>
-    ensures { IfOk result (λ o. o ≡ option_and_then
-        (E.rest_number (E.number_of (numbered numbers.now)) (place_of object.now)
+pub(crate) fn additional_items(object: &Object) -> Option<u32>
+    ensures { result ≡ option_and_then
+        (E.rest_number (E.number_of (numbered (numbers_of object.now))) (place_of object.now)
         (J.lookup (codes "items") (members_of object.now)) (codes "additionalItems"))
-        (J.lookup (codes "additionalItems") (members_of object.now))) }
+        (J.lookup (codes "additionalItems") (members_of object.now)) }
 {
     match object.value(Keyword::Items) {
-        Some(Json::List(_)) => one(alloc, numbers, object, Keyword::AdditionalItems),
-        _ => Ok(None),
+        Some(Json::List(_)) => one(object, Keyword::AdditionalItems),
+        _ => None,
     }
 }

@@ -9,14 +9,13 @@ ghost use Rattle.schemas.specs.Entries as E;
 ghost use Rattle.js_doc.specs.View as doc;
 ghost use Rattle.js_keywords.specs.TypeView.{type_view};
 ghost use Rattle.js_schema.specs.NumbersView.{numbered};
-ghost use Rattle.js_schema.specs.ObjectView.{members_of, place_of};
+ghost use Rattle.js_schema.specs.ObjectView.{members_of, numbers_of, place_of};
 ghost use Rattle.js_schema.specs.Patterns.{source_of};
 ghost use Rattle.js_schema.specs.View.{items_view, property_view, pattern_properties_view, dependency_view, keywords_view};
 
 use crate::constraints::Keywords;
 use crate::fields;
 use crate::lists::{DependencyList, EntryList, PatternPropertyList, PropertyList, TypeList};
-use crate::numbers::Numbers;
 use crate::object::Object;
 use crate::part::ItemsPart;
 use crate::pattern::PatternText;
@@ -25,18 +24,14 @@ use js_keywords::Keyword;
 use std::alloc::Global;
 
 /// What the object asks for, with schemas by their numbers.
-pub(crate) fn keywords<'a>(
-    alloc: Global,
-    numbers: &Numbers<'a>,
-    object: &Object,
-) -> Result<Keywords, Memory>
+pub(crate) fn keywords(alloc: Global, object: &Object) -> Result<Keywords, Memory>
     ensures { IfOk result (λ k. keywords_view k
-        ≡ E.keywords_of (E.number_of (numbered numbers.now)) (place_of object.now) (members_of object.now)) }
+        ≡ E.keywords_of (E.number_of (numbered (numbers_of object.now))) (place_of object.now) (members_of object.now)) }
 {
     let values = read_values(alloc, object)?;
-    let elements = read_elements(alloc, numbers, object)?;
-    let members = read_members(alloc, numbers, object)?;
-    let in_place = read_in_place(alloc, numbers, object)?;
+    let elements = read_elements(alloc, object)?;
+    let members = read_members(alloc, object)?;
+    let in_place = read_in_place(alloc, object)?;
     Ok(Keywords {
         types: values.types,
         enumeration: values.enumeration,
@@ -108,24 +103,20 @@ struct Elements {
     contains: Option<u32>,
 }
 
-fn read_elements<'a>(
-    alloc: Global,
-    numbers: &Numbers<'a>,
-    object: &Object,
-) -> Result<Elements, Memory>
+fn read_elements(alloc: Global, object: &Object) -> Result<Elements, Memory>
     ensures items { IfOk result (λ v. option_map items_view v.items ≡ E.field (members_of object.now) (codes "items")
-        (E.items_part (E.number_of (numbered numbers.now)) (place_of object.now))) }
+        (E.items_part (E.number_of (numbered (numbers_of object.now))) (place_of object.now))) }
     ensures additional_items { IfOk result (λ v. v.additional_items ≡ option_and_then
-        (E.rest_number (E.number_of (numbered numbers.now)) (place_of object.now)
+        (E.rest_number (E.number_of (numbered (numbers_of object.now))) (place_of object.now)
         (lookup (codes "items") (members_of object.now)) (codes "additionalItems"))
         (lookup (codes "additionalItems") (members_of object.now))) }
     ensures contains { IfOk result (λ v. v.contains ≡ E.field (members_of object.now) (codes "contains")
-        (E.one_number (E.number_of (numbered numbers.now)) (place_of object.now))) }
+        (E.one_number (E.number_of (numbered (numbers_of object.now))) (place_of object.now))) }
 {
     Ok(Elements {
-        items: fields::items(alloc, numbers, object, Keyword::Items)?,
-        additional_items: fields::additional_items(alloc, numbers, object)?,
-        contains: fields::one(alloc, numbers, object, Keyword::Contains)?,
+        items: fields::items(alloc, object, Keyword::Items)?,
+        additional_items: fields::additional_items(object),
+        contains: fields::one(object, Keyword::Contains),
     })
 }
 
@@ -138,34 +129,25 @@ struct Members {
     property_names: Option<u32>,
 }
 
-fn read_members<'a>(
-    alloc: Global,
-    numbers: &Numbers<'a>,
-    object: &Object,
-) -> Result<Members, Memory>
+fn read_members(alloc: Global, object: &Object) -> Result<Members, Memory>
     ensures properties { IfOk result (λ v. option_map (λ ps. map property_view ps) v.properties
         ≡ E.field (members_of object.now) (codes "properties")
-        (E.named_numbers (E.number_of (numbered numbers.now)) (place_of object.now))) }
+        (E.named_numbers (E.number_of (numbered (numbers_of object.now))) (place_of object.now))) }
     ensures pattern_properties { IfOk result (λ v. option_map pattern_properties_view v.pattern_properties
         ≡ E.field (members_of object.now) (codes "patternProperties")
-        (E.named_numbers (E.number_of (numbered numbers.now)) (place_of object.now))) }
+        (E.named_numbers (E.number_of (numbered (numbers_of object.now))) (place_of object.now))) }
     ensures additional_properties { IfOk result (λ v. v.additional_properties
         ≡ E.field (members_of object.now) (codes "additionalProperties")
-        (E.one_number (E.number_of (numbered numbers.now)) (place_of object.now))) }
+        (E.one_number (E.number_of (numbered (numbers_of object.now))) (place_of object.now))) }
     ensures property_names { IfOk result (λ v. v.property_names
         ≡ E.field (members_of object.now) (codes "propertyNames")
-        (E.one_number (E.number_of (numbered numbers.now)) (place_of object.now))) }
+        (E.one_number (E.number_of (numbered (numbers_of object.now))) (place_of object.now))) }
 {
     Ok(Members {
-        properties: fields::properties(alloc, numbers, object, Keyword::Properties)?,
-        pattern_properties: fields::pattern_properties(
-            alloc,
-            numbers,
-            object,
-            Keyword::PatternProperties,
-        )?,
-        additional_properties: fields::one(alloc, numbers, object, Keyword::AdditionalProperties)?,
-        property_names: fields::one(alloc, numbers, object, Keyword::PropertyNames)?,
+        properties: fields::properties(alloc, object, Keyword::Properties)?,
+        pattern_properties: fields::pattern_properties(alloc, object, Keyword::PatternProperties)?,
+        additional_properties: fields::one(object, Keyword::AdditionalProperties),
+        property_names: fields::one(object, Keyword::PropertyNames),
     })
 }
 
@@ -179,28 +161,24 @@ struct InPlace {
     not: Option<u32>,
 }
 
-fn read_in_place<'a>(
-    alloc: Global,
-    numbers: &Numbers<'a>,
-    object: &Object,
-) -> Result<InPlace, Memory>
+fn read_in_place(alloc: Global, object: &Object) -> Result<InPlace, Memory>
     ensures dependencies { IfOk result (λ v. option_map (λ ds. map dependency_view ds) v.dependencies
         ≡ E.field (members_of object.now) (codes "dependencies")
-        (E.all_needs (E.number_of (numbered numbers.now)) (place_of object.now))) }
+        (E.all_needs (E.number_of (numbered (numbers_of object.now))) (place_of object.now))) }
     ensures all_of { IfOk result (λ v. v.all_of ≡ E.field (members_of object.now) (codes "allOf")
-        (E.list_numbers (E.number_of (numbered numbers.now)) (place_of object.now))) }
+        (E.list_numbers (E.number_of (numbered (numbers_of object.now))) (place_of object.now))) }
     ensures any_of { IfOk result (λ v. v.any_of ≡ E.field (members_of object.now) (codes "anyOf")
-        (E.list_numbers (E.number_of (numbered numbers.now)) (place_of object.now))) }
+        (E.list_numbers (E.number_of (numbered (numbers_of object.now))) (place_of object.now))) }
     ensures one_of { IfOk result (λ v. v.one_of ≡ E.field (members_of object.now) (codes "oneOf")
-        (E.list_numbers (E.number_of (numbered numbers.now)) (place_of object.now))) }
+        (E.list_numbers (E.number_of (numbered (numbers_of object.now))) (place_of object.now))) }
     ensures not { IfOk result (λ v. v.not ≡ E.field (members_of object.now) (codes "not")
-        (E.one_number (E.number_of (numbered numbers.now)) (place_of object.now))) }
+        (E.one_number (E.number_of (numbered (numbers_of object.now))) (place_of object.now))) }
 {
     Ok(InPlace {
-        dependencies: fields::dependencies(alloc, numbers, object, Keyword::Dependencies)?,
-        all_of: fields::list(alloc, numbers, object, Keyword::AllOf)?,
-        any_of: fields::list(alloc, numbers, object, Keyword::AnyOf)?,
-        one_of: fields::list(alloc, numbers, object, Keyword::OneOf)?,
-        not: fields::one(alloc, numbers, object, Keyword::Not)?,
+        dependencies: fields::dependencies(alloc, object, Keyword::Dependencies)?,
+        all_of: fields::list(alloc, object, Keyword::AllOf)?,
+        any_of: fields::list(alloc, object, Keyword::AnyOf)?,
+        one_of: fields::list(alloc, object, Keyword::OneOf)?,
+        not: fields::one(object, Keyword::Not),
     })
 }

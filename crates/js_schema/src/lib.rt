@@ -9,6 +9,7 @@ mod constraints;
 mod entry;
 mod fields;
 mod forms;
+mod keyword_place;
 mod keywords;
 mod links;
 mod lists;

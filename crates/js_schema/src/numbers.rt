@@ -1,15 +1,15 @@
 //! The places of a schema with their numbers, which are those of its entries.
 
-ghost use Rattle.std.specs.Prelude.{◌≡◌, ◌≤◌, ◌<◌, ◌++◌, ◌∷◌, [], map, length, get_or, chars, IfOk, OnOk};
-ghost use Rattle.schemas.specs.Places.{index_token};
+ghost use Rattle.std.specs.Prelude.{◌≡◌, ◌≤◌, ◌<◌, ◌++◌, ◌∷◌, [], map, length, get_or, chars, IfOk};
+ghost use Rattle.schemas.specs.Places.{Pointer, index_token};
 ghost use Rattle.schemas.specs.Entries.{number_of};
 ghost use Rattle.js_doc.specs.JsonView.{view};
-ghost use Rattle.js_walk.specs.Keys.{pointer_of};
+ghost use Rattle.js_walk.specs.PointersView.{pointers_of};
+ghost use Rattle.js_walk.specs.Table.{Leads};
 ghost use Rattle.js_walk.specs.PlacesView.{places_view};
 
-use indexmap::map::IntoKeys;
 use js_doc::{Json, Memory};
-use js_walk::{Key, Places};
+use js_walk::{Places, Pointers};
 
 /// All places of a schema. There are few enough for 32 bits.
 #[derive(Drop)]
@@ -19,45 +19,40 @@ pub(crate) struct Numbers<'a> {
 }
 
 impl<'a> Numbers<'a> {
-    ghost use Rattle.js_schema.specs.NumbersView.{numbered};
+    ghost use Rattle.js_schema.specs.NumbersView.{places_in, numbered, pointers_in, pointer_at, targets_in};
 
     pub(crate) fn new(places: Places<'a>) -> Numbers<'a>
         requires { length (places_view places) ≤ 2147483647 }
-        ensures { numbered result ≡ places_view places.entry }
+        ensures { places_in result ≡ places.entry }
     {
         Numbers { places }
     }
 
-    /// The number of a place, or how many there are where it isn't among them.
-    pub(crate) fn number(&self, key: &Key) -> u32
-        ensures { result ≡ number_of (numbered self.now) (pointer_of key.now) }
+    /// The number of the place with that pointer, or how many there are where it isn't among them.
+    pub(crate) fn number(&self, pointer: Option<u32>) -> u32
+        ensures { (p : Pointer) → Leads (pointers_in self.now) pointer p → result ≡ number_of (numbered self.now) p }
     {
-        self.places.number(key) as u32
+        self.places.number(pointer) as u32
     }
 
-    /// The number of the element at `index` of the value at `at`.
-    #[tactic(auto, using(js_walk::proofs::MembersLemmas::index_tokens))]
-    pub(crate) fn element(&self, at: &mut Key, index: usize) -> Result<u32, Memory>
-        ensures number { IfOk result
-            (λ n. n ≡ number_of (numbered self.now) (pointer_of at.old ++ index_token index ∷ [])) }
-        ensures same { OnOk result (pointer_of at.new ≡ pointer_of at.old) }
+    /// The number of the pointer with one more token.
+    pub(crate) fn below(&self, pointer: Option<u32>, token: &str) -> Option<u32>
+        ensures { (p : Pointer) → Leads (pointers_in self.now) pointer p
+            → Leads (pointers_in self.now) result (p ++ chars token.now ∷ []) }
     {
-        at.pointer.push_index(index)?;
-        let number = self.number(at);
-        at.pointer.pop();
-        Ok(number)
+        self.places.below(pointer, token)
     }
 
-    /// The number of the member of that name of the value at `at`.
-    pub(crate) fn member(&self, at: &mut Key, name: &str) -> Result<u32, Memory>
-        ensures number { IfOk result
-            (λ n. n ≡ number_of (numbered self.now) (pointer_of at.old ++ chars name.now ∷ [])) }
-        ensures same { OnOk result (pointer_of at.new ≡ pointer_of at.old) }
+    /// The number of the pointer to the element at `index`.
+    pub(crate) fn below_index(
+        &self,
+        pointer: Option<u32>,
+        index: usize,
+    ) -> Result<Option<u32>, Memory>
+        ensures { IfOk result (λ below. (p : Pointer) → Leads (pointers_in self.now) pointer p
+            → Leads (pointers_in self.now) below (p ++ index_token index ∷ [])) }
     {
-        at.pointer.push_name(name)?;
-        let number = self.number(at);
-        at.pointer.pop();
-        Ok(number)
+        self.places.below_index(pointer, index)
     }
 
     pub(crate) fn len(&self) -> usize
@@ -66,20 +61,29 @@ impl<'a> Numbers<'a> {
         self.places.len()
     }
 
-    /// The place with that number.
-    pub(crate) fn place(&self, number: usize) -> (&Key, &'a Json)
+    /// The place with that number: the number of its pointer, and its value.
+    pub(crate) fn place(&self, number: usize) -> (u32, &'a Json)
         requires { number < length (numbered self.now) }
-        ensures { (pointer_of result.0.now, view result.1.now) ≡ get_or (numbered self.now) number
-            (pointer_of result.0.now, view result.1.now) }
+        ensures place { (pointer_at self.now result.0, view result.1.now) ≡ get_or (numbered self.now) number
+            (pointer_at self.now result.0, view result.1.now) }
+        ensures placed { result.0 < length (pointers_in self.now) }
     {
         self.places.place(number)
     }
 
-    /// The keys in their order.
-    pub(crate) fn into_keys(self) -> IntoKeys<Key, &'a Json>
-        ensures { map pointer_of result ≡ map (λ c. c.0) (numbered self.entry) }
+    /// The number of the pointer to which the reference of that place leads, where it has one.
+    pub(crate) fn target(&self, number: usize) -> Option<u32>
+        requires { number < length (numbered self.now) }
+        ensures { result ≡ get_or (targets_in self.now) number result }
+    {
+        self.places.target(number)
+    }
+
+    /// All pointers, by the same numbers.
+    pub(crate) fn into_pointers(self) -> Pointers
+        ensures { pointers_of result ≡ pointers_in self.entry }
     {
         let Numbers { places } = self;
-        places.into_keys()
+        places.into_pointers()
     }
 }

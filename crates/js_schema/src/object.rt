@@ -1,37 +1,47 @@
 //! An object of a schema in which nothing is wrong, and that has no reference.
 
-ghost use Rattle.std.specs.Prelude.{◌≡◌, true, is_none, codes, option_map};
+ghost use Rattle.std.specs.Prelude.{◌≡◌, ◌<◌, true, is_none, length, codes, option_map};
 ghost use Rattle.documents.specs.Json as D;
 ghost use Rattle.documents.specs.WellFormed.{are_members};
 ghost use Rattle.js_doc.specs.JsonView.{view, map_view};
 ghost use Rattle.js_keywords.specs.Names.{keyword_name};
 ghost use Rattle.js_schema.specs.Faultless.{is_faultless};
+ghost use Rattle.js_schema.specs.NumbersView.{pointers_in, pointer_at};
 
+use crate::numbers::Numbers;
 use js_doc::{Json, JsonMap};
-use js_json::Pointer;
 use js_keywords::Keyword;
 
-/// The object and its place. Which file it stands in is of no matter to its members.
+/// The object, the number of its pointer, and the places among which its schemas are. Which file it stands in is of no
+/// matter to its members.
 #[derive(Drop)]
 pub(crate) struct Object<'a> {
-    place: &'a Pointer,
+    numbers: &'a Numbers<'a>,
+    pointer: u32,
     members: &'a JsonMap,
+    ghost placed: { pointer < length (pointers_in numbers.now) },
     ghost rising: { are_members (map_view members.now) ≡ true },
     ghost plain: { is_none (D.lookup (codes "$ref") (map_view members.now)) ≡ true },
-    ghost faultless: { is_faultless place.now (map_view members.now) ≡ true },
+    ghost faultless: { is_faultless (pointer_at numbers.now pointer) (map_view members.now) ≡ true },
 }
 
 impl<'a> Object<'a> {
-    ghost use Rattle.js_schema.specs.ObjectView.{members_of, place_of};
+    ghost use Rattle.js_schema.specs.ObjectView.{members_of, numbers_of, place_of};
 
-    pub(crate) fn new(place: &'a Pointer, members: &'a JsonMap) -> Object<'a>
+    pub(crate) fn new(numbers: &'a Numbers<'a>, pointer: u32, members: &'a JsonMap) -> Object<'a>
+        requires placed { pointer < length (pointers_in numbers.now) }
         requires rising { are_members (map_view members.now) ≡ true }
         requires plain { is_none (D.lookup (codes "$ref") (map_view members.now)) ≡ true }
-        requires faultless { is_faultless place.now (map_view members.now) ≡ true }
+        requires faultless { is_faultless (pointer_at numbers.now pointer) (map_view members.now) ≡ true }
         ensures members { members_of result ≡ map_view members.now }
-        ensures place { place_of result ≡ place.now }
+        ensures place { place_of result ≡ pointer_at numbers.now pointer }
+        ensures numbers { numbers_of result ≡ numbers.now }
     {
-        Object { place, members }
+        Object {
+            numbers,
+            pointer,
+            members,
+        }
     }
 
     /// The value of the keyword, where the object has it.
@@ -42,9 +52,17 @@ impl<'a> Object<'a> {
         self.members.find(keyword.name())
     }
 
-    pub(crate) fn place(&self) -> &'a Pointer
-        ensures { result.now ≡ place_of self.now }
+    /// The number of the object's pointer.
+    pub(crate) fn pointer(&self) -> u32
+        ensures placed { result < length (pointers_in (numbers_of self.now)) }
+        ensures place { pointer_at (numbers_of self.now) result ≡ place_of self.now }
     {
-        self.place
+        self.pointer
+    }
+
+    pub(crate) fn numbers(&self) -> &'a Numbers<'a>
+        ensures { result.now ≡ numbers_of self.now }
+    {
+        self.numbers
     }
 }

@@ -1,12 +1,11 @@
 //! Reading a JSON value as a schema.
 //!
 //! A first pass walks from schema to schema and checks each place; a second makes an entry of each place. Places are
-//! found by their pointers, by hashing. So time is in proportion to the values that the schema reaches and to the pointers
-//! of its places, and so is memory. The program's stack is used for the values of `enum` and `const` alone, as deep as
-//! they nest.
+//! found token by token, by hashing, each token from the number of the pointer above it. So time and memory are in
+//! proportion to the values that the schema reaches, whatever the lengths of the names above them. The program's stack
+//! is used for the values of `enum` and `const` alone, as deep as they nest.
 
 ghost use Rattle.std.specs.Prelude.{◌≡◌, ◌<◌, true, None, Ok, map, length, get_or, IfOk};
-ghost use Rattle.std.specs.Result.{result_err};
 ghost use Rattle.documents.specs.WellFormed.{is_json};
 ghost use Rattle.schemas.specs.Walk.{places};
 ghost use Rattle.schemas.specs.Reading.{first_fault};
@@ -14,17 +13,18 @@ ghost use Rattle.schemas.specs.Entries as E;
 ghost use Rattle.js_doc.specs.JsonView.{view};
 ghost use Rattle.js_keywords.specs.Reading.{rules};
 ghost use Rattle.js_walk.specs.FileView.{root_of};
-ghost use Rattle.js_schema.specs.NumbersView.{numbered};
-ghost use Rattle.js_schema.specs.View.{form_view, entry_view};
-ghost use Rattle.js_schema.specs.Answering.{Answers, entries_by};
+ghost use Rattle.js_walk.specs.PlacesView.{AreTargets};
+ghost use Rattle.js_schema.specs.NumbersView.{numbered, pointers_in, targets_in};
+ghost use Rattle.js_schema.specs.View.{are_placed, entry_view};
+ghost use Rattle.js_schema.specs.Answering.{Answers};
 
-use crate::entry::{Entry, Form};
+use crate::entry::Entry;
 use crate::forms::form;
 use crate::numbers::Numbers;
 use crate::table::Schema;
 use js_doc::{Json, Memory};
 use js_keywords::SchemaFault;
-use js_walk::{File, Key, walk};
+use js_walk::{File, walk};
 use std::alloc::Global;
 
 /// The schema that `json` is, or what is wrong in it first, in the order of the walk. `json` is the value of a text, as
@@ -36,58 +36,49 @@ pub fn read_schema(alloc: Global, json: &Json) -> Result<Schema, SchemaFault>
     let file = File::new(json);
     let places = walk(alloc, &file)?;
     let numbers = Numbers::new(places);
-    let forms = read_forms(alloc, &file, &numbers)?;
-    let entries = join(alloc, numbers, forms)?;
-    Ok(Schema::from_entries(entries))
+    let entries = read_entries(alloc, &file, &numbers)?;
+    Ok(Schema::new(numbers.into_pointers(), entries))
 }
 
-/// The forms of all places, in their order.
-fn read_forms<'a>(
+/// The entries of all places, in their order.
+#[tactic(auto, using(crate::proofs::EntriesLemmas::placed))]
+fn read_entries<'a>(
     alloc: Global,
     file: &File<'a>,
     numbers: &Numbers<'a>,
-) -> Result<Vec<Form>, Memory>
+) -> Result<Vec<Entry>, Memory>
     requires places { places rules (root_of file.now) ≡ numbered numbers.now }
     requires faultless { first_fault rules (root_of file.now) ≡ None }
-    ensures { IfOk result (λ forms. map form_view forms.items
-        ≡ map (E.form_at rules (root_of file.now) (E.number_of (numbered numbers.now))) (numbered numbers.now)) }
+    requires targets { AreTargets (root_of file.now) (pointers_in numbers.now) (numbered numbers.now)
+        (targets_in numbers.now) }
+    ensures placed { IfOk result (λ entries. are_placed (pointers_in numbers.now) entries.items ≡ true) }
+    ensures entries { IfOk result (λ entries. map (entry_view (pointers_in numbers.now)) entries.items
+        ≡ E.entries_at rules (root_of file.now) (numbered numbers.now)) }
 {
-    let mut forms = Vec::with_capacity(alloc, numbers.len())?;
+    let mut entries = Vec::with_capacity(alloc, numbers.len())?;
     for i in 0..numbers.len() {
-        forms.push(form_of(alloc, file, numbers, i)?)?;
+        entries.push(entry(alloc, file, numbers, i)?)?;
     }
-    Ok(forms)
+    Ok(entries)
 }
 
-fn form_of<'a>(
+fn entry<'a>(
     alloc: Global,
     file: &File<'a>,
     numbers: &Numbers<'a>,
     number: usize,
-) -> Result<Form, Memory>
+) -> Result<Entry, Memory>
     requires places { places rules (root_of file.now) ≡ numbered numbers.now }
     requires faultless { first_fault rules (root_of file.now) ≡ None }
+    requires targets { AreTargets (root_of file.now) (pointers_in numbers.now) (numbered numbers.now)
+        (targets_in numbers.now) }
     requires number { number < length (numbered numbers.now) }
-    ensures { IfOk result (λ f. form_view f ≡ get_or (map (E.form_at rules (root_of file.now)
-        (E.number_of (numbered numbers.now))) (numbered numbers.now)) number (form_view f)) }
+    ensures placed { IfOk result (λ e. e.pointer < length (pointers_in numbers.now)) }
+    ensures entry { IfOk result (λ e. entry_view (pointers_in numbers.now) e ≡ get_or
+        (E.entries_at rules (root_of file.now) (numbered numbers.now)) number (entry_view (pointers_in numbers.now) e)) }
 {
-    let (key, value) = numbers.place(number);
-    form(alloc, file, numbers, &key.pointer, value)
-}
-
-/// Each form at its place.
-fn join<'a>(alloc: Global, numbers: Numbers<'a>, forms: Vec<Form>) -> Result<Vec<Entry>, Memory>
-    requires { length forms.items ≡ length (numbered numbers) }
-    ensures { IfOk result (λ entries. map entry_view entries.items
-        ≡ entries_by (map (λ c. c.0) (numbered numbers.entry)) (map form_view forms.items)) }
-{
-    let mut entries = Vec::with_capacity(alloc, forms.len())?;
-    let mut keys = numbers.into_keys();
-    for form in forms {
-        match keys.next() {
-            Some(Key { pointer }) => entries.push(Entry { pointer, form })?,
-            None => unreachable!(),
-        }
-    }
-    Ok(entries)
+    let (pointer, value) = numbers.place(number);
+    let target = numbers.target(number);
+    let form = form(alloc, file, numbers, pointer, target, value)?;
+    Ok(Entry { pointer, form })
 }

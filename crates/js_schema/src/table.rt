@@ -1,30 +1,40 @@
-//! A schema: the entries of its places, in the order of the walk.
+//! A schema: the entries of its places, in the order of the walk, with the pointers by which they are numbered.
+//!
+//! A pointer is made when it is asked for, since all of them together can be much longer than the file.
 
 ghost use Rattle.std.specs.Prelude.{◌≡◌, true, map};
 ghost use Rattle.schemas.specs.Schema.{is_table};
-ghost use Rattle.js_schema.specs.View.{entry_view};
+ghost use Rattle.js_walk.specs.PointersView.{pointers_of};
+ghost use Rattle.js_schema.specs.View.{are_placed, entry_view};
 
 use crate::entry::{Entry, Form};
+use js_doc::Memory;
 use js_json::Pointer;
+use js_walk::Pointers;
+use std::alloc::Global;
 
 /// A table of entries. Entry 0 is the root, each entry that is named is there, and each number has its range.
 #[derive(Drop)]
 pub struct Schema {
+    pointers: Pointers,
     entries: Vec<Entry>,
-    ghost table: { is_table (map entry_view entries.items) ≡ true },
+    ghost placed: { are_placed (pointers_of pointers) entries.items ≡ true },
+    ghost table: { is_table (map (entry_view (pointers_of pointers)) entries.items) ≡ true },
 }
 
 impl Schema {
-    ghost use Rattle.std.specs.Prelude.{◌≡◌, ◌<◌, length, map, get_or, true};
+    ghost use Rattle.std.specs.Prelude.{◌≡◌, ◌<◌, length, map, get_or, true, IfOk};
     ghost use Rattle.schemas.specs.Schema.{is_table};
-    ghost use Rattle.js_schema.specs.View.{entry_view, form_view};
+    ghost use Rattle.js_walk.specs.PointersView.{pointers_of};
+    ghost use Rattle.js_schema.specs.View.{are_placed, entry_view, form_view};
     ghost use Rattle.js_schema.specs.SchemaView.{schema_view};
 
-    pub(crate) fn from_entries(entries: Vec<Entry>) -> Schema
-        requires { is_table (map entry_view entries.items) ≡ true }
-        ensures { schema_view result ≡ map entry_view entries.items }
+    pub(crate) fn new(pointers: Pointers, entries: Vec<Entry>) -> Schema
+        requires placed { are_placed (pointers_of pointers) entries.items ≡ true }
+        requires table { is_table (map (entry_view (pointers_of pointers)) entries.items) ≡ true }
+        ensures { schema_view result ≡ map (entry_view (pointers_of pointers)) entries.items }
     {
-        Schema { entries }
+        Schema { pointers, entries }
     }
 
     /// The number of entries, at least one.
@@ -43,10 +53,12 @@ impl Schema {
         &self.entries[entry as usize].form
     }
 
-    pub fn pointer(&self, entry: u32) -> &Pointer
+    /// The pointer of the entry's place. It takes time and memory in proportion to the pointer.
+    pub fn pointer(&self, alloc: Global, entry: u32) -> Result<Pointer, Memory>
         requires { entry < length (schema_view self.now) }
-        ensures { result.now ≡ get_or (map (λ e. e.pointer) (schema_view self.now)) entry result.now }
+        ensures { IfOk result (λ p. p ≡ get_or (map (λ e. e.pointer) (schema_view self.now)) entry p) }
     {
-        &self.entries[entry as usize].pointer
+        self.pointers
+            .pointer(alloc, self.entries[entry as usize].pointer)
     }
 }

@@ -1,14 +1,14 @@
 -- What the values of members hold, and what they weigh.
 use Rattle.std.proofs.Common.{◌≡◌, ℕ, ◌+◌, ◌*◌, List, [], ◌∷◌, ◌++◌, Bool, Option, Some, None, option_map, chars, codes, refl, sym, ap, ap₂, ◌∙◌, arith}
 use Rattle.documents.specs.Json.{Json, object, Members, no_members, member, lookup}
-use Rattle.schemas.specs.Places.{Pointer, Place}
+use Rattle.schemas.specs.Places.{Pointer}
 use Rattle.schemas.specs.Keyword as S
 use Rattle.schemas.specs.Keyword.{Shape, is_list, read_shape}
 use Rattle.schemas.specs.SubSchemas.{in_value, in_member, in_members, sub_schemas}
 use Rattle.schemas.specs.Weight.{values, member_values, keyword_values, object_weight, weight}
 use Rattle.js_keywords.specs.declared.keyword.Keyword.{Keyword}
 use Rattle.js_keywords.specs.Words.{keyword_of}
-use Rattle.js_keywords.specs.Member.{shape_beside, shape_given}
+use Rattle.js_keywords.specs.Member.{shape_given}
 use Rattle.js_keywords.proofs.MemberLemmas.{shape_given-beside}
 use Rattle.js_walk.specs.Holding.{holding_of, read_holding, held, member_held, members_held, held_values, values_by, members_values, capped}
 

@@ -1,6 +1,10 @@
-pub mod PlaceLemmas
-pub mod PlacesLemmas
-pub mod HoldingLemmas
 pub mod MembersLemmas
+pub mod HoldingLemmas
+pub mod TableLemmas
+pub mod PlacesLemmas
+pub mod GrowthLemmas
+pub mod ChildrenLemmas
+pub mod FaultLemmas
 pub mod VisitLemmas
 pub mod WalkLemmas
+pub mod KeepingLemmas

@@ -1,54 +1,86 @@
--- Places in the entries of a map: the first that is the same is the one that is looked up.
-use Rattle.std.proofs.Common.{◌≡◌, ℕ, ◌≤◌, suc, ◌+◌, List, [], ◌∷◌, ◌++◌, map, length, Bool, true, false, not, cond, ◌||◌, nat_lt, Option, Some, None, is_some, position, refl, sym, ap, ◌∙◌, arith}
+-- Places by the numbers of their pointers: the first with that number is the one that is looked up.
+use Rattle.std.proofs.Common.{◌≡◌, ℕ, zero, ◌≤◌, ◌<◌, suc, ◌+◌, List, [], ◌∷◌, map, length, get_or, Bool, true, false, not, cond, ◌||◌, ◌&&◌, nat_lt, nat_eq, Some, None, is_some, position, slice_get, refl, sym, ap, subst, ◌∙◌, arith}
 use Rattle.std.specs.List.{prefix_len, position_or_len}
 use Rattle.std.specs.Map.{keys_of, lookup}
 use Rattle.std.proofs.lemmas.Option.{none-some, same_Some}
-use Rattle.std.proofs.lemmas.Bool.{ltb-true, ltb-false}
-use Rattle.indexmap.specs.IndexMap.{IndexMap, insert_entry}
-use Rattle.indexmap.proofs.CallerLemmas.{insert_entry-new}
-use Rattle.documents.specs.Json.{Json}
-use Rattle.schemas.specs.Places.{Pointer, Place, same_pointer, has_place}
+use Rattle.std.proofs.lemmas.Bool.{ltb-true, eqb-true, eq-eqb}
+use Rattle.std.proofs.lemmas.List.{append-nil}
+use Rattle.documents.specs.Tests.{every}
+use Rattle.schemas.specs.Places.{Pointer, same_pointer, has_place}
 use Rattle.schemas.specs.Entries.{number_of}
-use Rattle.js_walk.specs.declared.place.Key.{Key}
-use Rattle.js_walk.specs.Keys.{pointer_of}
+use Rattle.schema_laws.proofs.Pointers.{same_pointer-refl, same_pointer-eq}
+use Rattle.js_walk.specs.Table.{IsTable, Leads}
+use Rattle.js_walk.specs.declared.place.Done.{Done}
+use Rattle.js_walk.specs.PlacesView.{done_view}
+use Rattle.js_walk.proofs.TableLemmas.{first_of, none_of}
 
-module _ {V : Type 0} (see : V → Json) (p : Pointer) where
-  abbrev seen : List (Key × V) → List Place
-  seen es = map (λ e. (pointer_of e.0, see e.1)) es
+pub both_true : (a b : Bool) → (a && b) ≡ true → (a ≡ true) × (b ≡ true)
+both_true true b h = (refl, h)
+both_true false b h = absurd (cc)
 
-  abbrev is_it : Key → Bool
-  is_it k = same_pointer p (pointer_of k)
+pub every-at : {A : Type 0} (test : A → Bool) (xs : List A) (i : ℕ) (x : A) → every test xs ≡ true
+    → slice_get xs i ≡ Some x → test x ≡ true
+every-at test [] i x all h = absurd (none-some x h)
+every-at test (y ∷ ys) zero x all h =
+    subst (λ z. test z ≡ true) (same_Some y x h) (both_true (test y) (every test ys) all).0
+every-at test (y ∷ ys) (suc i) x all h =
+    every-at test ys i x (both_true (test y) (every test ys) all).1 h
 
-  pub has_place-lookup : (es : List (Key × V)) → is_some (lookup is_it es) ≡ has_place (seen es) p
-  has_place-lookup [] = refl
-  has_place-lookup (e ∷ es) = go (is_it e.0) (has_place-lookup es)
+same_test : (a b : Bool) → (a ≡ true → b ≡ true) → (b ≡ true → a ≡ true) → a ≡ b
+same_test true b there back = sym (there refl)
+same_test false true there back = back refl
+same_test false false there back = refl
+
+abbrev pub within : List Pointer → List (ℕ × Done) → Bool
+within ps es = every (λ e. nat_lt e.0 (length ps)) es
+
+-- a pointer that has a number
+module _ (words : List (List ℕ)) (steps : List (ℕ × ℕ)) (ps : List Pointer) (table : IsTable words steps ps)
+    (n : ℕ) (p : Pointer) (less : n < length ps) (is : get_or ps n [] ≡ p) where
+  agree : (k : ℕ) → k < length ps → nat_eq n k ≡ same_pointer p (get_or ps k [])
+  agree k l =
+      same_test _ _
+      (λ h. subst (λ q. same_pointer p q ≡ true) (sym is ∙ ap (λ j. get_or ps j []) (eqb-true n k h))
+      (same_pointer-refl p))
+      (λ h. eq-eqb n k (table.distinct n k less l (is ∙ same_pointer-eq p (get_or ps k []) h)))
+
+  pub has_place-lookup : (es : List (ℕ × Done)) → within ps es ≡ true
+      → is_some (lookup (nat_eq n) es) ≡ has_place (map (done_view ps) es) p
+  has_place-lookup [] all = refl
+  has_place-lookup (e ∷ es) all =
+      let parts = both_true (nat_lt e.0 (length ps)) (within ps es) all in
+      go (nat_eq n e.0) (same_pointer p (get_or ps e.0 [])) (agree e.0 (ltb-true e.0 (length ps) parts.0))
+      (has_place-lookup es parts.1)
     where
-      go : (b : Bool) → is_some (lookup is_it es) ≡ has_place (seen es) p
-          → is_some (cond b (Some e.1) (lookup is_it es)) ≡ (b || has_place (seen es) p)
-      go true h = refl
-      go false h = h
+      go : (a b : Bool) → a ≡ b → is_some (lookup (nat_eq n) es) ≡ has_place (map (done_view ps) es) p
+          → is_some (cond a (Some e.1) (lookup (nat_eq n) es)) ≡ (b || has_place (map (done_view ps) es) p)
+      go true true s h = refl
+      go false false s h = h
+      go true false s h = absurd (cc)
+      go false true s h = absurd (cc)
 
-  number_of-place : (es : List (Key × V)) → position_or_len is_it (keys_of es) ≡ number_of (seen es) p
-  number_of-place [] = refl
-  number_of-place (e ∷ es) = go (is_it e.0) (number_of-place es)
+  number_of-place : (es : List (ℕ × Done)) → within ps es ≡ true
+      → position_or_len (nat_eq n) (keys_of es) ≡ number_of (map (done_view ps) es) p
+  number_of-place [] all = refl
+  number_of-place (e ∷ es) all =
+      let parts = both_true (nat_lt e.0 (length ps)) (within ps es) all in
+      go (nat_eq n e.0) (same_pointer p (get_or ps e.0 [])) (agree e.0 (ltb-true e.0 (length ps) parts.0))
+      (number_of-place es parts.1)
     where
-      go : (b : Bool) → position_or_len is_it (keys_of es) ≡ number_of (seen es) p
-          → cond (not b) (1 + position_or_len is_it (keys_of es)) 0 ≡ cond b 0 (suc (number_of (seen es) p))
-      go true h = refl
-      go false h = omega (arith, h)
+      go : (a b : Bool) → a ≡ b → position_or_len (nat_eq n) (keys_of es) ≡ number_of (map (done_view ps) es) p
+          → cond (not a) (1 + position_or_len (nat_eq n) (keys_of es)) 0
+          ≡ cond b 0 (suc (number_of (map (done_view ps) es) p))
+      go true true s h = refl
+      go false false s h = omega (arith, h)
+      go true false s h = absurd (cc)
+      go false true s h = absurd (cc)
 
-  at_place : (n m k : ℕ) → cond (nat_lt n m) (Some n) None ≡ Some k → k ≡ n
-  at_place n m k h = go (nat_lt n m) h
-    where
-      go : (b : Bool) → cond b (Some n) None ≡ Some k → k ≡ n
-      go true e = sym (same_Some n k e)
-      go false e = absurd (none-some k e)
+  pub number_of-some : (es : List (ℕ × Done)) (m : ℕ) → within ps es ≡ true
+      → position (nat_eq n) (keys_of es) ≡ Some m → m ≡ number_of (map (done_view ps) es) p
+  number_of-some es m all h =
+      sym (first_of (position_or_len (nat_eq n) (keys_of es)) (length (keys_of es)) m h).0 ∙ number_of-place es all
 
-  pub number_of-some : (es : List (Key × V)) (n : ℕ) → Some n ≡ position is_it (keys_of es) → n ≡ number_of (seen es) p
-  number_of-some es n h =
-      at_place (position_or_len is_it (keys_of es)) (length (keys_of es)) n (sym h) ∙ number_of-place es
-
-  prefix_len-le : (f : Key → Bool) (ks : List Key) → prefix_len f ks ≤ length ks
+  prefix_len-le : (f : ℕ → Bool) (ks : List ℕ) → prefix_len f ks ≤ length ks
   prefix_len-le f [] = omega arith
   prefix_len-le f (k ∷ ks) = go (f k) (prefix_len-le f ks)
     where
@@ -56,57 +88,31 @@ module _ {V : Type 0} (see : V → Json) (p : Pointer) where
       go true h = omega (arith, h)
       go false h = omega arith
 
-  past : (n m : ℕ) → n ≤ m → cond (nat_lt n m) (Some n) None ≡ None → m ≡ n
-  past n m l h = go (nat_lt n m) refl h
-    where
-      go : (b : Bool) → nat_lt n m ≡ b → cond b (Some n) None ≡ None → m ≡ n
-      go true e h = absurd (none-some n (sym h))
-      go false e h = let more = ltb-false n m e in omega (arith, l, more)
-
-  length-keys_of : (es : List (Key × V)) → length es ≡ length (keys_of es)
+  length-keys_of : (es : List (ℕ × Done)) → length es ≡ length (keys_of es)
   length-keys_of [] = refl
   length-keys_of (e ∷ es) = ap suc (length-keys_of es)
 
-  pub number_of-none : (es : List (Key × V)) → None ≡ position is_it (keys_of es) → length es ≡ number_of (seen es) p
-  number_of-none es h =
-      length-keys_of es
-      ∙ past (position_or_len is_it (keys_of es)) (length (keys_of es)) (prefix_len-le (λ k. not (is_it k)) (keys_of es))
-      (sym h)
-      ∙ number_of-place es
+  pub number_of-none : (es : List (ℕ × Done)) → within ps es ≡ true
+      → position (nat_eq n) (keys_of es) ≡ None → length es ≡ number_of (map (done_view ps) es) p
+  number_of-none es all h =
+      let least = none_of (position_or_len (nat_eq n) (keys_of es)) (length (keys_of es)) h in
+      let most = prefix_len-le (λ k. not (nat_eq n k)) (keys_of es) in
+      let same = number_of-place es all in
+      let counted = length-keys_of es in
+      omega (arith, least, most, same, counted)
 
-  pub lookup-absent : (es : List (Key × V)) → has_place (seen es) p ≡ false → lookup is_it es ≡ None
-  lookup-absent es h = go (lookup is_it es) (has_place-lookup es ∙ h)
-    where
-      go : (o : Option V) → is_some o ≡ false → o ≡ None
-      go None h = refl
-      go (Some v) h = absurd (cc)
-
-  pub seen-append : (es fs : List (Key × V)) → seen (es ++ fs) ≡ seen es ++ seen fs
-  seen-append [] fs = refl
-  seen-append (e ∷ es) fs = ap (λ cs. (pointer_of e.0, see e.1) ∷ cs) (seen-append es fs)
-
--- the pointers of the keys are those of the places
-pub pointers-seen : {V : Type 0} (see : V → Json) (p : Pointer) (es : List (Key × V))
-    → map pointer_of (keys_of es) ≡ map (λ c. c.0) (seen see p es)
-pointers-seen see p [] = refl
-pointers-seen see p (e ∷ es) = ap (λ ps. pointer_of e.0 ∷ ps) (pointers-seen see p es)
-
--- a key that isn't there goes last
-pub seen-inserted : {V S : Type 0} (see : V → Json) (m : IndexMap Key V S) (k : Key) (v : V) (fs : List (Key × V))
-    → fs ≡ insert_entry (λ a b. same_pointer (pointer_of a) (pointer_of b)) m.entries k v
-    → has_place (seen see (pointer_of k) m.entries) (pointer_of k) ≡ false
-    → seen see (pointer_of k) fs ≡ seen see (pointer_of k) m.entries ++ (pointer_of k, see v) ∷ []
-seen-inserted see m k v fs e h =
-    let absent = lookup-absent see (pointer_of k) m.entries h in
-    ap (seen see (pointer_of k))
-    (e ∙ insert_entry-new (λ a b. same_pointer (pointer_of a) (pointer_of b)) m k v absent)
-    ∙ seen-append see (pointer_of k) m.entries ((k, v) ∷ [])
-
--- a number is at most that of places
-pub number_of-most : (cs : List Place) (p : Pointer) → number_of cs p ≤ length cs
-number_of-most [] p = omega arith
-number_of-most (c ∷ cs) p = go (same_pointer p c.0) (number_of-most cs p)
+-- a pointer that has no number is that of no place
+pub number_of-absent : (ps : List Pointer) (p : Pointer) (es : List (ℕ × Done)) → Leads ps None p
+    → within ps es ≡ true → length es ≡ number_of (map (done_view ps) es) p
+number_of-absent ps p [] none all = refl
+number_of-absent ps p (e ∷ es) none all =
+    let parts = both_true (nat_lt e.0 (length ps)) (within ps es) all in
+    go (same_pointer p (get_or ps e.0 [])) refl (ltb-true e.0 (length ps) parts.0)
+    (number_of-absent ps p es none parts.1)
   where
-    go : (b : Bool) → number_of cs p ≤ length cs → cond b 0 (suc (number_of cs p)) ≤ suc (length cs)
-    go true h = omega arith
-    go false h = omega (arith, h)
+    go : (b : Bool) → same_pointer p (get_or ps e.0 []) ≡ b → e.0 < length ps
+        → length es ≡ number_of (map (done_view ps) es) p
+        → suc (length es) ≡ cond b 0 (suc (number_of (map (done_view ps) es) p))
+    go true s l h =
+        absurd (none e.0 [] l (sym (same_pointer-eq p (get_or ps e.0 []) s) ∙ sym (append-nil p)))
+    go false s l h = ap suc h

@@ -1,5 +1,5 @@
 -- What is wrong at a place, by its parts.
-use Rattle.std.proofs.Common.{◌≡◌, ℕ, List, codes, refl, ap₂}
+use Rattle.std.proofs.Common.{◌≡◌, codes, refl, ap₂}
 use Rattle.documents.specs.Json.{Json, Members, no_members, member, lookup}
 use Rattle.schemas.specs.Places.{Pointer}
 use Rattle.schemas.specs.Keyword.{is_list}

@@ -1,8 +1,8 @@
 -- One step of the walk, as the program makes it.
-use Rattle.std.proofs.Common.{◌≡◌, ℕ, ◌+◌, ◌-◌, ◌<◌, List, [], ◌∷◌, ◌++◌, length, Bool, true, false, cond, Option, Some, None, refl, sym, ap, subst, ◌∙◌, arith, length-append}
+use Rattle.std.proofs.Common.{◌≡◌, ℕ, ◌-◌, ◌<◌, List, [], ◌∷◌, ◌++◌, length, Bool, true, false, cond, Option, Some, None, refl, sym, ap, subst, ◌∙◌, arith, length-append}
 use Rattle.std.proofs.lemmas.Option.{none-some, same_Some}
 use Rattle.documents.specs.Json.{Json, count}
-use Rattle.schemas.specs.Places.{Place, has_place}
+use Rattle.schemas.specs.Places.{Pointer, Place, has_place}
 use Rattle.schemas.specs.Fault.{Fault}
 use Rattle.schemas.specs.Walk.{next_of, children, places}
 use Rattle.schemas.specs.Reading.{fault_with, first_fault}
@@ -20,10 +20,10 @@ use Rattle.js_walk.specs.PlacesView.{place_view}
 use Rattle.js_walk.specs.Walking.{Passed, stack_view}
 
 -- a stack of one place
-pub alone : (root : Json) (p : W.Place) (before after : List W.Place) → after ≡ before ++ p ∷ [] → before ≡ []
-    → place_view p ≡ ([], root) → stack_view after ≡ ([], root) ∷ []
-alone root p before after e none is =
-    ap stack_view (e ∙ ap (λ ps. ps ++ p ∷ []) none) ∙ ap (λ c. c ∷ []) is
+pub alone : (root : Json) (ps : List Pointer) (p : W.Place) (before after : List W.Place) → after ≡ before ++ p ∷ []
+    → before ≡ [] → place_view ps p ≡ ([], root) → stack_view ps after ≡ ([], root) ∷ []
+alone root ps p before after e none is =
+    ap (stack_view ps) (e ∙ ap (λ cs. cs ++ p ∷ []) none) ∙ ap (λ c. c ∷ []) is
 
 module _ (root : Json) where
   pub begun : (done waiting : List Place) → done ≡ [] → waiting ≡ ([], root) ∷ [] → IsReading rules root done waiting 0

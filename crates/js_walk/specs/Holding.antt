@@ -1,5 +1,5 @@
 -- Which schemas lie in the value of a keyword, by fewer cases than there are shapes.
-use Rattle.std.specs.Prelude.{ℕ, suc, ◌+◌, ◌^◌, ◌-◌, min, List, [], ◌∷◌, ◌++◌, Bool, Option, Some, None, option_map}
+use Rattle.std.specs.Prelude.{ℕ, ◌+◌, ◌^◌, ◌-◌, min, List, [], ◌∷◌, ◌++◌, Bool, Option, Some, None, option_map}
 use Rattle.documents.specs.Json.{Json, Members, no_members, member, count}
 use Rattle.schemas.specs.Places.{Pointer, Place}
 use Rattle.schemas.specs.Keyword as S

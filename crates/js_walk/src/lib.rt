@@ -1,7 +1,8 @@
 //! The walk of a schema: its places in their order, or what is wrong first.
 //!
-//! A place is known by its pointer. The walk comes to each place once, and takes time and memory in proportion to what it
-//! comes to. The reader of schemas, `js_schema`, stands on this crate.
+//! A place is known by the number of its pointer, in a table where each pointer is an earlier one with one more token.
+//! The walk comes to each place once, and takes time and memory in proportion to what it comes to. The reader of
+//! schemas, `js_schema`, stands on this crate.
 #![tactic(auto)]
 
 mod children;
@@ -10,13 +11,13 @@ mod holding;
 mod members;
 mod place;
 mod places;
+mod pointers;
 mod steps;
 mod visit;
 mod weight;
 
-pub use children::below_name;
 pub use file::File;
 pub use members::value_of;
-pub use place::Key;
 pub use places::Places;
+pub use pointers::Pointers;
 pub use steps::walk;

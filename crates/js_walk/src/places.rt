@@ -1,59 +1,43 @@
-//! The places of a file that are done, in the order in which they were met, each found by its pointer.
+//! The places of a file that are done, in the order in which they were met, each found by the number of its pointer.
 //!
-//! A look-up takes time in proportion to the pointer, by hashing.
+//! A look-up is one of a number, by hashing.
 
-ghost use Rattle.std.specs.Prelude.{◌≡◌, ◌<◌, ◌++◌, ◌∷◌, [], false, map, length, get_or, OnOk};
-ghost use Rattle.schemas.specs.Places.{has_place};
+ghost use Rattle.std.specs.Prelude.{◌≡◌, ◌≤◌, ◌<◌, ◌++◌, ◌∷◌, [], ℕ, true, map, length, get_or, chars, nat_lt, IfOk};
+ghost use Rattle.documents.specs.Tests.{every};
+ghost use Rattle.schemas.specs.Places.{Pointer as P, index_token};
 ghost use Rattle.schemas.specs.Entries.{number_of};
 ghost use Rattle.js_doc.specs.JsonView.{view};
-ghost use Rattle.js_walk.specs.Keys.{pointer_of};
+ghost use Rattle.js_walk.specs.PointersView.{pointers_of};
+ghost use Rattle.js_walk.specs.Table.{Leads};
 
-use crate::place::{Key, Place};
+use crate::place::Done;
+use crate::pointers::Pointers;
 use indexmap::IndexMap;
-use indexmap::map::IntoKeys;
 use js_doc::{Json, Memory};
 use std::alloc::Global;
 
 /// Places in their order, no two of them the same.
 #[derive(Drop)]
 pub struct Places<'a> {
-    map: IndexMap<Key, &'a Json>,
+    pointers: Pointers,
+    map: IndexMap<u32, Done<'a>>,
+    ghost within: { every (λ e. nat_lt e.0 (length (pointers_of pointers))) map.entries ≡ true },
 }
 
 impl<'a> Places<'a> {
-    ghost use Rattle.js_walk.specs.PlacesView.{place_view, places_view};
+    ghost use Rattle.js_walk.specs.PlacesView.{pointers_in, places_view, targets_of};
+    ghost use Rattle.js_walk.specs.Walking.{done_places};
 
-    pub(crate) fn new(alloc: Global) -> Places<'a>
-        ensures { places_view result ≡ [] }
+    pub(crate) fn new(pointers: Pointers, done: IndexMap<u32, Done<'a>>) -> Places<'a>
+        requires { every (λ e. nat_lt e.0 (length (pointers_of pointers))) done.entries ≡ true }
+        ensures pointers { pointers_in result ≡ pointers_of pointers }
+        ensures places { places_view result ≡ done_places (pointers_of pointers) done.entry.entries }
+        ensures targets { targets_of result ≡ map (λ e. e.1.target) done.entry.entries }
     {
         Places {
-            map: IndexMap::new(alloc),
+            pointers,
+            map: done,
         }
-    }
-
-    pub(crate) fn has(&self, key: &Key) -> bool
-        ensures { result ≡ has_place (places_view self.now) (pointer_of key.now) }
-    {
-        self.map.contains_key(key)
-    }
-
-    /// The number of the place, or how many there are where it isn't among them.
-    pub fn number(&self, key: &Key) -> usize
-        ensures { result ≡ number_of (places_view self.now) (pointer_of key.now) }
-    {
-        match self.map.get_index_of(key) {
-            Some(number) => number,
-            None => self.map.len(),
-        }
-    }
-
-    /// Adds a place that isn't there.
-    pub(crate) fn add(&mut self, place: Place<'a>) -> Result<(), Memory>
-        requires { has_place (places_view self.old) (pointer_of place.key) ≡ false }
-        ensures { OnOk result (places_view self.new ≡ places_view self.old ++ place_view place.entry ∷ []) }
-    {
-        self.map.insert(place.key, place.value)?;
-        Ok(())
     }
 
     pub fn len(&self) -> usize
@@ -62,22 +46,65 @@ impl<'a> Places<'a> {
         self.map.len()
     }
 
-    /// The place with that number.
-    pub fn place(&self, number: usize) -> (&Key, &'a Json)
+    /// The place with that number: the number of its pointer, and its value.
+    pub fn place(&self, number: usize) -> (u32, &'a Json)
         requires { number < length (places_view self.now) }
-        ensures { (pointer_of result.0.now, view result.1.now) ≡ get_or (places_view self.now) number
-            (pointer_of result.0.now, view result.1.now) }
+        ensures place { (get_or (pointers_in self.now) result.0 [], view result.1.now)
+            ≡ get_or (places_view self.now) number (get_or (pointers_in self.now) result.0 [], view result.1.now) }
+        ensures pointer { result.0 < length (pointers_in self.now) }
     {
         match self.map.get_index(number) {
-            Some((key, value)) => (key, *value),
+            Some((pointer, done)) => (*pointer, done.value),
             None => unreachable!(),
         }
     }
 
-    /// The keys in their order.
-    pub fn into_keys(self) -> IntoKeys<Key, &'a Json>
-        ensures { map pointer_of result ≡ map (λ c. c.0) (places_view self.entry) }
+    /// Where the reference of the place with that number leads, if it has one.
+    pub fn target(&self, number: usize) -> Option<u32>
+        requires { number < length (places_view self.now) }
+        ensures { result ≡ get_or (targets_of self.now) number result }
     {
-        self.map.into_keys()
+        match self.map.get_index(number) {
+            Some((_, done)) => done.target,
+            None => unreachable!(),
+        }
+    }
+
+    /// The number of the place with that pointer, or how many there are where it isn't among them.
+    pub fn number(&self, at: Option<u32>) -> usize
+        ensures place { (p : P) → Leads (pointers_in self.now) at p → result ≡ number_of (places_view self.now) p }
+        ensures most { result ≤ length (places_view self.now) }
+    {
+        match at {
+            Some(pointer) => match self.map.get_index_of(&pointer) {
+                Some(number) => number,
+                None => self.map.len(),
+            },
+            None => self.map.len(),
+        }
+    }
+
+    /// The number of the pointer that goes on from one by a token, where it is there.
+    pub fn below(&self, at: Option<u32>, token: &str) -> Option<u32>
+        ensures { (p : P) → Leads (pointers_in self.now) at p
+            → Leads (pointers_in self.now) result (p ++ chars token.now ∷ []) }
+    {
+        self.pointers.below(at, token)
+    }
+
+    /// The same with the token of the element at `index`.
+    pub fn below_index(&self, at: Option<u32>, index: usize) -> Result<Option<u32>, Memory>
+        ensures { IfOk result (λ found. (p : P) → Leads (pointers_in self.now) at p
+            → Leads (pointers_in self.now) found (p ++ index_token index ∷ [])) }
+    {
+        self.pointers.below_index(at, index)
+    }
+
+    /// All pointers, by the same numbers.
+    pub fn into_pointers(self) -> Pointers
+        ensures { pointers_of result ≡ pointers_in self.entry }
+    {
+        let Places { pointers, map: _ } = self;
+        pointers
     }
 }

@@ -1,28 +1,31 @@
 //! The walk from schema to schema: it comes to each place once, depth first, and ends at the first fault.
 //!
-//! What waits is a stack, the next place on top; a place that is done is known by its pointer. Nothing recurses from
-//! schema to schema. Time and memory are those of the values of the schema, and of the pointers to its places.
+//! What waits is a stack, the next place on top; a place that is done is known by the number of its pointer. Nothing
+//! recurses from schema to schema. Time and memory are those of the values of the schema, and of the tokens by which
+//! its places are reached.
 
-ghost use Rattle.std.specs.Prelude.{◌≡◌, ◌≤◌, ◌+◌, ◌++◌, ◌∷◌, [], false, true, map, reverse, Some, None, IfOk, IfErr, OnOk};
+ghost use Rattle.std.specs.Prelude.{◌≡◌, ◌≤◌, ◌<◌, ◌+◌, ◌++◌, [], false, reverse, length, get_or, None, IfOk, IfErr, IfSome, OnOk};
 ghost use Rattle.schemas.specs.Places.{has_place};
 ghost use Rattle.schemas.specs.Weight as W;
 ghost use Rattle.schemas.specs.Walk.{next_of, children, places};
 ghost use Rattle.schemas.specs.Reading.{fault_with, first_fault};
 ghost use Rattle.js_doc.specs.JsonView.{view};
-ghost use Rattle.js_keywords.specs.FaultView.{Tells, ChecksOrTells};
+ghost use Rattle.js_keywords.specs.FaultView.{Tells};
 ghost use Rattle.js_keywords.specs.Reading.{rules};
 ghost use Rattle.js_walk.specs.FileView.{root_of};
-ghost use Rattle.js_walk.specs.Keys.{pointer_of};
-ghost use Rattle.js_walk.specs.PlacesView.{place_view, places_view};
-ghost use Rattle.js_walk.specs.Walking.{stack_view, NextOf, Passes, too_large};
+ghost use Rattle.js_walk.specs.PointersView.{pointers_of};
+ghost use Rattle.js_walk.specs.PlacesView.{place_view, pointers_in, places_view, targets_of, AreTargets};
+ghost use Rattle.js_walk.specs.Visiting.{AreWithin};
+ghost use Rattle.js_walk.specs.Walking.{done_places, stack_view, DoneWithin, Kept, NextOf, Passes, too_large};
 
 use crate::file::File;
-use crate::place::{Key, Place};
+use crate::place::{Done, Found, Place};
 use crate::places::Places;
+use crate::pointers::Pointers;
 use crate::visit::visit;
 use crate::weight::weight;
+use indexmap::IndexMap;
 use js_doc::Memory;
-use js_json::Pointer;
 use js_keywords::SchemaFault;
 use std::alloc::Global;
 
@@ -33,80 +36,130 @@ const MOST_WEIGHT: u64 = 2_147_483_647;
 pub fn walk<'a>(alloc: Global, file: &File<'a>) -> Result<Places<'a>, SchemaFault>
     ensures ok { IfOk result (λ done. (first_fault rules (root_of file.now) ≡ None)
         × (places rules (root_of file.now) ≡ places_view done)) }
+    ensures targets { IfOk result (λ done. AreTargets (root_of file.now) (pointers_in done) (places_view done)
+        (targets_of done)) }
     ensures fault { IfErr result (λ f. Tells (first_fault rules (root_of file.now)) f) }
 {
-    let mut done = Places::new(alloc);
+    let mut pointers = Pointers::new(alloc);
+    let mut done = IndexMap::new(alloc);
     let mut waiting = Vec::new(alloc);
-    waiting.push(root_place(alloc, file))?;
+    waiting.push(root_place(file))?;
     let mut weight = 0;
-    while let Some(place) = next(&mut waiting, &done) {
-        weight = pass(alloc, file, &mut done, &mut waiting, weight, place)?;
+    while let Some(place) = next(&mut waiting, &done, &pointers) {
+        weight = pass(
+            alloc,
+            file,
+            &mut pointers,
+            &mut done,
+            &mut waiting,
+            weight,
+            place,
+        )?;
     }
-    Ok(done)
+    Ok(Places::new(pointers, done))
 }
 
-fn root_place<'a>(alloc: Global, file: &File<'a>) -> Place<'a>
-    ensures { place_view result ≡ ([], root_of file.now) }
+fn root_place<'a>(file: &File<'a>) -> Place<'a>
+    ensures pointer { result.pointer ≡ 0 }
+    ensures value { view result.value.now ≡ root_of file.now }
 {
     Place {
-        key: Key {
-            pointer: Pointer::root(alloc),
-        },
+        pointer: 0,
         value: file.root(),
     }
 }
 
 /// The next place that isn't done. Those before it are left out.
-fn next<'a>(waiting: &mut Vec<Place<'a>>, done: &Places<'a>) -> Option<Place<'a>>
-    ensures { NextOf (next_of (places_view done.now) (stack_view waiting.old.items)) waiting.new.items result }
+fn next<'a>(
+    waiting: &mut Vec<Place<'a>>,
+    done: &IndexMap<u32, Done<'a>>,
+    pointers: &Pointers,
+) -> Option<Place<'a>>
+    requires waiting { AreWithin (pointers_of pointers.now) waiting.old.items }
+    requires done { DoneWithin (pointers_of pointers.now) done.now.entries }
+    ensures next { NextOf (pointers_of pointers.now) (next_of (done_places (pointers_of pointers.now) done.now.entries)
+        (stack_view (pointers_of pointers.now) waiting.old.items)) waiting.new.items result }
+    ensures left { AreWithin (pointers_of pointers.now) waiting.new.items }
+    ensures within { IfSome result (λ p. p.pointer < length (pointers_of pointers.now)) }
 {
     while let Some(place) = waiting.pop() {
-        if !done.has(&place.key) {
+        if !is_done(done, pointers, place.pointer) {
             return Some(place);
         }
     }
     None
 }
 
+fn is_done<'a>(done: &IndexMap<u32, Done<'a>>, pointers: &Pointers, pointer: u32) -> bool
+    requires done { DoneWithin (pointers_of pointers.now) done.now.entries }
+    requires pointer { pointer < length (pointers_of pointers.now) }
+    ensures { result ≡ has_place (done_places (pointers_of pointers.now) done.now.entries)
+        (get_or (pointers_of pointers.now) pointer []) }
+{
+    done.contains_key(&pointer)
+}
+
 /// Goes on past a place without a fault: it is done, and what it leads to is next. Answers the weight with it.
 fn pass<'a>(
     alloc: Global,
     file: &File<'a>,
-    done: &mut Places<'a>,
+    pointers: &mut Pointers,
+    done: &mut IndexMap<u32, Done<'a>>,
     waiting: &mut Vec<Place<'a>>,
     before: u64,
     place: Place<'a>,
 ) -> Result<u64, SchemaFault>
-    requires first { has_place (places_view done.old) (pointer_of place.key) ≡ false }
+    requires within { place.pointer < length (pointers_of pointers.old) }
+    requires first { has_place (done_places (pointers_of pointers.old) done.old.entries)
+        (get_or (pointers_of pointers.old) place.pointer []) ≡ false }
     requires light { before ≤ 2147483647 }
-    ensures ok { IfOk result (Passes (root_of file.now) before (place_view place.entry)
-        (places_view done.old) (places_view done.new) (stack_view waiting.old.items) (stack_view waiting.new.items)) }
-    ensures fault { IfErr result (λ f. Tells (fault_with rules (root_of file.now) before (place_view place.entry)) f) }
+    requires kept { Kept (root_of file.now) (pointers_of pointers.old) done.old.entries waiting.old.items }
+    ensures ok { IfOk result (Passes (root_of file.now) before (place_view (pointers_of pointers.old) place.entry)
+        (done_places (pointers_of pointers.old) done.old.entries)
+        (done_places (pointers_of pointers.new) done.new.entries)
+        (stack_view (pointers_of pointers.old) waiting.old.items)
+        (stack_view (pointers_of pointers.new) waiting.new.items)) }
+    ensures kept { OnOk result
+        (Kept (root_of file.now) (pointers_of pointers.new) done.new.entries waiting.new.items) }
+    ensures fault { IfErr result (λ f. Tells
+        (fault_with rules (root_of file.now) before (place_view (pointers_of pointers.old) place.entry)) f) }
 {
-    let found = visit(alloc, file, &place)?;
-    let after = with_weight(alloc, before, &place)?;
-    done.add(place)?;
-    stack_up(waiting, found)?;
+    let found = visit(alloc, file, pointers, &place)?;
+    let after = with_weight(alloc, pointers, before, &place)?;
+    done.insert(
+        place.pointer,
+        Done {
+            value: place.value,
+            target: found.target,
+        },
+    )?;
+    stack_up(waiting, found.places)?;
     Ok(after)
 }
 
 /// The weight with the place, which may not be too much.
-fn with_weight<'a>(alloc: Global, before: u64, place: &Place<'a>) -> Result<u64, SchemaFault>
-    requires { before ≤ 2147483647 }
-    ensures ok { IfOk result (λ after. (after ≡ before + W.weight (place_view place.now)) × (after ≤ 2147483647)) }
-    ensures fault { IfErr result (λ f. Tells (too_large before (place_view place.now)) f) }
+fn with_weight<'a>(
+    alloc: Global,
+    pointers: &Pointers,
+    before: u64,
+    place: &Place<'a>,
+) -> Result<u64, SchemaFault>
+    requires light { before ≤ 2147483647 }
+    requires within { place.now.pointer < length (pointers_of pointers.now) }
+    ensures ok { IfOk result (λ after.
+        (after ≡ before + W.weight (place_view (pointers_of pointers.now) place.now)) × (after ≤ 2147483647)) }
+    ensures fault { IfErr result (λ f. Tells (too_large before (place_view (pointers_of pointers.now) place.now)) f) }
 {
     let after = before.saturating_add(weight(place.value));
     if after > MOST_WEIGHT {
-        return Err(SchemaFault::TooLarge(place.key.pointer.copy(alloc)?));
+        return Err(SchemaFault::TooLarge(pointers.pointer(alloc, place.pointer)?));
     }
     Ok(after)
 }
 
 /// Puts the places on the stack, the first on top.
 fn stack_up<'a>(waiting: &mut Vec<Place<'a>>, found: Vec<Place<'a>>) -> Result<(), Memory>
-    ensures { OnOk result (stack_view waiting.new.items
-        ≡ map place_view found.entry.items ++ stack_view waiting.old.items) }
+    ensures { OnOk result (waiting.new.items ≡ waiting.old.items ++ reverse found.entry.items) }
 {
     let mut found = found;
     while let Some(place) = found.pop() {

@@ -1,9 +1,10 @@
 //! What is wrong first at a place of a schema, but for its weight; and the places that it leads to.
 //!
-//! Each member of an object is checked once, by the keyword that its name is. Of an object with a reference only that is
-//! looked at. It takes time in proportion to the object, and to the pointers of the places.
+//! Each member of an object is checked once, by the keyword that its name is. Of an object with a reference only that
+//! is looked at. It takes time in proportion to the object, and to the last tokens of the pointers of the places. The
+//! whole pointer of a place is made where something is wrong there.
 
-ghost use Rattle.std.specs.Prelude.{◌≡◌, map, IfOk};
+ghost use Rattle.std.specs.Prelude.{◌≡◌, ◌<◌, [], ℕ, Some, None, length, get_or, IfOk};
 ghost use Rattle.documents.specs.Json as D;
 ghost use Rattle.documents.specs.Place.{value_at};
 ghost use Rattle.schemas.specs.SubSchemas as S;
@@ -14,13 +15,15 @@ ghost use Rattle.js_keywords.specs.FaultView.{ChecksOrTells};
 ghost use Rattle.js_keywords.specs.Member.{named_fault};
 ghost use Rattle.js_keywords.specs.Reading.{rules};
 ghost use Rattle.js_walk.specs.FileView.{root_of};
-ghost use Rattle.js_walk.specs.PlacesView.{place_view};
-ghost use Rattle.js_walk.specs.Visiting.{Visits, members_fault_by};
+ghost use Rattle.js_walk.specs.PointersView.{pointers_of};
+ghost use Rattle.js_walk.specs.PlacesView.{place_view, reference_in};
+ghost use Rattle.js_walk.specs.Visiting.{Adds, Settles, Visits, members_fault_by};
 
 use crate::children::children;
 use crate::file::File;
 use crate::members::{has_list, value_of};
-use crate::place::{Key, Place};
+use crate::place::{Found, Place};
+use crate::pointers::Pointers;
 use js_doc::{Json, JsonMap, JsonMember, Memory, Str};
 use js_json::{Pointer, RefFault};
 use js_keywords::{Keyword, SchemaFault, check_member, wrong_shape};
@@ -30,31 +33,43 @@ use std::alloc::Global;
 pub(crate) fn visit<'a>(
     alloc: Global,
     file: &File<'a>,
+    pointers: &mut Pointers,
     place: &Place<'a>,
-) -> Result<Vec<Place<'a>>, SchemaFault>
-    ensures { Visits (R.fault_at rules (root_of file.now) (place_view place.now))
-        (W.children rules (root_of file.now) (place_view place.now)) result }
+) -> Result<Found<'a>, SchemaFault>
+    requires { place.now.pointer < length (pointers_of pointers.old) }
+    ensures { Visits (root_of file.now) (pointers_of pointers.old) (pointers_of pointers.new)
+        (R.fault_at rules (root_of file.now) (place_view (pointers_of pointers.old) place.now))
+        (W.children rules (root_of file.now) (place_view (pointers_of pointers.old) place.now))
+        (reference_in (view place.now.value.now)) result }
 {
-    let pointer = &place.key.pointer;
     match place.value {
-        Json::Bool(_) => Ok(Vec::new(alloc)),
-        Json::Members(members) => visit_object(alloc, file, pointer, members),
-        _ => Err(SchemaFault::NotASchema(pointer.copy(alloc)?)),
+        Json::Bool(_) => Ok(Found {
+            places: Vec::new(alloc),
+            target: None,
+        }),
+        Json::Members(members) => visit_object(alloc, file, pointers, place.pointer, members),
+        _ => Err(SchemaFault::NotASchema(pointers.pointer(alloc, place.pointer)?)),
     }
 }
 
 fn visit_object<'a>(
     alloc: Global,
     file: &File<'a>,
-    place: &Pointer,
+    pointers: &mut Pointers,
+    place: u32,
     members: &'a JsonMap,
-) -> Result<Vec<Place<'a>>, SchemaFault>
-    ensures { Visits (R.fault_at rules (root_of file.now) (place.now, D.object (map_view members.now)))
-        (W.children rules (root_of file.now) (place.now, D.object (map_view members.now))) result }
+) -> Result<Found<'a>, SchemaFault>
+    requires { place < length (pointers_of pointers.old) }
+    ensures { Visits (root_of file.now) (pointers_of pointers.old) (pointers_of pointers.new)
+        (R.fault_at rules (root_of file.now)
+        (get_or (pointers_of pointers.old) place [], D.object (map_view members.now)))
+        (W.children rules (root_of file.now)
+        (get_or (pointers_of pointers.old) place [], D.object (map_view members.now)))
+        (reference_in (D.object (map_view members.now))) result }
 {
     match value_of(members, Keyword::Ref) {
-        Some(value) => visit_reference(alloc, file, place, value),
-        None => visit_members(alloc, file, place, members),
+        Some(value) => visit_reference(alloc, file, pointers, place, value),
+        None => visit_members(alloc, file, pointers, place, members),
     }
 }
 
@@ -62,45 +77,60 @@ fn visit_object<'a>(
 fn visit_reference<'a>(
     alloc: Global,
     file: &File<'a>,
-    place: &Pointer,
+    pointers: &mut Pointers,
+    place: u32,
     value: &'a Json,
-) -> Result<Vec<Place<'a>>, SchemaFault>
-    ensures { Visits (R.reference_fault rules (root_of file.now) place.now (view value.now))
-        (W.referred rules (root_of file.now) (view value.now)) result }
+) -> Result<Found<'a>, SchemaFault>
+    requires { place < length (pointers_of pointers.old) }
+    ensures { Visits (root_of file.now) (pointers_of pointers.old) (pointers_of pointers.new)
+        (R.reference_fault rules (root_of file.now) (get_or (pointers_of pointers.old) place []) (view value.now))
+        (W.referred rules (root_of file.now) (view value.now)) (Some (view value.now)) result }
 {
     match value {
-        Json::Text(text) => follow(alloc, file, place, text),
-        _ => Err(wrong_shape(alloc, place, Keyword::Ref)),
+        Json::Text(text) => follow(alloc, file, pointers, place, text),
+        _ => Err(wrong_shape(alloc, &pointers.pointer(alloc, place)?, Keyword::Ref)),
     }
 }
 
 fn follow<'a>(
     alloc: Global,
     file: &File<'a>,
-    place: &Pointer,
+    pointers: &mut Pointers,
+    place: u32,
     text: &Str,
-) -> Result<Vec<Place<'a>>, SchemaFault>
-    ensures { Visits (R.reference_fault rules (root_of file.now) place.now (D.string text.now))
-        (W.referred rules (root_of file.now) (D.string text.now)) result }
+) -> Result<Found<'a>, SchemaFault>
+    requires { place < length (pointers_of pointers.old) }
+    ensures { Visits (root_of file.now) (pointers_of pointers.old) (pointers_of pointers.new)
+        (R.reference_fault rules (root_of file.now) (get_or (pointers_of pointers.old) place []) (D.string text.now))
+        (W.referred rules (root_of file.now) (D.string text.now)) (Some (D.string text.now)) result }
 {
     match file.target(alloc, text) {
-        Ok(pointer) => Ok(place_at(alloc, file, pointer)?),
+        Ok(target) => Ok(found_at(alloc, file, pointers, &target)?),
         Err(RefFault::Memory) => Err(SchemaFault::Memory),
-        Err(fault) => Err(SchemaFault::Ref(fault, place.copy(alloc)?)),
+        Err(fault) => Err(SchemaFault::Ref(fault, pointers.pointer(alloc, place)?)),
     }
 }
 
-/// The place with that pointer, where there is one.
-fn place_at<'a>(alloc: Global, file: &File<'a>, pointer: Pointer) -> Result<Vec<Place<'a>>, Memory>
-    ensures { IfOk result (λ found. map place_view found.items
-        ≡ W.place_with pointer (value_at pointer (root_of file.now))) }
+/// The place to which a reference leads, where there is one.
+fn found_at<'a>(
+    alloc: Global,
+    file: &File<'a>,
+    pointers: &mut Pointers,
+    target: &Pointer,
+) -> Result<Found<'a>, Memory>
+    ensures places { IfOk result (λ found. Adds (pointers_of pointers.old) (pointers_of pointers.new) []
+        found.places.items (W.place_with target.now (value_at target.now (root_of file.now)))) }
+    ensures target { IfOk result (λ found. Settles (pointers_of pointers.new) found.target target.now) }
 {
-    let mut found = Vec::new(alloc);
-    if let Some(value) = file.value(&pointer) {
-        let key = Key { pointer };
-        found.push(Place { key, value })?;
+    let pointer = pointers.add_whole(target)?;
+    let mut places = Vec::new(alloc);
+    if let Some(value) = file.value(target) {
+        places.push(Place { pointer, value })?;
     }
-    Ok(found)
+    Ok(Found {
+        places,
+        target: Some(pointer),
+    })
 }
 
 /// An object without a reference.
@@ -108,20 +138,62 @@ fn place_at<'a>(alloc: Global, file: &File<'a>, pointer: Pointer) -> Result<Vec<
 fn visit_members<'a>(
     alloc: Global,
     file: &File<'a>,
-    place: &Pointer,
+    pointers: &mut Pointers,
+    place: u32,
     members: &'a JsonMap,
-) -> Result<Vec<Place<'a>>, SchemaFault>
-    ensures { Visits (R.members_fault rules (root_of file.now) (map_view members.now) place.now (map_view members.now))
-        (S.sub_schemas place.now (map_view members.now)) result }
+) -> Result<Found<'a>, SchemaFault>
+    requires { place < length (pointers_of pointers.old) }
+    ensures { Visits (root_of file.now) (pointers_of pointers.old) (pointers_of pointers.new)
+        (R.members_fault rules (root_of file.now) (map_view members.now)
+        (get_or (pointers_of pointers.old) place []) (map_view members.now))
+        (S.sub_schemas (get_or (pointers_of pointers.old) place []) (map_view members.now)) None result }
 {
     let listed = has_list(members);
-    check_members(alloc, file, place, listed, members)?;
-    Ok(children(alloc, place, listed, members)?)
+    check_members(alloc, file, pointers, place, listed, members)?;
+    Ok(Found {
+        places: children(alloc, pointers, place, listed, members)?,
+        target: None,
+    })
 }
 
-/// What is wrong first in the members of an object whose `items` is a list or isn't.
-#[tactic(auto, using(js_keywords::proofs::ShapesLemmas::first_faults))]
+/// What is wrong first in the members of an object whose `items` is a list or isn't. Whether anything is wrong doesn't
+/// hang on the pointer, so its own is made only then.
 fn check_members<'a>(
+    alloc: Global,
+    file: &File<'a>,
+    pointers: &Pointers,
+    place: u32,
+    listed: bool,
+    members: &'a JsonMap,
+) -> Result<(), SchemaFault>
+    requires { place < length (pointers_of pointers.now) }
+    ensures { ChecksOrTells (members_fault_by (root_of file.now) listed
+        (get_or (pointers_of pointers.now) place []) (map_view members.now)) result }
+{
+    let short = short_pointer(alloc, place)?;
+    match check_all(alloc, file, &short, listed, members) {
+        Ok(()) => Ok(()),
+        Err(_) => {
+            let pointer = pointers.pointer(alloc, place)?;
+            check_all(alloc, file, &pointer, listed, members)
+        }
+    }
+}
+
+/// A pointer that is the root where `place` is.
+fn short_pointer(alloc: Global, place: u32) -> Result<Pointer, Memory>
+    ensures { IfOk result (λ p. p ≡ [] → place ≡ 0) }
+{
+    let mut pointer = Pointer::root(alloc);
+    if place > 0 {
+        pointer.push_name("")?;
+    }
+    Ok(pointer)
+}
+
+/// What is wrong first in members that stand at `place`.
+#[tactic(auto, using(js_keywords::proofs::ShapesLemmas::first_faults))]
+fn check_all<'a>(
     alloc: Global,
     file: &File<'a>,
     place: &Pointer,

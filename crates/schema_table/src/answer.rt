@@ -53,7 +53,8 @@ fn cycle_words(alloc: Global, schema: &Schema, cycle: &EntryList) -> Result<Stri
     let mut words = String::from_str(alloc, "cycle")?;
     for entry in cycle.as_slice() {
         if *entry < schema.len() {
-            push_place(&mut words, schema.pointer(*entry), alloc)?;
+            let place = schema.pointer(alloc, *entry)?;
+            push_place(&mut words, &place, alloc)?;
         }
     }
     Ok(words)

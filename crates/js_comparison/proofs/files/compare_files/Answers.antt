@@ -4,7 +4,7 @@ use Rattle.js_schema.specs.SchemaView.{schema_view}
 use Rattle.js_input.specs.SchemaReading.{Refused}
 use Rattle.js_input.proofs.InputLemmas.{IfOk-weaker}
 use Rattle.js_comparison.specs.Outcome.{SecondRefused}
-use Rattle.js_comparison.proofs.OutcomeLemmas.{comparison-first_refused, comparison-second, says-compared}
+use Rattle.js_comparison.proofs.OutcomeLemmas.{at_fault, comparison-first_refused, comparison-second, says-compared}
 use Rattle.js_comparison.proofs.files.compare_files.Goals as goal
 
 pub returns-in-Some-Refused-clause-says : goal.returns-in-Some-Refused-clause-says
@@ -44,3 +44,11 @@ returns-in-Some-Read-2-clause-says g c =
     (record { well_formed = of.well_formed; entries = of.entries })
     (record { well_formed = of'.well_formed; entries = of'.entries }) _ _ _ f same again h has
     (subst (λ t. HasBytes t (encode_utf8_all c.args.second.now) others) c.in_ok-schema.ensures.told has_others) is is')
+
+pub returns-in-Some-Read-2-clause-memory : goal.returns-in-Some-Read-2-clause-memory
+returns-in-Some-Read-2-clause-memory g c =
+    let first = rw c.in-Some-Read.is at c.in_ok-schema.ensures.says in
+    let (same, (bytes, has, (x, is, of))) = rw c.in-Some-Read.field-0-is at first in
+    let second = rw c.in-Some-Read-2.is at c.in_ok-b.ensures.says in
+    let (again, (others, has_others, (y, is', of'))) = rw c.in-Some-Read-2.field-0-is at second in
+    at_fault _ c.compared.result (again ∙ same)

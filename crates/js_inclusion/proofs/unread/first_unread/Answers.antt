@@ -11,13 +11,10 @@ returns-in-Some c =
     let within : c.loop-entry.entry < length (schema_view c.args.schema.now) =
     omega (arith, c.loop-entry-test.true, c.len-entry-end.ensures.value) in
     let name = sym c.unread_keyword.ensures ∙ ap (option_map keyword_name) c.in-Some.is in
-    let at = c.in_ok-place.ensures ∙ c.pointer.ensures in
     let spelled = ap chars c.name.ensures ∙ chars-keyword_name c.in-Some.keyword in
-    ap Some (c.in_ok-push_name.ensures.ok
-    ∙ ap (λ k. c.in_ok-place.place ++ k ∷ []) spelled ∙ ap (λ p. p ++ keyword_name c.in-Some.keyword ∷ [])
-    c.in_ok-place.ensures)
+    ap Some (c.in_ok-push_name.ensures.ok ∙ ap (λ k. c.in_ok-place.place ++ k ∷ []) spelled)
     ∙ sym (unread-here (schema_view c.args.schema.now) c.loop-entry.entry (form_view c.form.result.now)
-    c.pointer.result.now (keyword_name c.in-Some.keyword) within c.form.ensures c.pointer.ensures name)
+    c.in_ok-place.place (keyword_name c.in-Some.keyword) within c.form.ensures c.in_ok-place.ensures name)
     ∙ c.loop-entry.invariant
 
 pub loop-entry-preserved : goal.loop-entry-preserved

@@ -6,3 +6,8 @@ pub told_cycle-requires : goal.told_cycle-requires
 told_cycle-requires c =
     let told = rw c.in-Err-Cycle.field-0-is at c.in-Err-Cycle.ensures.cycle in
     cycle-below (schema_view c.args.schema) c.in-Err-Cycle.cycle told.1
+
+pub returns-in-Err-Cycle : goal.returns-in-Err-Cycle
+returns-in-Err-Cycle c = λ j.
+    let told = rw c.in-Err-Cycle.field-0-is at c.in-Err-Cycle.ensures.cycle in
+    (c.in-Err-Cycle.cycle, told.1, c.in_ok-words-in-Err-Cycle.ensures)

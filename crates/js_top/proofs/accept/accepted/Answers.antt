@@ -2,7 +2,7 @@ use Rattle.std.proofs.Common.{IfSome, subst}
 use Rattle.certificates.specs.Line.{IsText}
 use Rattle.js_schema.specs.SchemaView.{schema_view}
 use Rattle.js_top.proofs.Includes.{IfOk-weaker}
-use Rattle.js_top.proofs.AcceptLaws.{good-accepted, bad-rejected, good-included}
+use Rattle.js_top.proofs.AcceptLaws.{refused-second, good-accepted, bad-rejected, good-included}
 use Rattle.js_top.proofs.accept.accepted.Goals as goal
 
 pub returns-clause-accepted : goal.returns-clause-accepted
@@ -33,3 +33,7 @@ returns-clause-included c =
     good-included c.args.a.now c.args.b.now x y (schema_view c.in-Read.schema) (schema_view c.in-Read-2.schema) is_x
     is_y (record { well_formed = of.well_formed; entries = of.entries })
     (record { well_formed = of'.well_formed; entries = of'.entries }) r h)
+
+pub returns-in-Refused-2-clause-rejected : goal.returns-in-Refused-2-clause-rejected
+returns-in-Refused-2-clause-rejected c =
+    refused-second c.args.a.now c.args.b.now c.args.certificate.now _ (rw c.in-Refused-2.is at c.in_ok-schema-2.ensures)

@@ -3,15 +3,17 @@ use Rattle.documents.specs.Json.{count}
 use Rattle.schema_laws.specs.Walking.{IsReading}
 use Rattle.js_keywords.specs.Reading.{rules}
 use Rattle.js_walk.specs.FileView.{root_of}
-use Rattle.js_walk.specs.PlacesView.{places_view}
-use Rattle.js_walk.specs.Walking.{stack_view}
+use Rattle.js_walk.specs.PointersView.{pointers_of}
+use Rattle.js_walk.specs.Walking.{done_places, stack_view, Kept}
 use Rattle.js_walk.proofs.steps.walk.Given as goal
 
 abbrev pub invariant-loop-place : goal.invariant-loop-place
 invariant-loop-place l = record {
-  reading : IsReading rules (root_of l.fn.file) (places_view l.done) (stack_view l.waiting.items) l.weight;
+  reading : IsReading rules (root_of l.fn.file) (done_places (pointers_of l.pointers) l.done.entries)
+      (stack_view (pointers_of l.pointers) l.waiting.items) l.weight;
   light : l.weight ≤ 2147483647;
+  kept : Kept (root_of l.fn.file) (pointers_of l.pointers) l.done.entries l.waiting.items;
 }
 
 abbrev pub decreases-loop-place : goal.decreases-loop-place
-decreases-loop-place l = count (root_of l.file) - length (places_view l.done)
+decreases-loop-place l = count (root_of l.fn.file) - length (done_places (pointers_of l.pointers) l.done.entries)

@@ -1,6 +1,10 @@
 -- The pointer of the entry that is found.
-use Rattle.js_schema.proofs.EntriesLemmas.{pointer_at}
+use Rattle.js_walk.specs.PointersView.{pointers_of}
+use Rattle.js_schema.proofs.EntriesLemmas.{pointer_answered}
 use Rattle.js_schema.proofs.table.Schema.pointer.Goals as goal
 
 pub returns : goal.returns
-returns c = pointer_at c.args.self.now.entries.items c.args.entry c.index.result.now c.index.ensures
+returns c =
+    let schema = c.args.self.now in
+    pointer_answered (pointers_of schema.pointers) schema.entries.items c.args.entry c.index.result.now c.pointer.result
+    c.index.ensures c.pointer.ensures

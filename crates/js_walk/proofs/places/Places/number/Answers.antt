@@ -1,16 +1,27 @@
-use Rattle.std.proofs.Common.{sym, ◌∙◌}
-use Rattle.js_doc.specs.JsonView.{view}
-use Rattle.js_walk.specs.Keys.{pointer_of}
-use Rattle.js_walk.proofs.PlacesLemmas.{number_of-some, number_of-none}
+use Rattle.std.proofs.Common.{subst, sym, ◌∙◌}
+use Rattle.js_walk.specs.Table.{Leads}
+use Rattle.js_walk.specs.PlacesView.{pointers_in}
+use Rattle.js_walk.proofs.PlacesLemmas.{number_of-some, number_of-none, number_of-absent}
 use Rattle.js_walk.proofs.places.Places.number.Goals as goal
 
-pub returns-in-Some : goal.returns-in-Some
-returns-in-Some c =
-    number_of-some (λ v. view v.now) (pointer_of c.args.key.now) c.args.self.now.map.entries c.in-Some.number
-    c.in-Some.ensures.index
+pub returns-in-Some-get_index_of-clause-place : goal.returns-in-Some-get_index_of-clause-place
+returns-in-Some-get_index_of-clause-place c = λ p leads.
+    let places = c.args.self.now in
+    let at = subst (λ a. Leads (pointers_in places) a p) c.in-Some.is leads in
+    number_of-some _ _ _ places.pointers.table _ p at.0 at.1 places.map.entries _ places.within
+    (sym c.get_index_of.ensures.index ∙ c.in-Some-get_index_of.is)
 
-pub returns-in-None : goal.returns-in-None
-returns-in-None c =
+pub returns-in-None-get_index_of-clause-place : goal.returns-in-None-get_index_of-clause-place
+returns-in-None-get_index_of-clause-place c = λ p leads.
+    let places = c.args.self.now in
+    let at = subst (λ a. Leads (pointers_in places) a p) c.in-Some.is leads in
     c.len.ensures.len
-    ∙ number_of-none (λ v. view v.now) (pointer_of c.args.key.now) c.args.self.now.map.entries
-    (sym c.in-None.is ∙ c.get_index_of.ensures.index)
+    ∙ number_of-none _ _ _ places.pointers.table _ p at.0 at.1 places.map.entries places.within
+    (sym c.get_index_of.ensures.index ∙ c.in-None-get_index_of.is)
+
+pub returns-in-None-clause-place : goal.returns-in-None-clause-place
+returns-in-None-clause-place c = λ p leads.
+    let places = c.args.self.now in
+    c.len-in-None.ensures.len
+    ∙ number_of-absent (pointers_in places) p places.map.entries
+    (subst (λ a. Leads (pointers_in places) a p) c.in-None.is leads) places.within

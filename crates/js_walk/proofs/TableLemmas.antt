@@ -1,0 +1,181 @@
+-- Pointers by number: each lies after those that lead to it. A step down finds the one that goes on, if it is there.
+use Rattle.std.proofs.Common.{◌≡◌, ℕ, zero, suc, ◌+◌, ◌≤◌, ◌<◌, List, [], ◌∷◌, ◌++◌, map, length, get_or, Bool, true, false, not, cond, ◌&&◌, nat_lt, nat_eq, Some, None, position, chars, string_bytes, bytes_eq, IsUtf8, refl, sym, ap, ap₂, subst, ◌∙◌, add-one, arith}
+use Rattle.std.specs.Prelude.{String}
+use Rattle.std.specs.List.{position_or_len}
+use Rattle.std.proofs.lemmas.Option.{none-some, same_Some}
+use Rattle.std.proofs.lemmas.Bool.{ltb-true, ltb-false, eqb-true, eq-eqb}
+use Rattle.std.proofs.lemmas.List.Sums.{passes_at_first, fails_before_first}
+use Rattle.std.proofs.lemmas.List.{append_assoc, append-nil}
+use Rattle.std.proofs.lemmas.Str.{IsUtf8-string_bytes}
+use Rattle.documents.specs.Tests.{same_word}
+use Rattle.js_doc.proofs.Lookups.{same_word-named}
+use Rattle.schemas.specs.Places.{Pointer}
+use Rattle.schema_laws.proofs.Pointers.{same_word-refl, same_word-eq}
+use Rattle.js_walk.specs.Table.{IsTable}
+
+-- Positions.
+
+pub first_of : (n m k : ℕ) → cond (nat_lt n m) (Some n) None ≡ Some k → (n ≡ k) × (n < m)
+first_of n m k h = go (nat_lt n m) refl h
+  where
+    go : (b : Bool) → nat_lt n m ≡ b → cond b (Some n) None ≡ Some k → (n ≡ k) × (n < m)
+    go true e h = (same_Some n k h, ltb-true n m e)
+    go false e h = absurd (none-some k h)
+
+pub none_of : (n m : ℕ) → cond (nat_lt n m) (Some n) None ≡ None → m ≤ n
+none_of n m h = go (nat_lt n m) refl h
+  where
+    go : (b : Bool) → nat_lt n m ≡ b → cond b (Some n) None ≡ None → m ≤ n
+    go true e h = absurd (none-some n (sym h))
+    go false e h = let more = ltb-false n m e in omega (arith, more)
+
+pub at_position : {X : Type 0} (test : X → Bool) (xs : List X) (i : ℕ) (d : X) → position test xs ≡ Some i
+    → (i < length xs) × (test (get_or xs i d) ≡ true)
+at_position test xs i d h =
+    let first = first_of (position_or_len test xs) (length xs) i h in (
+      subst (λ n. n < length xs) first.0 first.1,
+      subst (λ n. test (get_or xs n d) ≡ true) first.0 (passes_at_first test xs d first.1),
+    )
+
+pub not_there : {X : Type 0} (test : X → Bool) (xs : List X) (k : ℕ) (d : X) → position test xs ≡ None
+    → k < length xs → test (get_or xs k d) ≡ false
+not_there test xs k d h less =
+    let none = none_of (position_or_len test xs) (length xs) h in
+    fails_before_first test xs k d (omega (arith, none, less))
+
+-- Words.
+
+abbrev word : {Z : Type 0} → String Z → List ℕ
+word t = chars (string_bytes t)
+
+pub position-words : {Z : Type 0} (text : List ℕ) → IsUtf8 text → (ts : List (String Z))
+    → position (λ k. bytes_eq text (string_bytes k)) ts ≡ position (λ w. same_word w (chars text)) (map word ts)
+position-words {Z} text u ts = ap₂ (λ n m. cond (nat_lt n m) (Some n) None) (go ts) (lengths ts)
+  where
+    lengths : (ts : List (String Z)) → length ts ≡ length (map word ts)
+    lengths [] = refl
+    lengths (t ∷ ts) = ap suc (lengths ts)
+
+    go : (ts : List (String Z)) → position_or_len (λ k. bytes_eq text (string_bytes k)) ts
+        ≡ position_or_len (λ w. same_word w (chars text)) (map word ts)
+    go [] = refl
+    go (t ∷ ts) =
+        ap₂ (λ b n. cond (not b) (1 + n) 0)
+        (sym (same_word-named (string_bytes t) text (chars text) _ (IsUtf8-string_bytes t) u refl refl))
+        (go ts)
+
+-- Steps.
+
+false_true : false ≡ true → ⊥
+false_true h = absurd (cc)
+
+abbrev pub pair : ℕ → ℕ → ℕ × ℕ
+pair m n = (m, n)
+
+pub same_step : (a b : ℕ × ℕ) → (nat_eq a.0 b.0 && nat_eq a.1 b.1) ≡ true → a ≡ b
+same_step (m, n) (k, l) h = go (nat_eq m k) refl h
+  where
+    go : (b : Bool) → nat_eq m k ≡ b → (b && nat_eq n l) ≡ true → pair m n ≡ pair k l
+    go true e h = ap₂ pair (eqb-true m k e) (eqb-true n l h)
+    go false e h = absurd (false_true h)
+
+pub step-same : (a : ℕ × ℕ) → (nat_eq a.0 a.0 && nat_eq a.1 a.1) ≡ true
+step-same (m, n) = rw (eq-eqb m m refl, eq-eqb n n refl) refl
+
+-- Tables.
+
+snoc-not-nil : {A : Type 0} (xs : List A) (x : A) → [] ≡ xs ++ x ∷ [] → ⊥
+snoc-not-nil [] x h = absurd (cc)
+snoc-not-nil (y ∷ xs) x h = absurd (cc)
+
+snoc-same : {A : Type 0} (xs ys : List A) (x y : A) → xs ++ x ∷ [] ≡ ys ++ y ∷ [] → (xs ≡ ys) × (x ≡ y)
+snoc-same [] [] x y h = (refl, cc)
+snoc-same [] (z ∷ ys) x y h = absurd (snoc-not-nil ys y (cc))
+snoc-same (z ∷ xs) [] x y h = absurd (snoc-not-nil xs x (cc))
+snoc-same (z ∷ xs) (w ∷ ys) x y h =
+    let rest = snoc-same xs ys x y (cc) in
+    let first : z ≡ w = cc in
+    (ap₂ (λ a rs. a ∷ rs) first rest.0, rest.1)
+
+module _ (words : List (List ℕ)) (steps : List (ℕ × ℕ)) (ps : List Pointer) (table : IsTable words steps ps) where
+  -- a pointer that isn't the root was made by a step
+  by_step : (m : ℕ) (p : Pointer) (t : List ℕ) → m < length ps → get_or ps m [] ≡ p ++ t ∷ []
+      → (i : ℕ) × (m ≡ suc i) × (i < length steps) × (get_or ps (get_or steps i (0, 0)).0 [] ≡ p)
+      × (get_or words (get_or steps i (0, 0)).1 [] ≡ t)
+  by_step zero p t less h = absurd (snoc-not-nil p t (sym table.root ∙ h))
+  by_step (suc i) p t less h =
+      let counted = table.counted in
+      let within : i < length steps = omega (arith, less, counted) in
+      let step = table.made i within in
+      let same = snoc-same _ _ _ _ (sym step.makes ∙ h) in
+      (i, refl, within, same.0, same.1)
+
+  -- what leads to a pointer is there
+  closed : (q p : Pointer) (m : ℕ) → m < length ps → get_or ps m [] ≡ p ++ q
+      → (k : ℕ) × (k < length ps) × (get_or ps k [] ≡ p)
+  closed [] p m less h = (m, less, h ∙ append-nil p)
+  closed (t ∷ q) p m less h =
+      let longer = closed q (p ++ t ∷ []) m less (h ∙ sym (append_assoc p (t ∷ []) q)) in
+      let step = by_step longer.0 p t longer.1 longer.2 in
+      let counted = table.counted in
+      let l = step.2 in
+      let e = (table.made step.0 l).earlier in
+      (_, omega (arith, counted, l, e), step.3)
+
+  pub below-found : (n k i : ℕ) (p : Pointer) (t : List ℕ) → n < length ps → get_or ps n [] ≡ p
+      → position (λ w. same_word w t) words ≡ Some k
+      → position (λ s. nat_eq n s.0 && nat_eq k s.1) steps ≡ Some i
+      → (i + 1 < length ps) × (get_or ps (i + 1) [] ≡ p ++ t ∷ [])
+  below-found n k i p t less is known made =
+      let word = at_position (λ w. same_word w t) words k [] known in
+      let found = at_position (λ s. nat_eq n s.0 && nat_eq k s.1) steps i (0, 0) made in
+      let same = same_step (n, k) (get_or steps i (0, 0)) found.1 in
+      let counted = table.counted in
+      let within = found.0 in
+      let step = table.made i within in (
+        omega (arith, counted, within),
+        ap (λ j. get_or ps j []) (add-one i) ∙ step.makes
+            ∙ ap₂ (λ a b. a ++ b ∷ [])
+            (ap (λ s. get_or ps s.0 []) (sym same) ∙ is)
+            (ap (λ s. get_or words s.1 []) (sym same) ∙ same_word-eq _ t word.1),
+      )
+
+  -- what goes on from a pointer does so by a step, and by a word
+  goes_on : (n : ℕ) (p : Pointer) (t : List ℕ) (m : ℕ) (q : Pointer) → n < length ps → get_or ps n [] ≡ p
+      → m < length ps → get_or ps m [] ≡ (p ++ t ∷ []) ++ q
+      → (i : ℕ) × (i < length steps) × (n ≡ (get_or steps i (0, 0)).0) × (get_or words (get_or steps i (0, 0)).1 [] ≡ t)
+  goes_on n p t m q less is within h =
+      let longer = closed q (p ++ t ∷ []) m within h in
+      let step = by_step longer.0 p t longer.1 longer.2 in
+      let counted = table.counted in
+      let l = step.2 in
+      let e = (table.made step.0 l).earlier in
+      (step.0, l, table.distinct n _ less (omega (arith, counted, l, e)) (is ∙ sym step.3), step.4)
+
+  pub below-unknown : (n : ℕ) (p : Pointer) (t : List ℕ) → n < length ps → get_or ps n [] ≡ p
+      → position (λ w. same_word w t) words ≡ None
+      → (m : ℕ) (q : Pointer) → m < length ps → get_or ps m [] ≡ (p ++ t ∷ []) ++ q → ⊥
+  below-unknown n p t less is unknown m q within h =
+      let on = goes_on n p t m q less is within h in
+      let no = not_there (λ w. same_word w t) words (get_or steps on.0 (0, 0)).1 [] unknown
+      (table.made on.0 on.1).known in
+      false_true (sym no ∙ ap (λ w. same_word w t) on.3 ∙ same_word-refl t)
+
+  pub step-missing : (n k : ℕ) (p : Pointer) (t : List ℕ) → n < length ps → get_or ps n [] ≡ p
+      → k < length words → get_or words k [] ≡ t
+      → position (λ s. nat_eq n s.0 && nat_eq k s.1) steps ≡ None
+      → (m : ℕ) (q : Pointer) → m < length ps → get_or ps m [] ≡ (p ++ t ∷ []) ++ q → ⊥
+  step-missing n k p t less is known text missing m q within h =
+      let on = goes_on n p t m q less is within h in
+      let s = get_or steps on.0 (0, 0) in
+      let same = table.words_distinct k s.1 known (table.made on.0 on.1).known (text ∙ sym on.3) in
+      let no = not_there (λ s. nat_eq n s.0 && nat_eq k s.1) steps on.0 (0, 0) missing on.1 in
+      false_true (sym no ∙ ap₂ (λ a b. nat_eq n a && nat_eq k b) (sym on.2) (sym same) ∙ step-same (n, k))
+
+  pub below-missing : (n k : ℕ) (p : Pointer) (t : List ℕ) → n < length ps → get_or ps n [] ≡ p
+      → position (λ w. same_word w t) words ≡ Some k
+      → position (λ s. nat_eq n s.0 && nat_eq k s.1) steps ≡ None
+      → (m : ℕ) (q : Pointer) → m < length ps → get_or ps m [] ≡ (p ++ t ∷ []) ++ q → ⊥
+  below-missing n k p t less is known =
+      let word = at_position (λ w. same_word w t) words k [] known in
+      step-missing n k p t less is word.0 (same_word-eq _ t word.1)

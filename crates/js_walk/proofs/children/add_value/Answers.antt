@@ -1,0 +1,15 @@
+use Rattle.std.proofs.Common.{[], ◌∷◌, ◌++◌, get_or, ap, ◌∙◌}
+use Rattle.js_walk.specs.PointersView.{pointers_of}
+use Rattle.js_walk.proofs.ChildrenLemmas.{one_place, one-added, on_ok}
+use Rattle.js_walk.proofs.children.add_value.Goals as goal
+
+pub returns : goal.returns
+returns c =
+    let old = pointers_of c.args.pointers.now in
+    let new = pointers_of c.add.new.self in
+    let number = c.in_ok-pointer.ensures.number in
+    let at = number.1 ∙ ap (λ w. get_or old c.args.at [] ++ w ∷ []) (c.as_text.ensures.text ∙ c.name.ensures.view) in
+    on_ok c.add_itself.result
+    (λ h. one-added old new c.args.found.now.items c.add_itself.new.found.items _ _ c.in_ok-pointer.ensures.grows
+    c.requires.found (one_place at c.value.ensures.view) (h new number.0))
+    c.add_itself.ensures

@@ -1,0 +1,13 @@
+use Rattle.std.proofs.Common.{◌≡◌, ◌<◌, [], ◌++◌, map, reverse, length, chars, get_or}
+use Rattle.js_walk.specs.PointersView.{pointers_of}
+use Rattle.js_walk.proofs.pointers.Pointers.tokens_up.Given as goal
+
+abbrev pub invariant-loop-at : goal.invariant-loop-at
+invariant-loop-at l = record {
+  within : l.at < length (pointers_of l.fn.self);
+  rest : get_or (pointers_of l.fn.self) l.at [] ++ reverse (map (λ t. chars t.now) l.tokens.items)
+      ≡ get_or (pointers_of l.fn.self) l.fn.number [];
+}
+
+abbrev pub decreases-loop-at : goal.decreases-loop-at
+decreases-loop-at l = l.at
