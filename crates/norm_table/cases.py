@@ -275,4 +275,5 @@ def main():
         texts.writelines('\n'.join(Table(schema).lines()) + '\n' for schema in CASES)
 
 
-main()
+if __name__ == '__main__':
+    main()

@@ -5,7 +5,7 @@ use Rattle.goals.specs.Signed.{Signed}
 use Rattle.certificates.specs.Line.{Line, At}
 use Rattle.js_algebra.specs.declared.node.JsonKind.{JsonKind}
 use Rattle.js_algebra.specs.View.{kind_view}
-use Rattle.js_trees.specs.Outcomes.{Outcome, Over, Closed, tree_of}
+use Rattle.js_decide.specs.Outcomes.{Outcome, Over, Closed, tree_of}
 use Rattle.js_decide.proofs.KnownSoFar.{KnownOf, known-over, known-closed}
 
 -- the kind at an index is the first of those that are left

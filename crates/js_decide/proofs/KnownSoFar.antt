@@ -7,7 +7,7 @@ use Rattle.goals.specs.Signed.{Signed}
 use Rattle.goals.specs.Tree.{Step, steps, branches, first}
 use Rattle.certificates.specs.Line.{Line, At, End}
 use Rattle.certificates.specs.TreeLines.{line_of, tree_lines, written}
-use Rattle.js_trees.specs.Outcomes.{Over, Open, Closed, by_branches, tree_of}
+use Rattle.js_decide.specs.Outcomes.{Over, Open, Closed, by_branches, tree_of}
 use Rattle.js_decide.specs.Heading.{heading}
 use Rattle.js_decide.specs.Verdict.{Document, Limit, Certificate, is_over, is_open, is_some_branch, of_kinds, of_goal}
 

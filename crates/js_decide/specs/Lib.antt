@@ -2,5 +2,7 @@
 -- for.
 pub mod Verdict
 pub mod View
--- Used inside: how a certificate begins.
+-- Used inside: how a certificate begins, and what is told of a tree.
 pub mod Heading
+pub mod Outcomes
+pub mod SoFar

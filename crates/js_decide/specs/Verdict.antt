@@ -9,7 +9,7 @@ use Rattle.goals.specs.Goal.{form}
 use Rattle.goals.specs.Tree.{steps, ends, branches, first}
 use Rattle.certificates.specs.Line.{Line}
 use Rattle.certificates.specs.TreeLines.{written}
-use Rattle.js_trees.specs.Outcomes.{most_ends}
+use Rattle.js_tableau.specs.Branches.{most_ends}
 
 pub data Verdict : Type 0 where
   -- a document of this kind settles the question, whichever it is

@@ -10,10 +10,10 @@ ghost use Rattle.js_decide.specs.Verdict.{verdict, of_goal};
 ghost use Rattle.js_decide.specs.Heading.{heading};
 ghost use Rattle.js_decide.specs.View.{verdict_view};
 
+use crate::told::{Outcome, tell_tree};
 use js_algebra::{Core, Goal, JsonKind, Pos, Signed, SignedList, form};
 use js_cert::{Cert, CertLine, CertLines, Version};
 use js_doc::Memory;
-use js_trees::{Tree, tree};
 use std::alloc::Global;
 
 /// What is known of two positions.
@@ -61,10 +61,10 @@ fn of_goal(alloc: Global, core: &Core, goal: Goal) -> Result<Verdict, Memory>
     let mut lines = first_lines(alloc, &goal)?;
     let mut is_over = false;
     for kind in KINDS {
-        match tree(alloc, core, &goal, kind)? {
-            Tree::Open => return Ok(Verdict::Document(kind)),
-            Tree::Over => is_over = true,
-            Tree::Closed(tree) => append_tree(&mut lines, kind, tree)?,
+        match tell_tree(alloc, core, &goal, kind)? {
+            Outcome::Open => return Ok(Verdict::Document(kind)),
+            Outcome::Over => is_over = true,
+            Outcome::Closed(tree) => append_tree(&mut lines, kind, tree)?,
         }
     }
     if is_over {

@@ -1,5 +1,5 @@
 -- What holds by the truths of a word's atoms holds of the word.
-use Rattle.std.proofs.Common.{◌≡◌, ℕ, zero, suc, List, [], ◌∷◌, ◌++◌, flat_map, length, Bool, true, false, not, ◌&&◌, ◌||◌, nat_eq, nat_le, ◌<◌, ◌≤◌, ◌⊎◌, inl, inr, refl, ap, ap₂, sym, ◌∙◌, arith}
+use Rattle.std.proofs.Common.{◌≡◌, ℕ, zero, suc, List, [], ◌∷◌, ◌++◌, flat_map, length, Bool, true, false, not, ◌&&◌, ◌||◌, nat_eq, nat_le, ◌<◌, ◌≤◌, ◌⊎◌, if◌then◌else◌, eqb-true, inl, inr, refl, ap, ap₂, sym, ◌∙◌, arith}
 use Rattle.std.proofs.lemmas.Bool.Decides.{leb_tells}
 use Rattle.std.specs.List.{AllByRecursion, list_any}
 use Rattle.std.specs.Cmp.Lexicographic.{pointwise}
@@ -49,6 +49,16 @@ not_longer n l = go (leb_tells (suc n) l) (leb_tells l n) where
   go (inr (e, a)) (inl (f, b)) = ap not e ∙ sym f
   go (inr (e, a)) (inr (f, b)) = absurd (omega (arith, a, b))
 
+-- no characters at least are in every word, and more of them are an atom
+least : (truth : Atom → Bool) (w : List ℕ) (n : ℕ) (b : Bool) → nat_eq n 0 ≡ b
+    → AreTrue truth w (if b then [] else W.LengthMin n ∷ []) → (b || truth (W.LengthMin n)) ≡ nat_le n (length w)
+least truth w n true e t = go (leb_tells n (length w)) where
+  go : ((nat_le n (length w) ≡ true) × (n ≤ length w)) ⊎ ((nat_le n (length w) ≡ false) × (length w < n))
+      → true ≡ nat_le n (length w)
+  go (inl (f, a)) = sym f
+  go (inr (f, a)) = absurd (omega (arith, a, eqb-true n 0 e))
+least truth w n false e t = t.0
+
 -- at a string a position asks the same, where its atoms have the word's truths
 asks-name : (truth : Atom → Bool) (w : List ℕ) (here here' : ℕ → Bool) (below : ℕ → Document → Bool) (P : Position)
     → AreTrue truth w (own_atoms P) → AllByRecursion (λ q. here q ≡ here' q) (asked_of_string P)
@@ -64,7 +74,7 @@ asks-name truth w here here' below (Depends p q) t h = refl
 asks-name truth w here here' below (Types ts) t h = refl
 asks-name truth w here here' below (Words ws) t h = t.0 ∙ listed-same w ws
 asks-name truth w here here' below (Match r) t h = t.0
-asks-name truth w here here' below (LengthMin n) t h = t.0
+asks-name truth w here here' below (LengthMin n) t h = least truth w n (nat_eq n 0) refl t
 asks-name truth w here here' below (LengthMax n) t h = ap not t.0 ∙ not_longer n (length w)
 asks-name truth w here here' below (BoolIs b) t h = refl
 asks-name truth w here here' below (NumMin n) t h = refl

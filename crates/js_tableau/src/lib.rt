@@ -1,13 +1,33 @@
-//! Whether a position of a core table holds of a member's name, from the truths of the atoms of which it is made.
+//! Trees of goals at a kind of document, and positions at names.
 //!
-//! A name is a string, and what a position asks of one comes down to patterns, lists of words and lengths. So where it
-//! is known which of these are true of a name, the name itself isn't needed. No memory is taken.
+//! [`Tree`] tells the steps of a goal's tree one after another, [`branches`] lists its saturated ends, and [`next_step`]
+//! is the step at any set. A walk keeps one set, which grows along a path and goes back, and an ordered set of its
+//! members that may still need a choice; so a step costs the members that it adds, each with a look-up in order, and not
+//! the set. Sets still to be visited stand in a list and share what they have in common. `js_decide` calls `Tree`.
+//!
+//! [`name_truth`] says whether a position holds of a member's name, from the truths of the atoms of which it is made. It
+//! takes no memory.
 #![tactic(auto)]
 
+mod branch_list;
+mod fault;
+mod members;
 mod names;
+mod rising;
+mod set_step;
+mod step;
 #[cfg(test)]
 mod tests;
+mod trail;
 mod truths;
+mod visits;
+mod waiting;
+mod walk;
 
+pub use branch_list::{Branch, BranchList, branches};
+pub use fault::TableauFault;
 pub use names::name_truth;
+pub use set_step::{TableauStep, next_step};
 pub use truths::Truths;
+pub use visits::{MOST_ENDS, Tree};
+pub use walk::Step;

@@ -62,7 +62,7 @@ fn is_met<S: Truths>(core: &Core, steps: u32, node: &Node, truths: &S) -> bool
         Node::Types(kinds) => has_text(kinds),
         Node::Words(words) => truths.listed(words),
         Node::Match(pattern) => truths.matches(&pattern.re),
-        Node::LengthMin(n) => truths.long(u128::from(*n)),
+        Node::LengthMin(n) => *n == 0 || truths.long(u128::from(*n)),
         Node::LengthMax(n) => !truths.long(u128::from(*n) + 1),
         // what is asked of other kinds
         _ => true,

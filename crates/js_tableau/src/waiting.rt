@@ -1,0 +1,70 @@
+//! Signed positions that may still need a choice, the least first.
+
+ghost use Rattle.std.specs.Prelude.{◌≡◌, List, [], ◌∷◌, IfOk, OnOk, MatchOption, true};
+ghost use Rattle.documents.specs.Tests.{every};
+ghost use Rattle.goals.specs.Signed.{add, comes_before};
+ghost use Rattle.js_algebra.specs.View.{signed_view};
+
+use js_algebra::{Pos, Signed};
+use js_doc::Memory;
+use std::alloc::Global;
+use std::collections::BTreeSet;
+use std::marker::Model;
+
+/// A set of signed positions, seen as a rising list.
+#[derive(Drop)]
+pub struct Waiting {
+    numbers: BTreeSet<u64>,
+}
+
+impl Model for Waiting {
+    ghost use Rattle.std.specs.Prelude.{◌≡◌, List, map, true};
+    ghost use Rattle.goals.specs.Signed.{Signed};
+    ghost use Rattle.js_tableau.specs.Numbers.{signed_at, are_numbers};
+
+    ghost Value = { List Signed };
+
+    ghost view = { λ w. map signed_at w.numbers.keys };
+
+    ghost invariant = { λ w. are_numbers w.numbers.keys ≡ true };
+}
+
+impl Waiting {
+    pub fn new(alloc: Global) -> Waiting
+        ensures { result ≡ [] }
+    {
+        Waiting {
+            numbers: BTreeSet::new(alloc),
+        }
+    }
+
+    pub fn add(&mut self, x: Signed) -> Result<(), Memory>
+        ensures { OnOk result (self.new ≡ add (signed_view x) self.old) }
+    {
+        self.numbers.insert(x.order())?;
+        Ok(())
+    }
+
+    /// Takes the least out.
+    pub fn pop(&mut self) -> Option<Signed>
+        ensures { MatchOption result (self.old ≡ [])
+            (λ x. (self.old ≡ signed_view x ∷ self.new) × (every (comes_before (signed_view x)) self.new ≡ true)) }
+    {
+        let number = self.numbers.pop_first()?;
+        Some(with_number(number))
+    }
+}
+
+ghost use Rattle.std.specs.Prelude.{◌<◌, ◌^◌};
+ghost use Rattle.js_tableau.specs.Numbers.{signed_at};
+
+/// The signed position of that number in the order of all.
+fn with_number(number: u64) -> Signed
+    requires { number < 2 ^ 33 }
+    ensures { signed_view result ≡ signed_at number }
+{
+    Signed {
+        pos: Pos((number / 2) as u32),
+        plus: number % 2 == 0,
+    }
+}

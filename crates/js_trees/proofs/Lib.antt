@@ -1,9 +1,0 @@
-pub mod Kept
-pub mod Indexed
-pub mod Covering
-pub mod Settling
-pub mod Nexts
-pub mod Unfolded
-pub mod Telling
-pub mod Remaining
-pub mod Having
