@@ -1,8 +1,7 @@
 -- Which characters sets tell apart.
-use Rattle.std.proofs.Common.{◌≡◌, ℕ, zero, suc, ◌+◌, ◌-◌, ◌<◌, ◌≤◌, Bool, true, false, ◌&&◌, ◌||◌, not, nat_eq, if◌then◌else◌, List, [], ◌∷◌, ◌++◌, map, flat_map, Option, refl, sym, ◌∙◌, ap, ap₂, arith, append-nil, length, take, drop, get_or, add-one}
+use Rattle.std.proofs.Common.{◌≡◌, ℕ, zero, suc, ◌-◌, ◌<◌, ◌≤◌, Bool, true, false, ◌&&◌, ◌||◌, not, nat_eq, if◌then◌else◌, List, [], ◌∷◌, ◌++◌, map, flat_map, Option, refl, sym, ◌∙◌, ap, arith, append-nil, length, take, drop}
 use Rattle.std.proofs.lemmas.List.Folds.{list_any-append}
-use Rattle.std.proofs.Math.Seq.{drop-cons}
-use Rattle.std.proofs.lemmas.List.{get_or-map, get_or_default, length-map, length-drop, take_all, take-append-drop}
+use Rattle.std.proofs.lemmas.List.{length-drop, take_all, take-append-drop}
 use Rattle.std.specs.Bool.{beq}
 use Rattle.std.specs.List.{list_any}
 use Rattle.std.proofs.lemmas.Bool.Decides.{nat_tests}
@@ -10,20 +9,11 @@ use Rattle.std.proofs.lemmas.Bool.{eqb-true}
 use Rattle.patterns.specs.CharSet.{has}
 use Rattle.words.specs.Position.{times, copies}
 use Rattle.words.specs.Classes.{are_alike}
-use Rattle.words.specs.Classes.{divider_sets, dividers}
-use Rattle.words.specs.Atom.{LengthMin}
-use Rattle.js_nfa.specs.declared.atom.Atom.{Atom}
-use Rattle.js_nfa.specs.declared.atom.Atom.TheVariants as C
-use Rattle.js_nfa.specs.AtomView.{atom_view}
-use Rattle.js_automaton.specs.Letters.{is_letter, letters_of, AreLetters}
+use Rattle.js_automaton.specs.Letters.{is_letter}
 
 pub and_assoc : (a b c : Bool) → ((a && b) && c) ≡ (a && (b && c))
 and_assoc true b c = refl
 and_assoc false b c = refl
-
-and_twice : (a b : Bool) → (a && (a && b)) ≡ (a && b)
-and_twice true b = refl
-and_twice false b = refl
 
 pub alike-append : (s t : List (List (ℕ × ℕ))) (c d : ℕ) → are_alike (s ++ t) c d ≡ (are_alike s c d && are_alike t c d)
 alike-append [] t c d = refl
@@ -107,7 +97,8 @@ joined false false true s false f g = refl
 joined false false false s false f g = refl
 
 pub alike-letters : (ws : List (List ℕ)) (c d : ℕ)
-    → are_alike (flat_map (map (λ c. (c, c) ∷ [])) ws) c d ≡ (if is_letter ws c then nat_eq c d else not (is_letter ws d))
+    → are_alike (flat_map (map (λ c. (c, c) ∷ [])) ws) c d
+    ≡ (if is_letter ws c then nat_eq c d else not (is_letter ws d))
 alike-letters [] c d = refl
 alike-letters (w ∷ ws) c d =
     alike-append (singles w) (flat_map singles ws) c d
@@ -116,42 +107,7 @@ alike-letters (w ∷ ws) c d =
     ∙ joined (list_any (nat_eq c) w) (is_letter ws c) (list_any (nat_eq d) w) (is_letter ws d) (nat_eq c d)
     (λ h. same_number c d (λ x. list_any (nat_eq x) w) h) (λ h. same_number c d (is_letter ws) h)
 
--- ---- what is left of a class
-pub carry : (s after before a b : Bool) → (s && after) ≡ (s && (before && a))
-    → (s && (after && b)) ≡ (s && (before && (a && b)))
-carry true after before a b e = ap (λ x. x && b) e ∙ and_assoc before a b
-carry false after before a b e = refl
-
-pub like-next : (s t : List (List (ℕ × ℕ))) (c d : ℕ) (scalar after before : Bool) → (scalar && after) ≡ (scalar && (before && are_alike s c d))
-    → (scalar && (after && are_alike t c d)) ≡ (scalar && (before && are_alike (s ++ t) c d))
-like-next s t c d scalar after before e =
-    carry scalar after before (are_alike s c d) (are_alike t c d) e
-    ∙ sym (ap (λ x. scalar && (before && x)) (alike-append s t c d))
-
-pub dividers-drop : (atoms : List Atom) (i : ℕ) (x : Atom) → i < length atoms → x ≡ get_or atoms i x
-    → dividers (map atom_view (drop i atoms)) ≡ divider_sets (atom_view x) ++ dividers (map atom_view (drop (i + 1) atoms))
-dividers-drop atoms i x within is = rw (add-one, drop-cons atoms i x, ← is) refl
-
-pub dividers-none : (atoms : List Atom) (i : ℕ) → length atoms ≤ i → dividers (map atom_view (drop i atoms)) ≡ []
-dividers-none [] zero h = refl
-dividers-none [] (suc i) h = refl
-dividers-none (x ∷ atoms) zero h = absurd (omega (arith, h))
-dividers-none (x ∷ atoms) (suc i) h = dividers-none atoms i (omega (arith, h))
-
--- the set has what it is to have, of scalar values
-pub class-whole : (s h a all : Bool) → (s && (h && all)) ≡ (s && a) → all ≡ true → (s && (h && s)) ≡ (s && a)
-class-whole true h a true e f = e
-class-whole true h a false e f = absurd (cc f)
-class-whole false h a all e f = refl
-
-pub letters-at : (atoms : List Atom) (sets : List (List (ℕ × ℕ))) (i : ℕ) (x : Atom) (s : List (ℕ × ℕ))
-    → AreLetters (map atom_view atoms) sets → i < length atoms → x ≡ get_or atoms i x → s ≡ get_or sets i s
-    → (d : ℕ) → has s d ≡ is_letter (letters_of (atom_view x)) d
-letters-at atoms sets i x s l within is at d =
-    ap (λ z. has z d) (at ∙ get_or_default sets i s [] (rw (l.0, length-map) within))
-    ∙ l.1 i (rw length-map within) d
-    ∙ ap (λ a. is_letter (letters_of a) d) (get_or-map atom_view atoms i x (LengthMin 0) within ∙ sym (ap atom_view is))
-
+-- ---- halves
 pub halves : {X : Type 0} (test : X → Bool) (k : ℕ) (xs : List X)
     → (list_any test (take k xs) || list_any test (take (length xs - k) (drop k xs))) ≡ list_any test xs
 halves test k xs =
@@ -159,12 +115,3 @@ halves test k xs =
     ∙ sym (list_any-append test (take k xs) (drop k xs)) ∙ ap (list_any test) (take-append-drop k xs) where
       within : {X : Type 0} (k : ℕ) (xs : List X) → length (drop k xs) ≤ length xs - k
       within k xs = omega (arith, length-drop k xs)
-
-pub alike-words : (atom : Atom) (ws : List (List ℕ)) (letters : List (ℕ × ℕ)) (c d : ℕ) → atom ≡ C.Words ws
-    → ((e : ℕ) → has letters e ≡ is_letter (letters_of (atom_view atom)) e)
-    → (if has letters c then nat_eq c d else not (has letters d)) ≡ are_alike (divider_sets (atom_view atom)) c d
-alike-words atom ws letters c d is h =
-    ap₂ (λ x y. if x then nat_eq c d else not y) (h c) (h d)
-    ∙ ap (λ a. if is_letter (letters_of (atom_view a)) c then nat_eq c d else not (is_letter (letters_of (atom_view a)) d)) is
-    ∙ sym (alike-letters ws c d)
-    ∙ sym (ap (λ a. are_alike (divider_sets (atom_view a)) c d) is)

@@ -1,8 +1,8 @@
 -- The letters of lists of words, as sets.
-use Rattle.std.specs.Prelude.{◌≡◌, ◌<◌, ℕ, List, [], Bool, nat_eq, length, get_or}
+use Rattle.std.specs.Prelude.{ℕ, List, [], Bool, nat_eq}
 use Rattle.std.specs.List.{list_any}
-use Rattle.patterns.specs.CharSet.{has}
 use Rattle.words.specs.Atom.{Atom, Match, Words, LengthMin}
+use Rattle.words.specs.Position.{sets_of}
 
 -- the character stands in one of the words
 abbrev pub is_letter : List (List ℕ) → ℕ → Bool
@@ -13,9 +13,8 @@ letters_of (Match t) = []
 letters_of (Words ws) = ws
 letters_of (LengthMin n) = []
 
--- for each atom the set of the letters of its words
-abbrev pub AreLetters : List Atom → List (List (ℕ × ℕ)) → Type 0
-AreLetters atoms sets =
-    (length sets ≡ length atoms)
-    × ((i : ℕ) → i < length atoms → (c : ℕ)
-    → has (get_or sets i []) c ≡ is_letter (letters_of (get_or atoms i (LengthMin 0))) c)
+-- the sets of the positions of a pattern
+abbrev pub tree_sets : Atom → List (List (ℕ × ℕ))
+tree_sets (Match t) = sets_of t
+tree_sets (Words ws) = []
+tree_sets (LengthMin n) = []

@@ -33,7 +33,7 @@ impl Model for WordList {
 }
 
 /// Which words of a list a word begins, by their places, and how long it is where there are any.
-#[derive(Drop)]
+#[derive(PartialEq, Eq, Hash, Drop)]
 pub(crate) struct Begun {
     words: Vec<usize>,
     length: usize,
@@ -122,16 +122,5 @@ impl WordList {
             Some(word) => word.characters.len(),
             None => 0,
         }
-    }
-}
-
-impl Begun {
-    ghost use Rattle.std.specs.Prelude.{◌≡◌, ◌↔◌, IsTrue};
-
-    pub(crate) fn same(&self, other: &Begun) -> bool
-        ensures { IsTrue result
-            ↔ ((self.now.words.items ≡ other.now.words.items) × (self.now.length ≡ other.now.length)) }
-    {
-        self.words == other.words && self.length == other.length
     }
 }

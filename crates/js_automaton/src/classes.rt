@@ -1,15 +1,15 @@
 //! Classes of characters: those that no atom tells apart.
 //!
 //! A class is found from its first character, which is the first that lies in none before. So classes come in the order
-//! of their first characters. It costs a few operations on sets for each class and each set of an atom's pattern.
+//! of their first characters. A class is made of the pieces that have one number, and costs a look at each piece.
 
 ghost use Rattle.std.specs.Prelude.{◌≡◌, ◌<◌, ◌≤◌, ◌⊎◌, length, map, IfOk, OnOk, IfErr};
 ghost use Rattle.words.specs.Classes.{dividers, class_firsts, class_count};
 ghost use Rattle.js_nfa.specs.AtomView.{atom_view};
-ghost use Rattle.js_automaton.specs.Letters.{AreLetters};
 ghost use Rattle.js_automaton.specs.ClassView.{AreClasses, first_of};
 
-use crate::alike::{class_of, everything, meet};
+use crate::alike::{everything, find_pieces, meet};
+use crate::class_set::class_of;
 use crate::fault::AutoFault;
 use js_nfa::Atom;
 use js_pattern::CharSet;
@@ -26,12 +26,7 @@ pub(crate) struct Class {
 }
 
 /// The classes of characters, unless there are more than 1,024.
-pub(crate) fn classes(
-    alloc: Global,
-    atoms: &[Atom],
-    letters: &[CharSet],
-) -> Result<Vec<Class>, AutoFault>
-    requires { AreLetters (map atom_view atoms.now) letters.now }
+pub(crate) fn classes(alloc: Global, atoms: &[Atom]) -> Result<Vec<Class>, AutoFault>
     ensures firsts { IfOk result (λ cs. map first_of cs.items ≡ class_firsts (map atom_view atoms.now)) }
     ensures classes { IfOk result (λ cs. AreClasses (dividers (map atom_view atoms.now)) cs.items) }
     ensures few { IfOk result (λ cs. length cs.items ≤ 1024) }
@@ -40,13 +35,14 @@ pub(crate) fn classes(
         → 1024 < class_count (map atom_view atoms.now)) }
     ensures only { IfErr result (λ fault. (fault ≡ AutoFault.LimitClasses) ⊎ (fault ≡ AutoFault.Memory)) }
 {
+    let pieces = find_pieces(alloc, atoms)?;
     let mut classes = Vec::new(alloc);
     let mut left = everything(alloc)?;
     while let Some(first) = left.first() {
         if classes.len() == MOST {
             return Err(AutoFault::LimitClasses);
         }
-        let set = class_of(alloc, atoms, letters, first)?;
+        let set = class_of(alloc, &pieces.starts, &pieces.numbers, first)?;
         left = meet(&left, &set.complement()?)?;
         classes.push(Class { set, first })?;
     }

@@ -13,6 +13,9 @@ pub enum AutoFault {
     /// There are more than 1,024 classes of characters.
     #[error("more than 1024 classes of characters")]
     LimitClasses,
+    /// Words reach more than 65,536 states.
+    #[error("more than 65536 states")]
+    LimitStates,
     /// Memory was asked for and refused.
     #[error("out of memory")]
     Memory,

@@ -1,4 +1,4 @@
-//! The letters of lists of words, as sets.
+//! The letters of lists of words, as a set.
 //!
 //! A set is made of its halves, so n letters cost about n log n steps a level.
 
@@ -6,22 +6,27 @@ ghost use Rattle.std.specs.Prelude.{◌≡◌, ◌<◌, ℕ, map, chars, nat_eq,
 ghost use Rattle.std.specs.List.{list_any};
 ghost use Rattle.patterns.specs.CharSet.{has};
 ghost use Rattle.js_nfa.specs.AtomView.{atom_view};
-ghost use Rattle.js_automaton.specs.Letters.{is_letter, letters_of, AreLetters};
+ghost use Rattle.js_automaton.specs.Letters.{is_letter, letters_of};
+ghost use Rattle.js_automaton.specs.ClassView.{are_letters};
 
 use js_doc::Str;
 use js_nfa::Atom;
 use js_pattern::{CharSet, Memory};
 use std::alloc::Global;
 
-/// For each atom the letters of its words; none where it has no words.
-pub(crate) fn letters(alloc: Global, atoms: &[Atom]) -> Result<Vec<CharSet>, Memory>
-    ensures { IfOk result (λ sets. AreLetters (map atom_view atoms.now) sets.items) }
+/// The letters of the words of all atoms.
+pub(crate) fn letters(alloc: Global, atoms: &[Atom]) -> Result<CharSet, Memory>
+    ensures { IfOk result (λ set. (c : ℕ) → has set c ≡ are_letters atoms.now c) }
 {
-    let mut sets = Vec::with_capacity(alloc, atoms.len())?;
-    for atom in atoms {
-        sets.push(letters_of(alloc, atom)?)?;
+    match atoms.len() {
+        0 => CharSet::from_slice(alloc, &[]),
+        1 => letters_of(alloc, &atoms[0]),
+        n => {
+            let left = letters(alloc, &atoms[..n / 2])?;
+            let right = letters(alloc, &atoms[n / 2..])?;
+            left.union(&right)
+        }
     }
-    Ok(sets)
 }
 
 fn letters_of(alloc: Global, atom: &Atom) -> Result<CharSet, Memory>
@@ -73,7 +78,7 @@ fn set_of(alloc: Global, characters: &[char]) -> Result<CharSet, Memory>
 }
 
 /// The set of one character.
-pub(crate) fn one(alloc: Global, c: char) -> Result<CharSet, Memory>
+fn one(alloc: Global, c: char) -> Result<CharSet, Memory>
     ensures { IfOk result (λ set. (d : ℕ) → has set d ≡ nat_eq d c) }
 {
     let code = c as u32;

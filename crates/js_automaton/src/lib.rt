@@ -1,19 +1,29 @@
-//! States of words for a list of atoms, and the classes of characters that the atoms don't tell apart.
+//! States of words for a list of atoms, the classes of characters that the atoms don't tell apart, and the rows: the
+//! states that words reach, numbered.
 //!
 //! `Tuples` goes from state to state by classes, so a state and a class give the next state, and a state gives the
-//! truth of every atom. The crates that number the states, and those that ask for words, stand on it.
+//! truth of every atom. `build` numbers the states in order of first mention, and its `Automaton` leads from row to row.
+//! The crates that ask for words stand on it.
 #![tactic(auto)]
 
 mod alike;
+mod automaton;
 mod begun;
+mod class_set;
 mod classes;
+mod dividers;
 mod fault;
 mod gather;
 mod letters;
+mod numbers;
 mod part;
+mod pieces;
+mod rows;
 mod state;
 mod tuples;
 
+pub use automaton::Automaton;
 pub use fault::AutoFault;
+pub use rows::build;
 pub use state::TupleState;
 pub use tuples::Tuples;

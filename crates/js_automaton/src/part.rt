@@ -1,10 +1,16 @@
 //! What is kept of a word for one atom.
 
+ghost use Rattle.std.specs.Prelude.{◌≡◌};
+ghost use Rattle.std.specs.Cmp.{on_equiv, on_per, partial_equiv_from_equiv};
+ghost use Rattle.js_automaton.specs.Keys.{kept_of, same_kept, fed_kept};
+ghost use Rattle.js_automaton.specs.KeyLaws.{same_kept-equivalence, fed_kept-same};
+
 use crate::begun::{Begun, WordList};
 use crate::fault::AutoFault;
 use js_doc::Memory;
 use js_nfa::{Atom, Nfa, PatternState, positions};
 use std::alloc::Global;
+use std::hash::{Hash, Hasher};
 
 /// An atom, as states go on by it.
 #[derive(Drop)]
@@ -14,7 +20,7 @@ pub(crate) enum Part {
     Length(u128),
 }
 
-/// What is kept of a word for an atom.
+/// What is kept of a word for an atom. It is compared and hashed by what is kept, and not by how it is stored.
 #[derive(Drop)]
 pub(crate) enum PartState {
     Matching(PatternState),
@@ -92,22 +98,41 @@ impl Part {
     }
 }
 
-impl PartState {
-    ghost use Rattle.std.specs.Prelude.{◌≡◌, ◌↔◌, ℕ, List, IsTrue};
-    ghost use Rattle.words.specs.Atom as words;
-    ghost use Rattle.words.specs.WordState.{atom_state};
-    ghost use Rattle.js_automaton.specs.Tuple.{IsPart};
+impl PartialEq for PartState {
+    ghost eq = { λ x y. same_kept (kept_of x) (kept_of y) };
 
-    /// Whether the same is kept of two words.
-    pub(crate) fn same(&self, other: &PartState) -> bool
-        ensures { (a : words.Atom) (v w : List ℕ) → IsPart a self.now v → IsPart a other.now w
-            → (IsTrue result ↔ (atom_state v a ≡ atom_state w a)) }
-    {
-        match (self, other) {
-            (PartState::Matching(x), PartState::Matching(y)) => x.same(y),
-            (PartState::Beginning(x), PartState::Beginning(y)) => x.same(y),
-            (PartState::Counting, PartState::Counting) => true,
-            _ => false,
+    ghost laws = { on_per kept_of (partial_equiv_from_equiv same_kept-equivalence) };
+
+    fn eq(&self, other: &PartState) -> bool {
+        is_same(self, other)
+    }
+}
+
+impl Eq for PartState {
+    ghost laws = { on_equiv kept_of same_kept-equivalence };
+}
+
+impl Hash for PartState {
+    ghost hash_input = { λ s. fed_kept (kept_of s) };
+
+    ghost respects_eq = { fed_kept-same };
+
+    fn hash<H: Hasher>(&self, state: &mut H) {
+        match self {
+            PartState::Matching(kept) => kept.hash(state),
+            PartState::Beginning(begun) => begun.hash(state),
+            PartState::Counting => {}
         }
+    }
+}
+
+fn is_same(x: &PartState, y: &PartState) -> bool
+    ensures { result ≡ same_kept (kept_of x.now) (kept_of y.now) }
+{
+    match (x, y) {
+        (PartState::Matching(kept), PartState::Matching(other)) => kept == other,
+        (PartState::Beginning(begun), PartState::Beginning(other)) => begun == other,
+        (PartState::Counting, PartState::Counting) => true,
+        _ => false,
     }
 }

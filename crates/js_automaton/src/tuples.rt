@@ -9,7 +9,6 @@ ghost use Rattle.js_automaton.specs.ClassView.{AreClasses, first_of};
 use crate::classes::{Class, classes};
 use crate::fault::AutoFault;
 use crate::gather::{PAST, count_all, longer, longest, parts_of};
-use crate::letters::letters;
 use crate::part::Part;
 use crate::state::TupleState;
 use js_doc::Memory;
@@ -30,7 +29,7 @@ pub struct Tuples {
 }
 
 impl Tuples {
-    ghost use Rattle.std.specs.Prelude.{◌<◌, [], ◌∷◌, ◌++◌, ℕ, List, true, get_or, IfOk, IfErr, OnOk, IsTrue, ◌↔◌};
+    ghost use Rattle.std.specs.Prelude.{◌<◌, ◌⊎◌, [], ◌∷◌, ◌++◌, ℕ, List, true, get_or, IfOk, IfErr, OnOk, IsTrue, ◌↔◌};
     ghost use Rattle.words.specs.WordState.{atom_state, word_state};
     ghost use Rattle.patterns.specs.CharSet.{has};
     ghost use Rattle.words.specs.Atom.{LengthMin, is_true};
@@ -48,12 +47,13 @@ impl Tuples {
             → 16384 < positions_of (map atom_view atoms.now)) }
         ensures limit_classes { IfErr result (λ fault. fault ≡ AutoFault.LimitClasses
             → (positions_of (map atom_view atoms.now) ≤ 16384) × (1024 < class_count (map atom_view atoms.now))) }
+        ensures only { IfErr result (λ fault. (fault ≡ AutoFault.LimitPositions) ⊎ (fault ≡ AutoFault.LimitClasses)
+            ⊎ (fault ≡ AutoFault.Memory)) }
     {
         if count_all(atoms) == PAST {
             return Err(AutoFault::LimitPositions);
         }
-        let letters = letters(alloc, atoms)?;
-        let classes = classes(alloc, atoms, &letters)?;
+        let classes = classes(alloc, atoms)?;
         let parts = parts_of(alloc, atoms)?;
         let longest = longest(atoms);
         Ok(Tuples {
@@ -130,20 +130,6 @@ impl Tuples {
         ensures { (v w : List ℕ) → IsStateOf (atoms_of self.now) x.now v → IsStateOf (atoms_of self.now) y.now w
             → (IsTrue result ↔ (word_state (atoms_of self.now) v ≡ word_state (atoms_of self.now) w)) }
     {
-        x.is_empty == y.is_empty && x.length == y.length && self.same_parts(x, y)
-    }
-
-    fn same_parts(&self, x: &TupleState, y: &TupleState) -> bool
-        requires first { (v : List ℕ) × IsStateOf (atoms_of self.now) x.now v }
-        requires second { (w : List ℕ) × IsStateOf (atoms_of self.now) y.now w }
-        ensures { (v w : List ℕ) → IsStateOf (atoms_of self.now) x.now v → IsStateOf (atoms_of self.now) y.now w
-            → (IsTrue result ↔ (map (atom_state v) (atoms_of self.now) ≡ map (atom_state w) (atoms_of self.now))) }
-    {
-        for (i, part) in x.parts.iter().enumerate() {
-            if !part.same(&y.parts[i]) {
-                return false;
-            }
-        }
-        true
+        x == y
     }
 }

@@ -1,15 +1,17 @@
 -- Flags of what reads the next character, appended one tree or one copy after another.
-use Rattle.std.proofs.Common.{◌≡◌, ℕ, zero, suc, ◌+◌, ◌-◌, ◌*◌, ◌<◌, ◌≤◌, Bool, false, ◌&&◌, ◌||◌, nat_eq, if◌then◌else◌, List, [], ◌∷◌, ◌++◌, length, get_or, Option, Some, None, refl, sym, ◌∙◌, ap, arith, length-append, append_assoc, append-nil, map}
+use Rattle.std.proofs.Common.{◌≡◌, ℕ, zero, suc, ◌+◌, ◌-◌, ◌*◌, ◌<◌, ◌≤◌, Bool, false, ◌&&◌, ◌||◌, nat_eq, if◌then◌else◌, List, [], ◌∷◌, ◌++◌, length, replicate, get_or, Option, Some, None, refl, sym, ◌∙◌, ap, arith, length-append, append_assoc, append-nil, map}
 use Rattle.std.proofs.Math.Bool.{or_assoc, or-false}
 use Rattle.std.specs.Option.{is_none}
+use Rattle.patterns.specs.CharSet.{has}
 use Rattle.patterns.specs.Tree.{Tree, Trees, empty, one_of, at_start, at_end, in_turn, either, repeated, no_trees, tree, trees_of}
 use Rattle.words.specs.Position.{count_of, count_in, copies}
 use Rattle.state_laws.specs.Flow.{ends_here, ends_here_in_turn, ends_here_of_one, next_copies, next_copies_on, reads_next, reads_next_in_turn, reads_next_of_one}
 use Rattle.js_pattern.specs.declared.re.Re.{Re}
 use Rattle.js_pattern.specs.View.{view}
-use Rattle.js_nfa.specs.Walk.{begins_with, next_after}
+use Rattle.js_nfa.specs.Walk.{Quiet, begins_with, next_after}
 use Rattle.js_nfa.proofs.Items.{rest, rest-tree, rest-none}
 use Rattle.js_nfa.proofs.Through.{reads_repeated, keeps, begins_once}
+use Rattle.js_nfa.proofs.Quiet.{ends-quiet, reads-quiet, reads_in_turn-quiet, next_after-quiet}
 use Rattle.js_nfa.proofs.EndsSteps.{one_less, nowhere}
 
 -- ---- one flag a position
@@ -74,6 +76,19 @@ module _ (first : Bool) (read : ℕ → Bool) (c : ℕ) where
   length-next t flags after base b e =
       ap length e ∙ length-append flags (reads_next t first read c base b)
       ∙ omega (arith, length-reads t base b)
+
+  -- ---- a set of characters
+  pub set-reads : (t : Tree) (ranges : List (ℕ × ℕ)) (flags after : List Bool) (begins within : Bool)
+      → t ≡ one_of ranges → within ≡ has ranges c → after ≡ flags ++ (begins && within) ∷ []
+      → after ≡ flags ++ reads_next t first read c (length flags) begins
+  set-reads t ranges flags after begins within is e f =
+      f ∙ ap (λ h. flags ++ (begins && h) ∷ []) e
+      ∙ sym (ap (λ s. flags ++ reads_next s first read c (length flags) begins) is)
+
+  pub set-ends : (t : Tree) (ranges : List (ℕ × ℕ)) (base at : ℕ) (begins one : Bool) → t ≡ one_of ranges
+      → at ≡ base → one ≡ read at → one ≡ ends_here t first false read base begins
+  set-ends t ranges base at begins one is a e =
+      e ∙ ap read a ∙ sym (ap (λ s. ends_here s first false read base begins) is)
 
   -- ---- a list of trees, one more gone through
   module _ (items : List Re) (start : List Bool) (begins : Bool) where
@@ -172,6 +187,20 @@ module _ (first : Bool) (read : ℕ → Bool) (c : ℕ) where
               ∙ sym (ap (λ ts. here || ends_here_of_one ts first false read (length flags) begins) none) ∙ ends),
         )
 
+    pub in_turn-within : (i : ℕ) (flags : List Bool) (here : Bool) → InTurn i flags here
+        → length flags ≤ length start + count_in (trees_of (map view items))
+    in_turn-within i flags here (count, reads, ends) = omega (arith, count)
+
+    pub in_turn-stopped : (i k : ℕ) (flags after : List Bool) (here : Bool) → here ≡ false
+        → Quiet read (length flags) → length flags + k ≡ length start + count_in (trees_of (map view items))
+        → after ≡ flags ++ replicate k false → InTurn i flags here
+        → after ≡ start ++ reads_next_in_turn (trees_of (map view items)) first read c (length start) begins
+    in_turn-stopped i k flags after here e q size f (count, reads, ends) =
+        f ∙ ap (λ n. flags ++ replicate n false) (omega (arith, size, count))
+        ∙ sym (ap (λ z. flags ++ z) (ap (reads_next_in_turn (rest items i) first read c (length flags)) e
+        ∙ reads_in_turn-quiet first read c (rest items i) (length flags) q))
+        ∙ reads
+
   -- ---- copies, one more gone through
   module _ (t : Tree) (low : ℕ) (high : Option ℕ) (start : List Bool) (begins : Bool) where
     abbrev pub Reads : ℕ → List Bool → Bool → Type 0
@@ -228,6 +257,17 @@ module _ (first : Bool) (read : ℕ → Bool) (c : ℕ) where
         ∙ ap (λ s. flags ++ (reads_next t first read c (length flags) s
         ++ Next (n - (i + 1)) (length flags + count_of t) (ends_here t first false read (length flags) here))) b
         ∙ sym (ap (λ k. flags ++ Next k (length flags) here) (one_less n i within))
+        ∙ reads
+
+    pub reads-stopped : (k m : ℕ) (flags after : List Bool) (here : Bool) → here ≡ false → Quiet read (length flags)
+        → m ≡ k * count_of t → after ≡ flags ++ replicate m false → Reads k flags here
+        → after ≡ start ++ reads_next (repeated t low high) first read c (length start) begins
+    reads-stopped k m flags after here e q size f reads =
+        f ∙ ap (λ n. flags ++ replicate n false) size
+        ∙ sym (ap (λ z. flags ++ z) (ap (Next k (length flags)) e
+        ∙ next_after-quiet read (λ at some. ends_here t first false read at some) (count_of t)
+        (ends-quiet first read false t) (is_none high) (λ at some. reads_next t first read c at some)
+        (reads-quiet first read c t) k (length flags) q))
         ∙ reads
 
     pub reads-last : (n i : ℕ) (flags : List Bool) (here : Bool) → n ≤ i → Reads (n - i) flags here

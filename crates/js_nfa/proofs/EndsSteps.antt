@@ -1,11 +1,12 @@
 -- The copies of a repeated tree, one more gone through.
-use Rattle.std.proofs.Common.{◌≡◌, ℕ, suc, ◌+◌, ◌-◌, ◌*◌, ◌<◌, ◌≤◌, Bool, ◌&&◌, ◌||◌, nat_eq, nat_le, if◌then◌else◌, Option, sym, ◌∙◌, ap, arith}
+use Rattle.std.proofs.Common.{◌≡◌, ℕ, suc, ◌+◌, ◌-◌, ◌*◌, ◌<◌, ◌≤◌, Bool, false, ◌&&◌, ◌||◌, nat_eq, nat_le, if◌then◌else◌, Option, sym, ◌∙◌, ap, arith}
 use Rattle.std.proofs.Math.Nat.{mul-le-mul_right}
 use Rattle.patterns.specs.Tree.{Tree, repeated}
 use Rattle.words.specs.Position.{count_of, copies}
 use Rattle.state_laws.specs.Flow.{ends_here}
-use Rattle.js_nfa.specs.Walk.{ends_after}
+use Rattle.js_nfa.specs.Walk.{Quiet, ends_after}
 use Rattle.js_nfa.proofs.Through.{ends_repeated, ends_still}
+use Rattle.js_nfa.proofs.Quiet.{ends-quiet, ends_after-quiet}
 
 -- what is counted of the copies that are left
 pub left-init : (base n c : ℕ) → base + (n - 0) * c ≡ base + n * c
@@ -67,6 +68,14 @@ module _ (first last : Bool) (read : ℕ → Bool) (t : Tree) (low : ℕ) (high 
       ∙ left where
         next : (i : ℕ) → i + 1 ≡ suc i
         next i = omega arith
+
+  pub ends-stopped : (k i at : ℕ) (here ends : Bool) → here ≡ false → Quiet read at → Left k i at here ends
+      → ends ≡ ends_here (repeated t low high) first last read base begins
+  ends-stopped k i at here ends e q left =
+      sym (ap (λ x. ends_after (λ at some. ends_here t first last read at some) (count_of t) low k i at x ends) e
+      ∙ ends_after-quiet read (λ at some. ends_here t first last read at some) (count_of t)
+      (ends-quiet first read last t) low k i at ends q)
+      ∙ left
 
   pub ends-nowhere : (n i at : ℕ) (here one ends : Bool) → n ≡ copies low high
       → at + (n - i) * count_of t ≡ base + n * count_of t → base ≡ at + count_of t

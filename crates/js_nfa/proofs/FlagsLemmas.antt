@@ -1,22 +1,10 @@
 -- Flags of a list that is filled from the front.
-use Rattle.std.proofs.Common.{◌≡◌, ℕ, zero, suc, ◌<◌, ◌≤◌, ◌⊎◌, inl, inr, max, Bool, true, false, not, List, [], ◌∷◌, length, take, get_or, refl, sym, ◌∙◌, ap, zero-add, arith}
+use Rattle.std.proofs.Common.{◌≡◌, ℕ, zero, suc, ◌<◌, ◌≤◌, ◌⊎◌, inl, inr, max, Bool, true, false, not, List, [], ◌∷◌, length, refl, sym, ◌∙◌, ap, zero-add, arith}
 use Rattle.std.proofs.lemmas.Bool.{cases_lt}
 use Rattle.std.specs.Bool.{beq}
 use Rattle.words.specs.PatternState.{numbers_from}
 use Rattle.state_laws.proofs.Flags.{numbers_flag}
 use Rattle.state_laws.specs.Flow.{flag_at, is_among}
-
-pub flag_at-take : (xs : List Bool) (n p : ℕ) (x : Bool) → p < n → n ≤ length xs → flag_at (take n xs) p ≡ get_or xs p x
-flag_at-take xs zero p x h l = absurd (omega (arith, h))
-flag_at-take [] (suc n) p x h l = absurd (omega (arith, l))
-flag_at-take (b ∷ xs) (suc n) zero x h l = refl
-flag_at-take (b ∷ xs) (suc n) (suc p) x h l = flag_at-take xs n p x (omega (arith, h)) (omega (arith, l))
-
-pub flag_at-past : (xs : List Bool) (n p : ℕ) → n ≤ p → flag_at (take n xs) p ≡ false
-flag_at-past xs zero p h = refl
-flag_at-past [] (suc n) p h = refl
-flag_at-past (b ∷ xs) (suc n) zero h = absurd (omega (arith, h))
-flag_at-past (b ∷ xs) (suc n) (suc p) h = flag_at-past xs n p (omega (arith, h))
 
 -- ---- flags that say the same
 pub numbers-same : (k : ℕ) (xs ys : List Bool) → ((p : ℕ) → flag_at xs p ≡ flag_at ys p)

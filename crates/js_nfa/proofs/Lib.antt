@@ -1,11 +1,17 @@
 -- Counts that are cut at a number.
 pub mod Counts
 pub mod FlagsLemmas
+pub mod BitsLemmas
 -- Lists of trees.
 pub mod Items
 -- What a tree makes of a state: laws of going through its copies one by one.
 pub mod Through
+pub mod Quiet
+pub mod DoneLemmas
 pub mod EndsSteps
 pub mod AdvanceSteps
+pub mod RunSteps
 -- States of words by the flags of positions.
 pub mod StateSteps
+-- States as they are fed to a hasher.
+pub mod FedLemmas

@@ -5,4 +5,9 @@ pub mod Counted
 pub mod AtomView
 -- Sets of positions, and the copies of a repeated tree, gone through one by one.
 pub mod Marks
+pub mod Bits
 pub mod Walk
+pub mod Done
+-- States as keys of a table.
+pub mod Fed
+pub mod StateLaws

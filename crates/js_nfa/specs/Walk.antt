@@ -1,7 +1,7 @@
 -- The copies of a repeated tree, gone through one by one.
 --
 -- `one` goes through the copy whose first position is given, and says whether a match can end where that copy ends.
-use Rattle.std.specs.Prelude.{ℕ, zero, suc, ◌+◌, Bool, false, ◌&&◌, ◌||◌, nat_eq, nat_le, if◌then◌else◌, List, [], ◌++◌}
+use Rattle.std.specs.Prelude.{◌≡◌, ◌≤◌, ℕ, zero, suc, ◌+◌, Bool, false, ◌&&◌, ◌||◌, nat_eq, nat_le, if◌then◌else◌, List, [], ◌++◌}
 use Rattle.patterns.specs.Tree.{Tree, Trees, empty, one_of, at_start, at_end, in_turn, either, repeated, no_trees, tree}
 
 -- the nodes of a tree
@@ -18,6 +18,10 @@ abbrev mutual
   pub list_nodes : Trees → ℕ
   list_nodes no_trees = 1
   list_nodes (tree t ts) = suc (nodes t + list_nodes ts)
+
+-- no position from here on was read
+abbrev pub Quiet : (ℕ → Bool) → ℕ → Type 0
+Quiet read base = (p : ℕ) → base ≤ p → read p ≡ false
 
 -- whether a match can end after some of the copies, where i of them are gone through and n are left: `here` says
 -- whether one can end where copy i begins, and `ends` whether one ends after those copies that may be the last

@@ -4,17 +4,18 @@
 //! upper number may begin where it ends, so it is first looked through for that: where such repeats nest, each adds one
 //! look at what it repeats.
 
-ghost use Rattle.std.specs.Prelude.{◌≡◌, ◌+◌, ◌*◌, ◌<◌, ◌≤◌, ◌^◌, ◌&&◌, ◌||◌, ◌++◌, nat_eq, false, if◌then◌else◌, length};
+ghost use Rattle.std.specs.Prelude.{◌≡◌, ◌+◌, ◌*◌, ◌<◌, ◌≤◌, ◌^◌, ◌&&◌, ◌||◌, ◌++◌, ◌∷◌, [], nat_eq, true, false, if◌then◌else◌, length};
 ghost use Rattle.std.specs.Option.{is_none};
-ghost use Rattle.patterns.specs.Tree.{repeated};
+ghost use Rattle.patterns.specs.CharSet.{has};
+ghost use Rattle.patterns.specs.Tree.{one_of, repeated};
 ghost use Rattle.words.specs.Position.{count_of, count_in, copies};
 ghost use Rattle.state_laws.specs.Flow.{flag_at, ends_here, ends_here_in_turn, ends_here_of_one, reads_next, reads_next_in_turn, reads_next_of_one};
 ghost use Rattle.js_pattern.specs.View.{view, list_view};
 
-use crate::count::copies;
+use crate::count::{copies, count_positions};
 use crate::ends::{Edges, ends_here, ends_still, may_end};
 use crate::position_set::PositionSet;
-use js_pattern::{Re, ReList};
+use js_pattern::{CharSet, Re, ReList};
 
 /// The character that comes next, and whether it is the word's first.
 #[derive(Clone, Copy)]
@@ -35,7 +36,7 @@ pub(crate) fn advance(
     reads: &mut PositionSet,
 ) -> bool
     requires room { length reads.old.flags + count_of (view re.now) ≤ reads.old.room }
-    requires small { length reads.old.flags + count_of (view re.now) < 2 ^ 64 }
+    requires small { length reads.old.flags + count_of (view re.now) ≤ 16384 }
     ensures ends { result ≡ ends_here (view re.now) next.first false (flag_at read.now.flags) (length
         reads.old.flags) begins }
     ensures flags { reads.new.flags ≡ reads.old.flags ++ reads_next (view re.now) next.first (flag_at
@@ -44,12 +45,7 @@ pub(crate) fn advance(
 {
     match re {
         Re::Empty => begins,
-        Re::Set(set) => {
-            let at = reads.len();
-            let has = set.contains(next.character);
-            reads.push(begins & has);
-            read.contains(at)
-        }
+        Re::Set(set) => advance_set(set, next, read, begins, reads),
         Re::Start => begins & next.first,
         Re::End => false,
         Re::Seq(list) => advance_in_turn(list, next, read, begins, reads),
@@ -58,6 +54,96 @@ pub(crate) fn advance(
             advance_repeated(inner, *low, *high, next, read, begins, reads)
         }
     }
+}
+
+/// The same where a match can begin, and with the number of flags that there are to be: the walk along a list stops at
+/// the tree from which on nothing is going on.
+pub(crate) fn advance_tree(
+    re: &Re,
+    end: usize,
+    next: Next,
+    read: &PositionSet,
+    reads: &mut PositionSet,
+)
+    requires end { end ≡ length reads.old.flags + count_of (view re.now) }
+    requires room { end ≤ reads.old.room }
+    requires small { end ≤ 16384 }
+    ensures flags { reads.new.flags ≡ reads.old.flags ++ reads_next (view re.now) next.first (flag_at
+        read.now.flags) next.character (length reads.old.flags) true }
+    ensures room { reads.new.room ≡ reads.old.room }
+{
+    if let Re::Seq(list) = re {
+        advance_list(list, end, next, read, reads);
+    } else {
+        let _ends = advance(re, next, read, true, reads);
+    }
+}
+
+/// One tree after another, up to one from which on nothing is going on.
+fn advance_list(list: &ReList, end: usize, next: Next, read: &PositionSet, reads: &mut PositionSet)
+    requires end { end ≡ length reads.old.flags + count_in (list_view list.now) }
+    requires room { end ≤ reads.old.room }
+    requires small { end ≤ 16384 }
+    ensures flags { reads.new.flags ≡ reads.old.flags ++ reads_next_in_turn (list_view list.now) next.first (flag_at
+        read.now.flags) next.character (length reads.old.flags) true }
+    ensures room { reads.new.room ≡ reads.old.room }
+{
+    let mut here = true;
+    for re in list.as_slice() {
+        let at = reads.len();
+        if read.has_none_from(at) && !here {
+            reads.push_none(end - at);
+            return;
+        }
+        here = advance_item(re, next, read, here, reads);
+    }
+}
+
+/// The same for a set of characters.
+fn advance_set(
+    set: &CharSet,
+    next: Next,
+    read: &PositionSet,
+    begins: bool,
+    reads: &mut PositionSet,
+) -> bool
+    requires room { length reads.old.flags < reads.old.room }
+    ensures ends { result ≡ flag_at read.now.flags (length reads.old.flags) }
+    ensures flags { reads.new.flags ≡ reads.old.flags ++ (begins && has set.now next.character) ∷ [] }
+    ensures room { reads.new.room ≡ reads.old.room }
+{
+    let at = reads.len();
+    let has = set.contains(next.character);
+    reads.push(begins & has);
+    read.contains(at)
+}
+
+/// The same for a tree among others, where only its positions are counted if nothing is going on in it.
+#[cycle(advance)]
+fn advance_item(
+    re: &Re,
+    next: Next,
+    read: &PositionSet,
+    begins: bool,
+    reads: &mut PositionSet,
+) -> bool
+    requires room { length reads.old.flags + count_of (view re.now) ≤ reads.old.room }
+    requires small { length reads.old.flags + count_of (view re.now) ≤ 16384 }
+    ensures ends { result ≡ ends_here (view re.now) next.first false (flag_at read.now.flags) (length
+        reads.old.flags) begins }
+    ensures flags { reads.new.flags ≡ reads.old.flags ++ reads_next (view re.now) next.first (flag_at
+        read.now.flags) next.character (length reads.old.flags) begins }
+    ensures room { reads.new.room ≡ reads.old.room }
+{
+    if let Re::Set(set) = re {
+        return advance_set(set, next, read, begins, reads);
+    }
+    let at = reads.len();
+    if read.has_none_from(at) && !begins {
+        reads.push_none(count_positions(re) as usize);
+        return false;
+    }
+    advance(re, next, read, begins, reads)
 }
 
 /// One tree after another.
@@ -70,7 +156,7 @@ fn advance_in_turn(
     reads: &mut PositionSet,
 ) -> bool
     requires room { length reads.old.flags + count_in (list_view list.now) ≤ reads.old.room }
-    requires small { length reads.old.flags + count_in (list_view list.now) < 2 ^ 64 }
+    requires small { length reads.old.flags + count_in (list_view list.now) ≤ 16384 }
     ensures ends { result ≡ ends_here_in_turn (list_view list.now) next.first false (flag_at
         read.now.flags) (length reads.old.flags) begins }
     ensures flags { reads.new.flags ≡ reads.old.flags ++ reads_next_in_turn (list_view list.now) next.first (flag_at
@@ -79,7 +165,7 @@ fn advance_in_turn(
 {
     let mut here = begins;
     for re in list.as_slice() {
-        here = advance(re, next, read, here, reads);
+        here = advance_item(re, next, read, here, reads);
     }
     here
 }
@@ -94,7 +180,7 @@ fn advance_of_one(
     reads: &mut PositionSet,
 ) -> bool
     requires room { length reads.old.flags + count_in (list_view list.now) ≤ reads.old.room }
-    requires small { length reads.old.flags + count_in (list_view list.now) < 2 ^ 64 }
+    requires small { length reads.old.flags + count_in (list_view list.now) ≤ 16384 }
     ensures ends { result ≡ ends_here_of_one (list_view list.now) next.first false (flag_at
         read.now.flags) (length reads.old.flags) begins }
     ensures flags { reads.new.flags ≡ reads.old.flags ++ reads_next_of_one (list_view list.now) next.first (flag_at
@@ -103,12 +189,19 @@ fn advance_of_one(
 {
     let mut ends = false;
     for re in list.as_slice() {
-        ends = ends | advance(re, next, read, begins, reads);
+        if let Re::Set(set) = re {
+            let at = reads.len();
+            let has = set.contains(next.character);
+            reads.push(begins & has);
+            ends = ends | read.contains(at);
+        } else {
+            ends = ends | advance_item(re, next, read, begins, reads);
+        }
     }
     ends
 }
 
-/// The tree so often at least, and so often at most: copy after copy.
+/// The tree so often at least, and so often at most: copy after copy, up to one from which on nothing is going on.
 #[cycle(advance)]
 fn advance_repeated(
     inner: &Re,
@@ -120,26 +213,72 @@ fn advance_repeated(
     reads: &mut PositionSet,
 ) -> bool
     requires room { length reads.old.flags + copies low high * count_of (view inner.now) ≤ reads.old.room }
-    requires small { length reads.old.flags + copies low high * count_of (view inner.now) < 2 ^ 64 }
+    requires small { length reads.old.flags + copies low high * count_of (view inner.now) ≤ 16384 }
     ensures ends { result ≡ ends_here (repeated (view inner.now) low high) next.first false (flag_at
         read.now.flags) (length reads.old.flags) begins }
     ensures flags { reads.new.flags ≡ reads.old.flags ++ reads_next (repeated (view
         inner.now) low high) next.first (flag_at read.now.flags) next.character (length reads.old.flags) begins }
     ensures room { reads.new.room ≡ reads.old.room }
 {
+    if let Re::Set(set) = inner {
+        return advance_run(set, low, high, next, read, begins, reads);
+    }
     let count = copies(low, high);
     let base = reads.len();
     let mut here = begins;
     let mut ends = may_end(low, 0, begins);
     for i in 0..count {
         let again = comes_again(high, count - (i + 1));
-        let start = begins_copy(inner, again, next.first, read, reads.len(), here);
+        let at = reads.len();
+        let start = begins_copy(inner, again, next.first, read, at, here);
         let one = advance(inner, next, read, start, reads);
-        if reads.len() == base {
+        let after = reads.len();
+        if after == base {
             return ends_still(low, count, begins, one);
         }
         here = one;
         ends = ends | may_end(low, i + 1, here);
+        if read.has_none_from(after) && !here {
+            reads.push_none((count - (i + 1)) as usize * (after - at));
+            return ends;
+        }
+    }
+    ends
+}
+
+/// The same for a set of characters, which is asked once for all copies.
+fn advance_run(
+    set: &CharSet,
+    low: u32,
+    high: Option<u32>,
+    next: Next,
+    read: &PositionSet,
+    begins: bool,
+    reads: &mut PositionSet,
+) -> bool
+    requires room { length reads.old.flags + copies low high ≤ reads.old.room }
+    requires small { length reads.old.flags + copies low high ≤ 16384 }
+    ensures ends { result ≡ ends_here (repeated (one_of set.now) low high) next.first false (flag_at
+        read.now.flags) (length reads.old.flags) begins }
+    ensures flags { reads.new.flags ≡ reads.old.flags ++ reads_next (repeated (one_of
+        set.now) low high) next.first (flag_at read.now.flags) next.character (length reads.old.flags) begins }
+    ensures room { reads.new.room ≡ reads.old.room }
+{
+    let count = copies(low, high);
+    let has = set.contains(next.character);
+    let base = reads.len();
+    let mut here = begins;
+    let mut ends = may_end(low, 0, begins);
+    for i in 0..count {
+        let again = comes_again(high, count - (i + 1));
+        let was = read.contains(base + i as usize);
+        reads.push((here | again & was) & has);
+        here = was;
+        ends = ends | may_end(low, i + 1, here);
+        if read.has_none_from(base + i as usize + 1) && !here {
+            reads.push_none((count - (i + 1)) as usize);
+            return ends;
+        }
     }
     ends
 }
@@ -160,7 +299,7 @@ fn begins_copy(
     base: usize,
     here: bool,
 ) -> bool
-    requires { base + count_of (view inner.now) < 2 ^ 64 }
+    requires { base + count_of (view inner.now) ≤ 16384 }
     ensures { result ≡ if again then here || ends_here (view inner.now) first false (flag_at
         read.now.flags) base false else here }
 {

@@ -1,15 +1,16 @@
 //! Whether a match of a tree can end where the word ends.
 //!
 //! The walk goes through the tree in the order of its positions, so it costs a look at each node, and as many at a
-//! repeated tree as it has copies. A repeated tree without positions is gone through once.
+//! repeated tree as it has copies, up to one from which on nothing is going on. A repeated tree without positions is
+//! gone through once, and a repeated set of characters in a loop over the copies that may be the last.
 
-ghost use Rattle.std.specs.Prelude.{◌≡◌, ◌+◌, ◌*◌, ◌<◌, ◌^◌, ◌&&◌, nat_eq, nat_le, if◌then◌else◌};
-ghost use Rattle.patterns.specs.Tree.{repeated};
+ghost use Rattle.std.specs.Prelude.{◌≡◌, ◌+◌, ◌*◌, ◌≤◌, ◌^◌, ◌&&◌, nat_eq, nat_le, true, if◌then◌else◌, Bool, List, ℕ};
+ghost use Rattle.patterns.specs.Tree.{one_of, repeated};
 ghost use Rattle.words.specs.Position.{count_of, count_in, copies};
 ghost use Rattle.state_laws.specs.Flow.{flag_at, ends_here, ends_here_in_turn, ends_here_of_one};
 ghost use Rattle.js_pattern.specs.View.{view, list_view};
 
-use crate::count::copies;
+use crate::count::{copies, count_positions};
 use crate::position_set::PositionSet;
 use js_pattern::{Re, ReList};
 
@@ -37,7 +38,7 @@ pub(crate) fn ends_here(
     base: usize,
     begins: bool,
 ) -> Passed
-    requires { base + count_of (view re.now) < 2 ^ 64 }
+    requires { base + count_of (view re.now) ≤ 16384 }
     ensures ends { result.ends ≡ ends_here (view re.now) edges.first edges.last (flag_at read.now.flags) base begins }
     ensures base { result.base ≡ base + count_of (view re.now) }
 {
@@ -63,6 +64,58 @@ pub(crate) fn ends_here(
     }
 }
 
+/// The same from the first position on, where a match can begin: the walk along a list stops at the tree from which on
+/// nothing is going on.
+pub(crate) fn tree_ends(re: &Re, edges: Edges, read: &PositionSet) -> bool
+    requires { count_of (view re.now) ≤ 16384 }
+    ensures { result ≡ ends_here (view re.now) edges.first edges.last (flag_at read.now.flags) 0 true }
+{
+    match re {
+        Re::Seq(list) => list_ends(list, edges, read),
+        _ => ends_here(re, edges, read, 0, true).ends,
+    }
+}
+
+/// One tree after another, up to one from which on nothing is going on.
+fn list_ends(list: &ReList, edges: Edges, read: &PositionSet) -> bool
+    requires { count_in (list_view list.now) ≤ 16384 }
+    ensures { result ≡ ends_here_in_turn (list_view list.now) edges.first edges.last (flag_at read.now.flags) 0 true }
+{
+    let mut here = true;
+    let mut at = 0;
+    for re in list.as_slice() {
+        if read.has_none_from(at) && !here {
+            return false;
+        }
+        let passed = ends_item(re, edges, read, at, here);
+        here = passed.ends;
+        at = passed.base;
+    }
+    here
+}
+
+/// The same for a tree among others, where only its positions are counted if nothing is going on in it.
+#[cycle(ends)]
+fn ends_item(re: &Re, edges: Edges, read: &PositionSet, base: usize, begins: bool) -> Passed
+    requires { base + count_of (view re.now) ≤ 16384 }
+    ensures ends { result.ends ≡ ends_here (view re.now) edges.first edges.last (flag_at read.now.flags) base begins }
+    ensures base { result.base ≡ base + count_of (view re.now) }
+{
+    if let Re::Set(_) = re {
+        return Passed {
+            ends: read.contains(base),
+            base: base + 1,
+        };
+    }
+    if read.has_none_from(base) && !begins {
+        return Passed {
+            ends: false,
+            base: base + count_positions(re) as usize,
+        };
+    }
+    ends_here(re, edges, read, base, begins)
+}
+
 /// One tree after another.
 #[cycle(ends)]
 fn ends_in_turn(
@@ -72,7 +125,7 @@ fn ends_in_turn(
     base: usize,
     begins: bool,
 ) -> Passed
-    requires { base + count_in (list_view list.now) < 2 ^ 64 }
+    requires { base + count_in (list_view list.now) ≤ 16384 }
     ensures ends { result.ends ≡ ends_here_in_turn (list_view list.now) edges.first edges.last (flag_at
         read.now.flags) base begins }
     ensures base { result.base ≡ base + count_in (list_view list.now) }
@@ -80,7 +133,7 @@ fn ends_in_turn(
     let mut here = begins;
     let mut at = base;
     for re in list.as_slice() {
-        let passed = ends_here(re, edges, read, at, here);
+        let passed = ends_item(re, edges, read, at, here);
         here = passed.ends;
         at = passed.base;
     }
@@ -93,7 +146,7 @@ fn ends_in_turn(
 /// One tree or another.
 #[cycle(ends)]
 fn ends_of_one(list: &ReList, edges: Edges, read: &PositionSet, base: usize, begins: bool) -> Passed
-    requires { base + count_in (list_view list.now) < 2 ^ 64 }
+    requires { base + count_in (list_view list.now) ≤ 16384 }
     ensures ends { result.ends ≡ ends_here_of_one (list_view list.now) edges.first edges.last (flag_at
         read.now.flags) base begins }
     ensures base { result.base ≡ base + count_in (list_view list.now) }
@@ -101,14 +154,14 @@ fn ends_of_one(list: &ReList, edges: Edges, read: &PositionSet, base: usize, beg
     let mut ends = false;
     let mut at = base;
     for re in list.as_slice() {
-        let passed = ends_here(re, edges, read, at, begins);
+        let passed = ends_item(re, edges, read, at, begins);
         ends = ends || passed.ends;
         at = passed.base;
     }
     Passed { ends, base: at }
 }
 
-/// The tree so often at least, and so often at most: copy after copy.
+/// The tree so often at least, and so often at most: copy after copy, up to one from which on nothing is going on.
 #[cycle(ends)]
 fn ends_repeated(
     inner: &Re,
@@ -119,11 +172,14 @@ fn ends_repeated(
     base: usize,
     begins: bool,
 ) -> Passed
-    requires { base + copies low high * count_of (view inner.now) < 2 ^ 64 }
+    requires { base + copies low high * count_of (view inner.now) ≤ 16384 }
     ensures ends { result.ends ≡ ends_here (repeated (view inner.now) low high) edges.first edges.last (flag_at
         read.now.flags) base begins }
     ensures base { result.base ≡ base + copies low high * count_of (view inner.now) }
 {
+    if let Re::Set(_) = inner {
+        return ends_run(low, high, read, base, begins);
+    }
     let count = copies(low, high);
     let mut here = begins;
     let mut ends = may_end(low, 0, begins);
@@ -134,11 +190,37 @@ fn ends_repeated(
             let ends = ends_still(low, count, begins, passed.ends);
             return Passed { ends, base };
         }
+        let size = passed.base - at;
         here = passed.ends;
         at = passed.base;
         ends = ends | may_end(low, i + 1, here);
+        if read.has_none_from(at) && !here {
+            return Passed {
+                ends,
+                base: at + (count - (i + 1)) as usize * size,
+            };
+        }
     }
     Passed { ends, base: at }
+}
+
+/// The same for a set of characters, whichever it is: a match can end after the last copy that must come, and after
+/// those that follow it.
+fn ends_run(low: u32, high: Option<u32>, read: &PositionSet, base: usize, begins: bool) -> Passed
+    requires { base + copies low high ≤ 16384 }
+    ensures ends { (ranges : List (ℕ × ℕ)) (first last : Bool) → result.ends
+        ≡ ends_here (repeated (one_of ranges) low high) first last (flag_at read.now.flags) base begins }
+    ensures base { result.base ≡ base + copies low high }
+{
+    let count = copies(low, high);
+    let mut ends = may_end(low, 0, begins);
+    for i in low.saturating_sub(1)..count {
+        ends = ends | read.contains(base + i as usize);
+    }
+    Passed {
+        ends,
+        base: base + count as usize,
+    }
 }
 
 /// Whether a match can end after so many copies, where `here` says that a match of the last one can.

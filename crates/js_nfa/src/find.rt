@@ -13,7 +13,7 @@ use crate::scratch::Scratch;
 use std::mem;
 
 /// Whether the pattern matches somewhere in the word. It takes no memory, and for each character up to the end of the
-/// first match one or two walks over the pattern's tree.
+/// first match two walks over the pattern's tree, or one where none of the positions was read that a match's end needs.
 pub fn finds(nfa: &Nfa, word: &[char], scratch: &mut Scratch) -> bool
     requires { HasRoom nfa.now scratch.old }
     ensures decided { result ≡ finds (tree_of nfa.now) word.now }

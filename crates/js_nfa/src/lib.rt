@@ -2,12 +2,14 @@
 //! matches in a word.
 //!
 //! A state is a set of positions. It goes on by the next character in one walk over the tree in the order of its
-//! positions, in which the copies of a repeated tree are gone through one by one. So what follows what is never stored.
+//! positions, in which the copies of a repeated tree are gone through one by one, as far as anything is going on. So
+//! what follows what is never stored.
 #![tactic(auto)]
 
 mod advance;
 mod atom;
 mod count;
+mod done;
 mod ends;
 mod fault;
 mod find;
@@ -28,3 +30,6 @@ pub use position_set::PositionSet;
 pub use scratch::Scratch;
 pub use state::PatternState;
 pub use state_set::{StateSet, accepts, start, step};
+
+#[cfg(test)]
+mod tests;

@@ -6,6 +6,7 @@ ghost use Rattle.js_pattern.specs.View.{view};
 ghost use Rattle.js_nfa.specs.View.{tree_of};
 
 use crate::count::{MOST, count_positions};
+use crate::done::done_from;
 use crate::fault::NfaFault;
 use crate::nfa::Nfa;
 use js_pattern::Re;
@@ -23,5 +24,8 @@ pub fn positions(alloc: Global, re: &Re) -> Result<Nfa, NfaFault>
         return Err(NfaFault::LimitPositions);
     }
     let tree = re.copy(alloc)?;
-    Ok(Nfa::of(tree, count))
+    let Ok(done_from) = done_from(alloc, &tree, count) else {
+        return Err(NfaFault::Memory);
+    };
+    Ok(Nfa::of(tree, count, done_from))
 }

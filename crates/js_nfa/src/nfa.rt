@@ -6,9 +6,10 @@ ghost use Rattle.words.specs.Position.{count_of};
 ghost use Rattle.words.specs.PatternState.{pattern_state};
 ghost use Rattle.state_laws.specs.Flow.{flag_at, ends_here, reads_next, next_state, is_accepted};
 ghost use Rattle.js_pattern.specs.View.{view};
+ghost use Rattle.js_nfa.specs.Done.{Needs};
 
-use crate::advance::{Next, advance};
-use crate::ends::{Edges, ends_here};
+use crate::advance::{Next, advance_tree};
+use crate::ends::{Edges, tree_ends};
 use crate::position_set::PositionSet;
 use crate::state::PatternState;
 use js_doc::Memory;
@@ -20,20 +21,28 @@ use std::alloc::Global;
 pub struct Nfa {
     tree: Re,
     count: u32,
+    /// the position that has to be read, or a later one, for a match to be done before the word's end; 0 says nothing
+    done_from: u32,
     ghost counted: { count ≡ count_of (view tree) },
     ghost within: { count ≤ 16384 },
+    ghost needed: { Needs (view tree) done_from },
 }
 
 impl Nfa {
     ghost use Rattle.js_nfa.specs.View.{tree_of, state_view};
 
-    /// The automaton of a tree with so many positions.
-    pub(crate) fn of(tree: Re, count: u32) -> Nfa
+    /// The automaton of a tree with so many positions, one of which, from one on, has to be read.
+    pub(crate) fn of(tree: Re, count: u32, done_from: u32) -> Nfa
         requires counted { count ≡ count_of (view tree) }
         requires within { count ≤ 16384 }
+        requires needed { Needs (view tree) done_from }
         ensures { tree_of result ≡ view tree }
     {
-        Nfa { tree, count }
+        Nfa {
+            tree,
+            count,
+            done_from,
+        }
     }
 
     /// The number of positions.
@@ -48,7 +57,7 @@ impl Nfa {
     pub(crate) fn ends(&self, edges: Edges, read: &PositionSet) -> bool
         ensures { result ≡ ends_here (tree_of self.now) edges.first edges.last (flag_at read.now.flags) 0 true }
     {
-        ends_here(&self.tree, edges, read, 0, true).ends
+        tree_ends(&self.tree, edges, read)
     }
 
     /// Fills a set with the positions that read the next character, and answers whether a match ends after it that uses
@@ -61,7 +70,10 @@ impl Nfa {
         ensures room { reads.new.room ≡ reads.old.room }
     {
         reads.clear();
-        let _before = advance(&self.tree, next, read, true, reads);
+        advance_tree(&self.tree, self.count as usize, next, read, reads);
+        if self.done_from > 0 && reads.has_none_from(self.done_from as usize) {
+            return false;
+        }
         let edges = Edges {
             first: false,
             last: false,

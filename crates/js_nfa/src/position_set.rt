@@ -1,8 +1,10 @@
 //! Sets of positions, filled in the order of the positions.
 
-ghost use Rattle.std.specs.Prelude.{◌≡◌, ◌+◌, ◌<◌, ◌≤◌, ◌++◌, ◌∷◌, [], length, replicate, false, IfOk, IsTrue, ◌↔◌};
+ghost use Rattle.std.specs.Prelude.{◌≡◌, ◌≢◌, ◌+◌, ◌*◌, ◌<◌, ◌≤◌, ◌++◌, ◌∷◌, [], length, replicate, false, IfOk, IsTrue, ◌↔◌, ◌==◌, ℕ};
+ghost use Rattle.std.specs.Int.{bit_at};
 ghost use Rattle.words.specs.PatternState.{numbers_from};
 ghost use Rattle.state_laws.specs.Flow.{flag_at};
+ghost use Rattle.js_nfa.specs.Walk.{Quiet};
 
 use js_doc::Memory;
 use std::alloc::Global;
@@ -10,32 +12,40 @@ use std::marker::Model;
 
 /// Which positions are in a set: a flag for each of the first ones, with room for those that follow. Contracts see the
 /// flags and the room.
+///
+/// A flag is a bit, the lowest of the first word for position 0. `top` lies above all positions of the set, and no bit
+/// is set from it on.
 #[derive(Drop)]
 pub struct PositionSet {
-    bits: Vec<bool>,
+    words: Vec<u64>,
     len: usize,
+    top: usize,
 }
 
 impl Model for PositionSet {
-    ghost use Rattle.std.specs.Prelude.{◌≤◌, length, take};
+    ghost use Rattle.std.specs.Prelude.{◌≡◌, ◌≤◌, ◌*◌, ◌^◌, false, length, ℕ};
+    ghost use Rattle.js_nfa.specs.Bits.{bit_of, flags_of};
     ghost use Rattle.js_nfa.specs.Marks.{Marks};
 
     ghost Value = { Marks };
 
-    ghost view = { λ s. record { flags = take s.len s.bits.items; room = length s.bits.items } };
+    ghost view = { λ s. record { flags = flags_of s.words.items s.len; room = 64 * length s.words.items } };
 
-    ghost invariant = { λ s. s.len ≤ length s.bits.items };
+    ghost invariant = { λ s. (s.len ≤ 64 * length s.words.items) × (64 * length s.words.items ≤ 2 ^ 32)
+        × (s.top ≤ s.len) × ((p : ℕ) → s.top ≤ p → bit_of s.words.items p ≡ false) };
 }
 
 impl PositionSet {
-    /// No flags yet, and room for so many.
+    /// No flags yet, and room for so many, and at most a word more.
     pub(crate) fn with_room(alloc: Global, room: u32) -> Result<PositionSet, Memory>
         ensures flags { IfOk result (λ s. s.flags ≡ []) }
-        ensures room { IfOk result (λ s. s.room ≡ room) }
+        ensures room { IfOk result (λ s. room ≤ s.room) }
+        ensures small { IfOk result (λ s. s.room ≤ room + 64) }
     {
         Ok(PositionSet {
-            bits: vec![in alloc; false; room as usize]?,
+            words: vec![in alloc; 0; room as usize / 64 + 1]?,
             len: 0,
+            top: 0,
         })
     }
 
@@ -44,8 +54,9 @@ impl PositionSet {
         ensures { IfOk result (λ s. s.flags ≡ replicate count false) }
     {
         Ok(PositionSet {
-            bits: vec![in alloc; false; count as usize]?,
+            words: vec![in alloc; 0; count as usize / 64 + 1]?,
             len: count as usize,
+            top: 0,
         })
     }
 
@@ -60,7 +71,7 @@ impl PositionSet {
     pub(crate) fn contains(&self, position: usize) -> bool
         ensures { result ≡ flag_at self.now.flags position }
     {
-        position < self.len && self.bits[position]
+        position < self.len && (self.words[position / 64] >> (position % 64)) & 1 == 1
     }
 
     /// The flag of the next position.
@@ -69,28 +80,90 @@ impl PositionSet {
         ensures flags { self.new.flags ≡ self.old.flags ++ flag ∷ [] }
         ensures room { self.new.room ≡ self.old.room }
     {
-        self.bits[self.len] = flag;
+        let word = self.words[self.len / 64];
+        self.words[self.len / 64] = with_bit(word, self.len % 64, flag);
         self.len += 1;
+        self.top = self.top.max(self.len * usize::from(flag));
     }
 
-    /// Takes all flags away, and keeps the room.
+    /// So many flags that aren't set.
+    pub(crate) fn push_none(&mut self, count: usize)
+        requires { length self.old.flags + count ≤ self.old.room }
+        ensures flags { self.new.flags ≡ self.old.flags ++ replicate count false }
+        ensures room { self.new.room ≡ self.old.room }
+    {
+        self.len += count;
+    }
+
+    /// Whether no position from this one on is seen to be in the set.
+    pub(crate) fn has_none_from(&self, position: usize) -> bool
+        ensures { IsTrue result → Quiet (flag_at self.now.flags) position }
+    {
+        self.top <= position
+    }
+
+    /// Takes all flags away, and keeps the room. It costs a look at each word.
     pub(crate) fn clear(&mut self)
         ensures flags { self.new.flags ≡ [] }
         ensures room { self.new.room ≡ self.old.room }
     {
+        self.words.fill(0);
         self.len = 0;
+        self.top = 0;
     }
 
     /// Whether the sets have the same positions.
+    ///
+    /// As many flags on both sides are compared a word at a time, as far as words are full.
     pub(crate) fn same(&self, other: &PositionSet) -> bool
         ensures { IsTrue result ↔ (numbers_from 0 self.now.flags ≡ numbers_from 0 other.now.flags) }
     {
         let len = self.len().max(other.len());
-        for position in 0..len {
+        let full = if self.len() == other.len() {
+            self.len() / 64
+        } else {
+            0
+        };
+        if !self.same_words(other, full) {
+            return false;
+        }
+        for position in full * 64..len {
             if self.contains(position) != other.contains(position) {
                 return false;
             }
         }
         true
     }
+
+    /// Whether so many words, full on both sides, have the same flags.
+    fn same_words(&self, other: &PositionSet, count: usize) -> bool
+        requires ours { 64 * count ≤ length self.now.flags }
+        requires theirs { 64 * count ≤ length other.now.flags }
+        ensures { IsTrue result
+            ↔ ((p : ℕ) → p < 64 * count → flag_at self.now.flags p ≡ flag_at other.now.flags p) }
+    {
+        for index in 0..count {
+            if !have_same_bits(self.words[index], other.words[index]) {
+                return false;
+            }
+        }
+        true
+    }
+}
+
+/// Whether the words are equal, which is to have the same bits.
+fn have_same_bits(ours: u64, theirs: u64) -> bool
+    ensures { IsTrue result ↔ ((i : ℕ) → i < 64 → bit_at ours i ≡ bit_at theirs i) }
+{
+    ours == theirs
+}
+
+/// The word with one bit set or cleared.
+fn with_bit(word: u64, place: usize, flag: bool) -> u64
+    requires { place < 64 }
+    ensures here { (bit_at result place == 1) ≡ flag }
+    ensures others { (i : ℕ) → i < 64 → i ≢ place → bit_at result i ≡ bit_at word i }
+{
+    let bit = 1u64 << place;
+    if flag { word | bit } else { word & !bit }
 }

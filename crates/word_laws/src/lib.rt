@@ -32,7 +32,7 @@ pub fn state_tells_truths()
     ensures { StateTellsTruths }
 {}
 
-/// A list of atoms has one list of rows.
+/// A list of atoms has at most one list of rows.
 pub fn rows_are_one()
     ensures { RowsAreOne }
 {}

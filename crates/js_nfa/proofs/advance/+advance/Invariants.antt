@@ -8,16 +8,19 @@ use Rattle.js_nfa.proofs.AdvanceSteps.{InTurn, OfOne, Reads}
 use Rattle.js_nfa.proofs.advance.+advance.Given as goal
 
 abbrev pub decreases-advance : goal.decreases-advance
-decreases-advance l = 2 * nodes (view l.re.now)
+decreases-advance l = 3 * nodes (view l.re.now)
+
+abbrev pub decreases-advance_item : goal.decreases-advance_item
+decreases-advance_item l = 3 * nodes (view l.re.now) + 1
 
 abbrev pub decreases-advance_in_turn : goal.decreases-advance_in_turn
-decreases-advance_in_turn l = 2 * list_nodes (list_view l.list.now)
+decreases-advance_in_turn l = 3 * list_nodes (list_view l.list.now)
 
 abbrev pub decreases-advance_of_one : goal.decreases-advance_of_one
-decreases-advance_of_one l = 2 * list_nodes (list_view l.list.now)
+decreases-advance_of_one l = 3 * list_nodes (list_view l.list.now)
 
 abbrev pub decreases-advance_repeated : goal.decreases-advance_repeated
-decreases-advance_repeated l = 2 * nodes (view l.inner.now) + 1
+decreases-advance_repeated l = 3 * nodes (view l.inner.now) + 2
 
 abbrev pub invariant-advance_in_turn-loop-re : goal.invariant-advance_in_turn-loop-re
 invariant-advance_in_turn-loop-re l = record {

@@ -1,14 +1,22 @@
-use Rattle.std.proofs.Common.{◌||◌, refl, sym, ◌∙◌, ap, arith}
+use Rattle.std.proofs.Common.{◌≡◌, ◌+◌, ◌-◌, ◌*◌, ◌||◌, refl, sym, ◌∙◌, ap, arith}
 use Rattle.words.specs.Position.{count_of, count_in}
 use Rattle.state_laws.specs.Flow.{flag_at}
 use Rattle.js_pattern.specs.View.{view}
 use Rattle.js_nfa.specs.Walk.{list_nodes}
 use Rattle.js_nfa.proofs.Items.{rest-tree, nodes-item}
+use Rattle.js_nfa.proofs.Quiet.{ends-none}
 use Rattle.js_nfa.proofs.EndsSteps as S
 use Rattle.js_nfa.proofs.ends.+ends.Goals as goal
 
-pub ends_in_turn-ends_here-passed-requires : goal.ends_in_turn-ends_here-passed-requires
-ends_in_turn-ends_here-passed-requires t c = (
+pub ends_item-returns-then-not-begins : goal.ends_item-returns-then-not-begins
+ends_item-returns-then-not-begins t c = record {
+  ends = ends-none c.args.edges.first c.args.edges.last (flag_at c.args.read.now.flags) (view c.args.re.now)
+      c.args.base c.args.begins c.if-not-begins.true (c.has_none_from.ensures c.if-has_none_from.true);
+  base = omega (arith, c.count_positions.ensures, c.requires);
+}
+
+pub ends_in_turn-ends_item-passed-requires : goal.ends_in_turn-ends_item-passed-requires
+ends_in_turn-ends_item-passed-requires t c = (
   omega (
     arith,
     c.decreases,
@@ -25,8 +33,8 @@ ends_in_turn-ends_here-passed-requires t c = (
   ),
 )
 
-pub ends_of_one-ends_here-passed-requires : goal.ends_of_one-ends_here-passed-requires
-ends_of_one-ends_here-passed-requires t c = (
+pub ends_of_one-ends_item-passed-requires : goal.ends_of_one-ends_item-passed-requires
+ends_of_one-ends_item-passed-requires t c = (
   omega (
     arith,
     c.decreases,
@@ -59,6 +67,26 @@ ends_repeated-returns-then-passed-base-clause-ends t c =
     c.ends_here-passed.result.ends c.ends_still-ends.result c.copies-count.ensures c.loop-i.invariant.count
     (sym c.if-passed-base.true ∙ c.ends_here-passed.ensures.base) c.loop-i.invariant.first
     c.ends_here-passed.ensures.ends c.ends_still-ends.ensures
+
+pub ends_repeated-returns-then-not-here : goal.ends_repeated-returns-then-not-here
+ends_repeated-returns-then-not-here t c =
+    let each = count_of (view c.args.inner.now) in
+    let size : c.ends_here-passed.result.base - c.loop-i.at ≡ each = omega (arith, c.ends_here-passed.ensures.base) in
+    let left = S.left-next c.args.base c.copies-count.result each c.loop-i.i c.loop-i.at
+    c.ends_here-passed.result.base c.loop-i-test.true c.loop-i.invariant.count c.ends_here-passed.ensures.base in
+    let next = S.ends-next c.args.edges.first c.args.edges.last (flag_at c.args.read.now.flags) (view c.args.inner.now)
+    c.args.low c.args.high c.args.base c.args.begins c.copies-count.result c.loop-i.i c.loop-i.at
+    c.ends_here-passed.result.base c.loop-i.here c.ends_here-passed.result.ends c.loop-i.ends _ c.loop-i-test.true
+    c.ends_here-passed.ensures.ends c.ends_here-passed.ensures.base
+    (ap (λ x. c.loop-i.ends || x) c.may_end-ends-in-loop-i.ensures) c.loop-i.invariant.ends in
+    record {
+      ends = S.ends-stopped c.args.edges.first c.args.edges.last (flag_at c.args.read.now.flags)
+          (view c.args.inner.now) c.args.low c.args.high c.args.base c.args.begins
+          (c.copies-count.result - (c.loop-i.i + 1)) (c.loop-i.i + 1) c.ends_here-passed.result.base
+          c.ends_here-passed.result.ends _ c.if-not-here.true (c.has_none_from.ensures c.if-has_none_from.true) next;
+      base = ap (λ s. c.ends_here-passed.result.base + (c.copies-count.result - (c.loop-i.i + 1)) * s) size
+          ∙ left ∙ ap (λ k. c.args.base + k * each) c.copies-count.ensures;
+    }
 
 pub ends_repeated-loop-i-preserved : goal.ends_repeated-loop-i-preserved
 ends_repeated-loop-i-preserved t c = record {

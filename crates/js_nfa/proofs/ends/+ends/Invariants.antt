@@ -8,16 +8,19 @@ use Rattle.js_nfa.proofs.Items.{rest}
 use Rattle.js_nfa.proofs.ends.+ends.Given as goal
 
 abbrev pub decreases-ends_here : goal.decreases-ends_here
-decreases-ends_here l = 2 * nodes (view l.re.now)
+decreases-ends_here l = 3 * nodes (view l.re.now)
+
+abbrev pub decreases-ends_item : goal.decreases-ends_item
+decreases-ends_item l = 3 * nodes (view l.re.now) + 1
 
 abbrev pub decreases-ends_in_turn : goal.decreases-ends_in_turn
-decreases-ends_in_turn l = 2 * list_nodes (list_view l.list.now)
+decreases-ends_in_turn l = 3 * list_nodes (list_view l.list.now)
 
 abbrev pub decreases-ends_of_one : goal.decreases-ends_of_one
-decreases-ends_of_one l = 2 * list_nodes (list_view l.list.now)
+decreases-ends_of_one l = 3 * list_nodes (list_view l.list.now)
 
 abbrev pub decreases-ends_repeated : goal.decreases-ends_repeated
-decreases-ends_repeated l = 2 * nodes (view l.inner.now) + 1
+decreases-ends_repeated l = 3 * nodes (view l.inner.now) + 2
 
 abbrev pub invariant-ends_in_turn-loop-re : goal.invariant-ends_in_turn-loop-re
 invariant-ends_in_turn-loop-re l = record {

@@ -2,6 +2,13 @@ use Rattle.std.proofs.Common.{◌≡◌, ◌∙◌, max, ap₂, sym, refl, arith
 use Rattle.js_nfa.proofs.FlagsLemmas.{numbers-below, flags-same, never_apart}
 use Rattle.js_nfa.proofs.position_set.PositionSet.same.Goals as goal
 
+pub returns-then-not-same_words : goal.returns-then-not-same_words
+returns-then-not-same_words c = (
+  (λ e. cc e),
+  (λ e. sym c.if-not-same_words.true
+      ∙ c.same_words.ensures.1 (λ p l. flags-same c.args.self.now.flags c.args.other.now.flags e p)),
+)
+
 pub returns-then-contains : goal.returns-then-contains
 returns-then-contains c = (
   (λ e. cc e),

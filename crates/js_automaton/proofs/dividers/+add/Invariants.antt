@@ -1,0 +1,12 @@
+use Rattle.std.proofs.Common.{◌≡◌, ℕ, ◌&&◌, map}
+use Rattle.patterns.specs.Tree.{trees_of}
+use Rattle.words.specs.Position.{sets_in}
+use Rattle.words.specs.Classes.{are_alike}
+use Rattle.js_pattern.specs.View.{view}
+use Rattle.js_nfa.proofs.Items.{rest}
+use Rattle.js_automaton.proofs.dividers.+add.Given as goal
+
+abbrev pub invariant-add_list-loop-re : goal.invariant-add_list-loop-re
+invariant-add_list-loop-re l = (c d : ℕ)
+    → (are_alike l.sets.items c d && are_alike (sets_in (rest l.re-items l.re-index)) c d)
+    ≡ (are_alike l.fn.sets.items c d && are_alike (sets_in (trees_of (map view l.re-items))) c d)

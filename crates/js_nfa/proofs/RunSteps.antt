@@ -1,0 +1,105 @@
+-- Copies of one set of characters, one more gone through.
+use Rattle.std.proofs.Common.{◌≡◌, ℕ, zero, suc, ◌+◌, ◌-◌, ◌<◌, ◌≤◌, Bool, true, false, ◌&&◌, ◌||◌, nat_eq, nat_le, if◌then◌else◌, List, Option, refl, sym, ◌∙◌, ap, arith}
+use Rattle.std.proofs.Math.Bool.{or-false}
+use Rattle.std.proofs.lemmas.Bool.{lt-leb, le-leb}
+use Rattle.std.specs.Option.{is_none}
+use Rattle.patterns.specs.Tree.{one_of, repeated}
+use Rattle.words.specs.Position.{copies}
+use Rattle.state_laws.specs.Flow.{ends_here}
+use Rattle.js_nfa.specs.Walk.{begins_with, ends_after}
+use Rattle.js_nfa.proofs.EndsSteps.{Left, ends-init, ends-next}
+
+pub one_of-begins : (read : ℕ → Bool) (high : Option ℕ) (left base : ℕ) (again here was : Bool)
+    → again ≡ (is_none high && nat_eq left 0) → was ≡ read base
+    → (here || (again && was)) ≡ begins_with (is_none high) (λ at some. read at) left base here
+one_of-begins read high left base again here was e f =
+    by again here was
+    ∙ ap (λ x. if again then here || x else here) f
+    ∙ ap (λ x. if x then here || read base else here) e where
+      by : (again here was : Bool) → (here || (again && was)) ≡ (if again then here || was else here)
+      by true here was = refl
+      by false here was = or-false here
+
+-- whether a match can end after some of the copies, where n are left and i of them are gone through
+module _ (read : ℕ → Bool) (low : ℕ) where
+  abbrev pub after_run : (n i base : ℕ) (here ends : Bool) → Bool
+  after_run n i base here ends = ends_after (λ at some. read at) 1 low n i base here ends
+
+  -- where a run begins plays no part
+  pub run-here : (n i base : ℕ) (a b ends : Bool) → after_run n i base a ends ≡ after_run n i base b ends
+  run-here zero i base a b ends = refl
+  run-here (suc n) i base a b ends = refl
+
+  -- copies that more must follow
+  pub run-skip : (s n i base : ℕ) (here ends : Bool) → i + s < low
+      → after_run n i base here ends ≡ after_run (n - s) (i + s) (base + s) here ends
+  run-skip zero n i base here ends h =
+      ap (λ k. after_run k i base here ends) (same n)
+      ∙ ap (λ k. after_run (n - 0) k base here ends) (still i)
+      ∙ ap (λ k. after_run (n - 0) (i + 0) k here ends) (still base) where
+        same : (n : ℕ) → n ≡ n - 0
+        same n = omega arith
+
+        still : (n : ℕ) → n ≡ n + 0
+        still n = omega arith
+  run-skip (suc s) zero i base here ends h =
+      sym (ap (λ k. after_run k (i + suc s) (base + suc s) here ends) (none s)) where
+        none : (s : ℕ) → 0 - suc s ≡ 0
+        none s = omega arith
+  run-skip (suc s) (suc n) i base here ends h =
+      ap (after_run n (suc i) (base + 1) (read base))
+      (ap (λ x. ends || (x && read base)) (lt-leb low (suc i) (omega (arith, h))) ∙ or-false ends)
+      ∙ run-here n (suc i) (base + 1) (read base) here ends
+      ∙ run-skip s n (suc i) (base + 1) here ends (omega (arith, h))
+      ∙ ap (λ k. after_run (n - s) k (base + 1 + s) here ends) (shift i s)
+      ∙ ap (λ k. after_run (n - s) (i + suc s) k here ends) (shift_one base s)
+      ∙ ap (λ k. after_run k (i + suc s) (base + suc s) here ends) (less n s) where
+        less : (n s : ℕ) → n - s ≡ suc n - suc s
+        less n s = omega arith
+
+        shift : (i s : ℕ) → suc i + s ≡ i + suc s
+        shift i s = omega arith
+
+        shift_one : (i s : ℕ) → i + 1 + s ≡ i + suc s
+        shift_one i s = omega arith
+
+module _ (read : ℕ → Bool) (low : ℕ) (high : Option ℕ) (base : ℕ) (begins : Bool) where
+  -- what is left of the copies decides what the whole decides, for each set
+  abbrev pub Run : ℕ → ℕ → Bool → Type 0
+  Run n i ends =
+      (ranges : List (ℕ × ℕ)) (first last : Bool)
+      → Left first last read (one_of ranges) low high base begins (n - i) i (base + i) begins ends
+
+  pub run-init : (n s : ℕ) (ends : Bool) → n ≡ copies low high → s ≡ low - 1 → ends ≡ (nat_le low 0 && begins)
+      → Run n s ends
+  run-init n s ends e f g ranges first last =
+      sym (to_first low s f)
+      ∙ ends-init first last read (one_of ranges) low high base begins n ends e g where
+        to_first : (low s : ℕ) → s ≡ low - 1
+            → after_run read low (n - 0) 0 base begins ends ≡ after_run read low (n - s) s (base + s) begins ends
+        to_first zero s f =
+            let none : 0 ≡ s = omega (arith, f) in
+            let still : base ≡ base + 0 = omega arith in
+            ap (λ k. after_run read 0 (n - 0) 0 k begins ends) still
+            ∙ ap (λ k. after_run read 0 (n - k) k (base + k) begins ends) none
+        to_first (suc low) s f =
+            let all : n - 0 ≡ n = omega arith in
+            let at : 0 + s ≡ s = omega arith in
+            ap (λ k. after_run read (suc low) k 0 base begins ends) all
+            ∙ run-skip read (suc low) s n 0 base begins ends (omega (arith, f))
+            ∙ ap (λ k. after_run read (suc low) (n - s) k (base + s) begins ends) at
+
+  pub run-next : (n i : ℕ) (one ends : Bool) → i < n → low ≤ i + 1 → one ≡ read (base + i)
+      → Run n i ends → Run n (i + 1) (ends || one)
+  run-next n i one ends h must e run ranges first last =
+      run-here read low (n - (i + 1)) (i + 1) (base + (i + 1)) begins one (ends || one)
+      ∙ ends-next first last read (one_of ranges) low high base begins n i (base + i) (base + (i + 1)) begins one ends
+      (ends || one) h e (omega arith) (ap (λ x. ends || (x && one)) (sym (le-leb low (i + 1) must)))
+      (run ranges first last)
+
+  pub run-last : (n i : ℕ) (ends : Bool) → n ≤ i → Run n i ends → (ranges : List (ℕ × ℕ)) (first last : Bool)
+      → ends ≡ ends_here (repeated (one_of ranges) low high) first last read base begins
+  run-last n i ends past run ranges first last =
+      sym (ap (λ k. after_run read low k i (base + i) begins ends) (none n i past)) ∙ run ranges first last where
+        none : (n i : ℕ) → n ≤ i → n - i ≡ 0
+        none n i h = omega (arith, h)
