@@ -521,7 +521,7 @@ def digit_sets():
 
 BY_HAND = [
     (rows_of_length, lambda k: [n(k)], range(1, 6), [65535, 65536, 2**64 - 1]),
-    (rows_of_run, lambda k: [m('a{%d}' % k)], range(2, 7), [400]),
+    (rows_of_run, lambda k: [m('a{%d}' % k)], range(2, 7), [400, 16384]),
     (rows_of_word, lambda k: [w('a' * k)], range(1, 6), [5000]),
     (rows_of_starts, lambda k: [m('^a'), m('^b'), n(k)], range(1, 6), [21845, 21846]),
     (rows_of_window, lambda k: [m('a[ab]{%d}$' % k)], range(1, 6), [13, 15]),
