@@ -20,7 +20,7 @@ mod tests;
 pub use document::to_doc;
 pub use fault::{JsonFault, RefFault};
 pub use members::member;
-pub use place::at_pointer;
+pub use place::{at_pointer, element_index};
 pub use pointer::Pointer;
 pub use read::read_json;
 pub use reference::target;

@@ -45,11 +45,11 @@ fn element<'a>(list: &'a JsonList, token: &str) -> Option<&'a Json>
         ≡ place.child_at (chars token.now) (D.array (list_view list.now)) }
 {
     let items = list.as_slice();
-    items.get(index(token)?)
+    items.get(element_index(token)?)
 }
 
-/// The number of an element. One that no machine has is beyond every list.
-fn index(token: &str) -> Option<usize>
+/// The index that the token is, where it is one. An index that no machine has is beyond every list, and is told as none.
+pub fn element_index(token: &str) -> Option<usize>
     ensures { MatchOption result
         ((i : ℕ) → place.index_of (chars token.now) ≡ Some i → 2 ^ 64 ≤ i)
         (λ i. place.index_of (chars token.now) ≡ Some i) }

@@ -1,8 +1,7 @@
 //! Places in a JSON text (RFC 6901).
 //!
 //! A [`Pointer`] is a stack of tokens, which contracts see as the list of their scalar values, outermost
-//! first. The walk of a schema pushes a token on its way down and pops it on its way up. `text` and `copy`
-//! cost time in proportion to the pointer, and a push in proportion to its token.
+//! first. `text` and `copy` cost time in proportion to the pointer, and a push in proportion to its token.
 
 ghost use Rattle.std.specs.Prelude.{◌≡◌, ◌++◌, ◌∷◌, [], ℕ, List, IfOk, OnOk, OnErr};
 ghost use Rattle.std.specs.Prelude.{chars, decimal, encode_utf8_all, reverse, string_bytes};

@@ -1,6 +1,6 @@
 //! What is wrong first in a member of an object that has no reference: by the keyword that its name is.
 //!
-//! The reader of schemas is to stand on it. It takes the time of looking a keyword up and of checking its value.
+//! The reader of schemas stands on it. It takes the time of looking a keyword up and of checking its value.
 
 ghost use Rattle.std.specs.Prelude.{Some};
 ghost use Rattle.documents.specs.Json as D;

@@ -3,7 +3,7 @@
 //! Each check answers the fault that `keyword_fault` gives of the value at its place, or that memory was refused. It
 //! looks at the value itself, at the elements and names in it, and not at the schemas in it. It takes time in
 //! proportion to these, and memory for a pointer and for the trees of patterns, which it gives back. The reader of
-//! schemas is to stand on it.
+//! schemas stands on it.
 
 ghost use Rattle.std.specs.Prelude.{◌≡◌, ◌++◌, ◌∷◌, [], Some, option_map, IfOk};
 ghost use Rattle.documents.specs.Json as D;

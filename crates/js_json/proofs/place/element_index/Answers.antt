@@ -2,7 +2,7 @@ use Rattle.std.proofs.Common.{sym, ap, ◌∙◌}
 use Rattle.std.proofs.lemmas.Bool.{cond-false}
 use Rattle.documents.specs.Place.{is_index}
 use Rattle.js_json.proofs.PlaceLemmas.{index_of-parsed, index_of-chars}
-use Rattle.js_json.proofs.place.index.Goals as goal
+use Rattle.js_json.proofs.place.element_index.Goals as goal
 
 pub returns-then-is_index : goal.returns-then-is_index
 returns-then-is_index c =
