@@ -1,14 +1,16 @@
 -- Flags kept as the bits of words.
 --
 -- Key: `flags_of-push`, one more flag is one bit of one word.
-use Rattle.std.proofs.Common.{◌≡◌, ℕ, zero, suc, ◌+◌, ◌*◌, ◌/◌, ◌%◌, ◌^◌, ◌<◌, ◌≤◌, ◌≢◌, inl, inr, Bool, true, false, if◌then◌else◌, eqb, List, [], ◌∷◌, ◌++◌, length, replicate, get_or, set, max, refl, sym, ◌∙◌, ap, ap₂, arith, ext_get_or, get_or-set_same, get_or-set_other, append-nil, append_assoc}
+use Rattle.std.proofs.Common.{◌≡◌, ℕ, zero, suc, ◌+◌, ◌-◌, ◌*◌, ◌/◌, ◌%◌, ◌^◌, ◌<◌, ◌≤◌, ◌≢◌, inl, inr, Bool, true, false, if◌then◌else◌, eqb, List, [], ◌∷◌, ◌++◌, length, replicate, get_or, set, max, refl, sym, ◌∙◌, ap, ap₂, arith, ext_get_or, get_or-set_same, get_or-set_other, append-nil, append_assoc}
 use mir.Val.{bool_byte}
-use Rattle.std.specs.Prelude.{bit_and, slice_index}
+use Rattle.std.specs.Prelude.{bit_and, bit_or, slice_index}
 use Rattle.std.specs.Int.{bit_at}
 use Rattle.std.proofs.lemmas.Bool.{cases_eq, cases_lt}
 use Rattle.std.proofs.lemmas.List.{length-replicate, get_or-replicate, get_or_read}
 use Rattle.std.proofs.lemmas.List.FromFn.{length-map-range_with_len, get_or-map-range_with_len, map-range_with_len_more}
-use Rattle.std.proofs.lemmas.Nat.Bits.{shr_and_one, bit_at-zero, bit_at-lt}
+use Rattle.std.proofs.lemmas.Nat.{and_mask, div-add-mod', mod_below, shl_below}
+use Rattle.std.proofs.Math.Pow.{pow_mono}
+use Rattle.std.proofs.lemmas.Nat.Bits.{shr_and_one, bit_at-zero, bit_at-lt, bit_at_or, bit_at_above, bit_at_cat_low, bit_at_cat_high, ones_shr}
 use Rattle.state_laws.specs.Flow.{flag_at}
 use Rattle.js_nfa.specs.Marks.{Marks}
 use Rattle.js_nfa.specs.Bits.{bit_of, flags_of}
@@ -36,7 +38,7 @@ pub flags_of-none : (words : List ℕ) → flags_of words 0 ≡ []
 unfolding flags_of
 flags_of-none words = refl
 
-flags_of-more : (words : List ℕ) (len : ℕ) → flags_of words (len + 1) ≡ flags_of words len ++ bit_of words len ∷ []
+pub flags_of-more : (words : List ℕ) (len : ℕ) → flags_of words (len + 1) ≡ flags_of words len ++ bit_of words len ∷ []
 unfolding flags_of
 flags_of-more words len = map-range_with_len_more (bit_of words) 0 len len (omega arith)
 
@@ -205,3 +207,171 @@ no_bits-quiet words len top at below none p h =
       | inl within ↦ flag_at-flags_of words len p within ∙ none p (omega (arith, h, below))
       | inr past ↦ flag_at-beyond _ p (omega (arith, past, length-flags_of words len))
     ]
+
+-- ---- so many bits of one word, as a number
+pub positive : (k : ℕ) → 0 < 2 ^ k
+positive k = let least : 2 ^ 0 ≤ 2 ^ k = pow_mono {i = 0} {j = k} (omega arith) in omega (arith, least)
+
+pub bit_at-mod : (n k i : ℕ) → i < k → bit_at (n % 2 ^ k) i ≡ bit_at n i
+bit_at-mod n k i h =
+    sym (bit_at_cat_low (n / 2 ^ k) k (n % 2 ^ k) i h) ∙ ap (λ m. bit_at m i) (div-add-mod' n (2 ^ k))
+
+pub bit_at-div : (n k i : ℕ) → bit_at (n / 2 ^ k) i ≡ bit_at n (k + i)
+bit_at-div n k i =
+    let back : i ≡ k + i - k = omega arith in
+    ap (bit_at (n / 2 ^ k)) back
+    ∙ sym (bit_at_cat_high (n / 2 ^ k) k (n % 2 ^ k) (k + i) (mod_below n (2 ^ k) (positive k)) (omega arith))
+    ∙ ap (λ m. bit_at m (k + i)) (div-add-mod' n (2 ^ k))
+
+-- `word & (MAX >> (64 - count))`
+cut : (n count : ℕ) → count ≤ 64 → bit_and n ((2 ^ 64 - 1) / 2 ^ (64 - count)) ≡ n % 2 ^ count
+cut n count h =
+    let back : 64 - (64 - count) ≡ count = omega (arith, h) in
+    ap (bit_and n) (ones_shr 64 (64 - count) (omega arith) ∙ ap (λ k. 2 ^ k - 1) back)
+    ∙ and_mask n count
+
+pub cut-small : (n count : ℕ) → count ≤ 64 → bit_and n ((2 ^ 64 - 1) / 2 ^ (64 - count)) < 2 ^ count
+cut-small n count h =
+    let below = mod_below n (2 ^ count) (positive count) in omega (arith, cut n count h, below)
+
+module _ (words : List ℕ) (len top : ℕ) (below : top ≤ len) (none : NoBits words top) where
+  -- the flags are the bits, and none is set past the last flag
+  flag_at-bit : (p : ℕ) → flag_at (flags_of words len) p ≡ bit_of words p
+  flag_at-bit p = elim (cases_lt p len) as (λ _. flag_at (flags_of words len) p ≡ bit_of words p) [
+    | inl within ↦ flag_at-flags_of words len p within
+    | inr past ↦
+        flag_at-beyond _ p (omega (arith, past, length-flags_of words len)) ∙ sym (none p (omega (arith, past, below)))
+  ]
+
+  pub bits-read : (from count i word : ℕ) → from % 64 + count ≤ 64 → i < count → word ≡ slice_index words (from / 64)
+      → eqb (bit_at (bit_and (word / 2 ^ (from % 64)) ((2 ^ 64 - 1) / 2 ^ (64 - count))) i) 1
+      ≡ flag_at (flags_of words len) (from + i)
+  bits-read from count i word one h read =
+      let row : from / 64 ≡ (from + i) / 64 = omega (arith, one, h) in
+      let place : from % 64 + i ≡ (from + i) % 64 = omega (arith, one, h) in
+      ap (λ x. eqb (bit_at x i) 1) (cut (word / 2 ^ (from % 64)) count (omega (arith, one)))
+      ∙ ap (λ x. eqb x 1) (bit_at-mod (word / 2 ^ (from % 64)) count i h ∙ bit_at-div word (from % 64) i
+      ∙ ap (λ w. bit_at w (from % 64 + i)) read)
+      ∙ ap₂ (λ q r. eqb (bit_at (slice_index words q) r) 1) row place
+      ∙ sym (flag_at-bit (from + i))
+
+  pub bits-past : (from i : ℕ) → length words ≤ from / 64 → eqb (bit_at 0 i) 1 ≡ flag_at (flags_of words len) (from + i)
+  bits-past from i past =
+      ap (λ x. eqb x 1) (bit_at-zero i ∙ sym (bit_at-zero ((from + i) % 64)))
+      ∙ ap (λ w. eqb (bit_at w ((from + i) % 64)) 1) (sym (beyond words ((from + i) / 64) (omega (arith, past))))
+      ∙ sym (flag_at-bit (from + i)) where
+        beyond : (ws : List ℕ) (k : ℕ) → length ws ≤ k → slice_index ws k ≡ 0
+        beyond [] k h = refl
+        beyond (w ∷ ws) zero h = absurd (omega (arith, h))
+        beyond (w ∷ ws) (suc k) h = beyond ws k (omega (arith, h))
+
+  pub free-above : (i : ℕ) → len % 64 ≤ i → i < 64 → eqb (bit_at (slice_index words (len / 64)) i) 1 ≡ false
+  free-above i h l =
+      let row : len / 64 ≡ (len / 64 * 64 + i) / 64 = omega (arith, l) in
+      let place : i ≡ (len / 64 * 64 + i) % 64 = omega (arith, l) in
+      ap₂ (λ q r. eqb (bit_at (slice_index words q) r) 1) row place
+      ∙ none (len / 64 * 64 + i) (omega (arith, h, below))
+
+pub bit_unset : (bit : ℕ) → bit < 2 → eqb bit 1 ≡ false → bit ≡ 0
+bit_unset zero h e = refl
+bit_unset (suc zero) h e = absurd (cc e)
+bit_unset (suc (suc bit)) h e = absurd (omega (arith, h))
+
+-- ---- bits added to a word that has none from a place on
+module _ (word place bits : ℕ) (fits : bits * 2 ^ place < 2 ^ 64) where
+  whole : (bits * 2 ^ place) % 2 ^ 64 ≡ bits * 2 ^ place + 0
+  whole = omega (arith, fits)
+
+  pub bit_at-added_below : (i : ℕ) → i < place
+      → bit_at (bit_or word ((bits * 2 ^ place) % 2 ^ 64)) i ≡ bit_at word i
+  bit_at-added_below i h =
+      let none : bit_at ((bits * 2 ^ place) % 2 ^ 64) i ≡ 0 =
+      ap (λ x. bit_at x i) whole ∙ bit_at_cat_low bits place 0 i h ∙ bit_at-zero i in
+      let either = bit_at_or word ((bits * 2 ^ place) % 2 ^ 64) i in omega (arith, either, none)
+
+  pub bit_at-added_above : (i : ℕ) → place ≤ i → eqb (bit_at word i) 1 ≡ false
+      → bit_at (bit_or word ((bits * 2 ^ place) % 2 ^ 64)) i ≡ bit_at bits (i - place)
+  bit_at-added_above i h free =
+      let some : bit_at ((bits * 2 ^ place) % 2 ^ 64) i ≡ bit_at bits (i - place) =
+      ap (λ x. bit_at x i) whole ∙ bit_at_cat_high bits place 0 i (positive place) h in
+      let none = bit_unset (bit_at word i) (bit_at-lt word i) free in
+      let either = bit_at_or word ((bits * 2 ^ place) % 2 ^ 64) i in omega (arith, either, none, some)
+
+pub added-fits : (bits count place : ℕ) → bits < 2 ^ count → place + count ≤ 64 → bits * 2 ^ place < 2 ^ 64
+added-fits bits count place small one =
+    let below = shl_below bits count place small in
+    let most : 2 ^ (count + place) ≤ 2 ^ 64 = pow_mono {i = count + place} {j = 64} (omega (arith, one)) in omega (arith, below, most)
+
+module _ (words : List ℕ) (len word bits count : ℕ) (room : len + count ≤ 64 * length words) (some : 0 < count)
+    (one : len % 64 + count ≤ 64) (small : bits < 2 ^ count)
+    (lower : (i : ℕ) → i < len % 64 → bit_at word i ≡ bit_at (slice_index words (len / 64)) i)
+    (upper : (i : ℕ) → len % 64 ≤ i → i < 64 → bit_at word i ≡ bit_at bits (i - len % 64)) where
+  abbrev Longer : List ℕ
+  Longer = set words (len / 64) word
+
+  bit_of-here : (p : ℕ) → p / 64 ≡ len / 64 → bit_of Longer p ≡ eqb (bit_at word (p % 64)) 1
+  bit_of-here p row =
+      ap (λ x. eqb (bit_at (get_or Longer x 0) (p % 64)) 1) row
+      ∙ ap (λ x. eqb (bit_at x (p % 64)) 1) (get_or-set_same words (len / 64) word 0 (omega (arith, room, some)))
+
+  bit_of-elsewhere : (p : ℕ) → p / 64 ≢ len / 64 → bit_of Longer p ≡ bit_of words p
+  bit_of-elsewhere p other =
+      ap (λ x. eqb (bit_at x (p % 64)) 1) (get_or-set_other words (len / 64) (p / 64) word 0 other)
+
+  bit_of-before : (p : ℕ) → p < len → bit_of Longer p ≡ bit_of words p
+  bit_of-before p l = elim (cases_eq (p / 64) (len / 64)) as (λ _. bit_of Longer p ≡ bit_of words p) [
+    | inl row ↦
+        bit_of-here p row ∙ ap (λ x. eqb x 1) (lower (p % 64) (omega (arith, l, row)))
+        ∙ ap (λ x. eqb (bit_at (get_or words x 0) (p % 64)) 1) (sym row)
+    | inr other ↦ bit_of-elsewhere p other
+  ]
+
+  bit_of-added : (i : ℕ) → i < count → bit_of Longer (len + i) ≡ bit_of (bits ∷ []) i
+  bit_of-added i l =
+      let row : (len + i) / 64 ≡ len / 64 = omega (arith, l, one) in
+      let place : (len + i) % 64 - len % 64 ≡ i % 64 = omega (arith, l, one) in
+      let first : 0 ≡ i / 64 = omega (arith, l, one) in
+      bit_of-here (len + i) row
+      ∙ ap (λ x. eqb x 1) (upper ((len + i) % 64) (omega (arith, l, one)) (omega arith))
+      ∙ ap₂ (λ q r. eqb (bit_at (slice_index (bits ∷ []) q) r) 1) first place
+
+  pub no_bits-push_bits : NoBits words len → NoBits Longer (len + count)
+  no_bits-push_bits none p h = elim (cases_eq (p / 64) (len / 64)) as (λ _. bit_of Longer p ≡ false) [
+    | inl row ↦
+        bit_of-here p row
+        ∙ ap (λ x. eqb x 1) (upper (p % 64) (omega (arith, h, row)) (omega arith)
+        ∙ bit_at_above bits count (p % 64 - len % 64) small (omega (arith, h, row)))
+    | inr other ↦ bit_of-elsewhere p other ∙ none p (omega (arith, h))
+  ]
+
+  added : (n : ℕ) → n ≤ count → flags_of Longer (len + n) ≡ flags_of words len ++ flags_of (bits ∷ []) n
+  added zero h =
+      let still : len + 0 ≡ len = omega arith in
+      ap (flags_of Longer) still ∙ flags_of-same Longer words len bit_of-before
+      ∙ sym (append-nil (flags_of words len))
+      ∙ ap (λ z. flags_of words len ++ z) (sym (flags_of-none (bits ∷ [])))
+  added (suc n) h =
+      let more : len + suc n ≡ len + n + 1 = omega arith in
+      let next : n + 1 ≡ suc n = omega arith in
+      ap (flags_of Longer) more ∙ flags_of-more Longer (len + n)
+      ∙ ap₂ (λ fs f. fs ++ f ∷ []) (added n (omega (arith, h))) (bit_of-added n (omega (arith, h)))
+      ∙ append_assoc (flags_of words len) (flags_of (bits ∷ []) n) (bit_of (bits ∷ []) n ∷ [])
+      ∙ ap (λ z. flags_of words len ++ z)
+      (sym (flags_of-more (bits ∷ []) n) ∙ ap (flags_of (bits ∷ [])) next)
+
+  pub flags_of-push_bits : flags_of Longer (len + count) ≡ flags_of words len ++ flags_of (bits ∷ []) count
+  flags_of-push_bits = added count (omega arith)
+
+pub has_room_for : (words : List ℕ) (len count : ℕ) (s : Marks)
+    → record { flags = flags_of words len; room = 64 * length words } ≡ s
+    → length s.flags + count ≤ s.room → len + count ≤ 64 * length words
+has_room_for words len count s e h =
+    omega (arith, length-flags_of words len, ap (λ (s : Marks). length s.flags) e, ap Marks.room e, h)
+
+pub has_one_word : (words : List ℕ) (len count : ℕ) (s : Marks)
+    → record { flags = flags_of words len; room = 64 * length words } ≡ s
+    → length s.flags % 64 + count ≤ 64 → len % 64 + count ≤ 64
+has_one_word words len count s e h =
+    let same : length s.flags ≡ len =
+    sym (ap (λ (s : Marks). length s.flags) e) ∙ length-flags_of words len in
+    omega (arith, ap (λ k. k % 64) same, h)

@@ -1,24 +1,54 @@
 -- Copies of one set of characters, one more gone through.
-use Rattle.std.proofs.Common.{◌≡◌, ℕ, zero, suc, ◌+◌, ◌-◌, ◌<◌, ◌≤◌, Bool, true, false, ◌&&◌, ◌||◌, nat_eq, nat_le, if◌then◌else◌, List, Option, refl, sym, ◌∙◌, ap, arith}
-use Rattle.std.proofs.Math.Bool.{or-false}
+use Rattle.std.proofs.Common.{◌≡◌, ℕ, zero, suc, ◌+◌, ◌-◌, ◌<◌, ◌≤◌, Bool, true, false, not, ◌&&◌, ◌||◌, nat_le, List, [], ◌∷◌, ◌++◌, length, replicate, Option, Some, None, refl, sym, ◌∙◌, ap, arith}
+use Rattle.std.proofs.Math.Bool.{or-false, or_assoc, and-false, and-true}
 use Rattle.std.proofs.lemmas.Bool.{lt-leb, le-leb}
-use Rattle.std.specs.Option.{is_none}
+use Rattle.std.specs.Option.{is_none, is_some}
+use Rattle.patterns.specs.CharSet.{has}
 use Rattle.patterns.specs.Tree.{one_of, repeated}
 use Rattle.words.specs.Position.{copies}
-use Rattle.state_laws.specs.Flow.{ends_here}
-use Rattle.js_nfa.specs.Walk.{begins_with, ends_after}
+use Rattle.state_laws.specs.Flow.{ends_here, reads_next}
+use Rattle.js_nfa.specs.Walk.{ends_after, next_after, some_in, copies_begun}
+use Rattle.js_nfa.proofs.Through.{reads_repeated}
+use Rattle.js_nfa.proofs.CopiesLemmas.{next_after-same}
 use Rattle.js_nfa.proofs.EndsSteps.{Left, ends-init, ends-next}
 
-pub one_of-begins : (read : ℕ → Bool) (high : Option ℕ) (left base : ℕ) (again here was : Bool)
-    → again ≡ (is_none high && nat_eq left 0) → was ≡ read base
-    → (here || (again && was)) ≡ begins_with (is_none high) (λ at some. read at) left base here
-one_of-begins read high left base again here was e f =
-    by again here was
-    ∙ ap (λ x. if again then here || x else here) f
-    ∙ ap (λ x. if x then here || read base else here) e where
-      by : (again here was : Bool) → (here || (again && was)) ≡ (if again then here || was else here)
-      by true here was = refl
-      by false here was = or-false here
+pub none_of : (high : Option ℕ) (none : Bool) → is_some high ≡ not none → none ≡ is_none high
+none_of None true e = refl
+none_of None false e = absurd (cc e)
+none_of (Some n) true e = absurd (cc e)
+none_of (Some n) false e = refl
+
+-- the flags of all copies, where the set has the character and where it doesn't
+pub next_after-none : (again : Bool) (one : ℕ → Bool → Bool) (n base : ℕ) (here : Bool)
+    → next_after again (λ at some. false ∷ []) one 1 n base here ≡ replicate n false
+next_after-none again one zero base here = refl
+next_after-none again one (suc n) base here =
+    ap (λ z. false ∷ z) (next_after-none again one n (base + 1) (one base here))
+
+module _ (first : Bool) (read : ℕ → Bool) (c : ℕ) (ranges : List (ℕ × ℕ)) (low : ℕ) (high : Option ℕ) (n : ℕ)
+    (flags after : List Bool) (begins within : Bool) (size : n ≡ copies low high) (is : within ≡ has ranges c) where
+  pub run-reads_none : within ≡ false → after ≡ flags ++ replicate n false
+      → after ≡ flags ++ reads_next (repeated (one_of ranges) low high) first read c (length flags) begins
+  run-reads_none none e =
+      e ∙ ap (λ k. flags ++ replicate k false) size
+      ∙ ap (λ z. flags ++ z)
+      (sym (next_after-none (is_none high) (λ at some. read at) (copies low high) (length flags) begins)
+      ∙ sym (next_after-same (is_none high) (λ at some. (some && has ranges c) ∷ []) (λ at some. false ∷ [])
+      (λ at some. read at) (λ at some. read at) 1
+      (λ at some. ap (λ x. (some && x) ∷ []) (sym is ∙ none) ∙ ap (λ x. x ∷ []) (and-false some)) (λ at some. refl)
+      (copies low high) (length flags) begins)
+      ∙ reads_repeated first read c (one_of ranges) low high (length flags) begins)
+
+  pub run-reads_some : within ≡ true → after ≡ flags ++ copies_begun (is_none high) read n (length flags) begins
+      → after ≡ flags ++ reads_next (repeated (one_of ranges) low high) first read c (length flags) begins
+  run-reads_some some e =
+      e ∙ ap (λ k. flags ++ copies_begun (is_none high) read k (length flags) begins) size
+      ∙ ap (λ z. flags ++ z)
+      (sym (next_after-same (is_none high) (λ at b. (b && has ranges c) ∷ []) (λ at b. b ∷ [])
+      (λ at b. read at) (λ at b. read at) 1
+      (λ at b. ap (λ x. (b && x) ∷ []) (sym is ∙ some) ∙ ap (λ x. x ∷ []) (and-true b)) (λ at b. refl)
+      (copies low high) (length flags) begins)
+      ∙ reads_repeated first read c (one_of ranges) low high (length flags) begins)
 
 -- whether a match can end after some of the copies, where n are left and i of them are gone through
 module _ (read : ℕ → Bool) (low : ℕ) where
@@ -103,3 +133,16 @@ module _ (read : ℕ → Bool) (low : ℕ) (high : Option ℕ) (base : ℕ) (beg
       sym (ap (λ k. after_run read low k i (base + i) begins ends) (none n i past)) ∙ run ranges first last where
         none : (n i : ℕ) → n ≤ i → n - i ≡ 0
         none n i h = omega (arith, h)
+
+  -- the copies that are left, at once
+  pub run-rest : (k n i : ℕ) (ends : Bool) → n - i ≡ k → low ≤ i + 1 → Run n i ends
+      → (ranges : List (ℕ × ℕ)) (first last : Bool)
+      → (ends || some_in read k (base + i)) ≡ ends_here (repeated (one_of ranges) low high) first last read base begins
+  run-rest zero n i ends left must run ranges first last =
+      or-false ends ∙ run-last n i ends (omega (arith, left)) run ranges first last
+  run-rest (suc k) n i ends left must run ranges first last =
+      let next : base + i + 1 ≡ base + (i + 1) = omega arith in
+      ap (λ p. ends || (read (base + i) || some_in read k p)) next
+      ∙ sym (or_assoc ends (read (base + i)) (some_in read k (base + (i + 1))))
+      ∙ run-rest k n (i + 1) (ends || read (base + i)) (omega (arith, left)) (omega (arith, must))
+      (run-next n i (read (base + i)) ends (omega (arith, left)) must refl run) ranges first last

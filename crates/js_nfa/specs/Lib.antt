@@ -7,6 +7,7 @@ pub mod AtomView
 pub mod Marks
 pub mod Bits
 pub mod Walk
+pub mod Choices
 pub mod Done
 -- States as keys of a table.
 pub mod Fed

@@ -1,7 +1,7 @@
 -- The copies of a repeated tree, gone through one by one.
 --
 -- `one` goes through the copy whose first position is given, and says whether a match can end where that copy ends.
-use Rattle.std.specs.Prelude.{◌≡◌, ◌≤◌, ℕ, zero, suc, ◌+◌, Bool, false, ◌&&◌, ◌||◌, nat_eq, nat_le, if◌then◌else◌, List, [], ◌++◌}
+use Rattle.std.specs.Prelude.{◌≡◌, ◌≤◌, ℕ, zero, suc, ◌+◌, Bool, false, ◌&&◌, ◌||◌, nat_eq, nat_le, if◌then◌else◌, List, [], ◌∷◌, ◌++◌}
 use Rattle.patterns.specs.Tree.{Tree, Trees, empty, one_of, at_start, at_end, in_turn, either, repeated, no_trees, tree}
 
 -- the nodes of a tree
@@ -42,3 +42,12 @@ next_after again next one count zero base here = []
 next_after again next one count (suc n) base here =
     next base (begins_with again one n base here)
     ++ next_after again next one count n (base + count) (one base here)
+
+-- whether one of n positions was read
+abbrev pub some_in : (ℕ → Bool) → (n base : ℕ) → Bool
+some_in read zero base = false
+some_in read (suc n) base = read base || some_in read n (base + 1)
+
+-- for each of n copies of a set, whether it begins: where the one before was read
+abbrev pub copies_begun : (again : Bool) (read : ℕ → Bool) (n base : ℕ) (here : Bool) → List Bool
+copies_begun again read n base here = next_after again (λ at some. some ∷ []) (λ at some. read at) 1 n base here

@@ -4,17 +4,21 @@
 //! upper number may begin where it ends, so it is first looked through for that: where such repeats nest, each adds one
 //! look at what it repeats.
 
-ghost use Rattle.std.specs.Prelude.{◌≡◌, ◌+◌, ◌*◌, ◌<◌, ◌≤◌, ◌^◌, ◌&&◌, ◌||◌, ◌++◌, ◌∷◌, [], nat_eq, true, false, if◌then◌else◌, length};
+ghost use Rattle.std.specs.Prelude.{◌≡◌, ◌+◌, ◌*◌, ◌<◌, ◌≤◌, ◌^◌, ◌&&◌, ◌||◌, ◌++◌, ◌∷◌, [], nat_eq, true, false, if◌then◌else◌, length, Bool, ℕ, Some};
 ghost use Rattle.std.specs.Option.{is_none};
 ghost use Rattle.patterns.specs.CharSet.{has};
-ghost use Rattle.patterns.specs.Tree.{one_of, repeated};
+ghost use Rattle.patterns.specs.Tree.{Tree, Trees, one_of, either, repeated};
 ghost use Rattle.words.specs.Position.{count_of, count_in, copies};
 ghost use Rattle.state_laws.specs.Flow.{flag_at, ends_here, ends_here_in_turn, ends_here_of_one, reads_next, reads_next_in_turn, reads_next_of_one};
 ghost use Rattle.js_pattern.specs.View.{view, list_view};
+ghost use Rattle.js_nfa.specs.Choices.{IsChoice, IsOptionThat};
 
+use crate::choices::{Choice, choice_of, push_choices};
 use crate::count::{copies, count_positions};
-use crate::ends::{Edges, ends_here, ends_still, may_end};
+use crate::ends::{Edges, ends_here, ends_run, ends_still, may_end};
+use crate::options::{option_has, push_options};
 use crate::position_set::PositionSet;
+use crate::runs::{has_some, push_copies};
 use js_pattern::{CharSet, Re, ReList};
 
 /// The character that comes next, and whether it is the word's first.
@@ -201,7 +205,8 @@ fn advance_of_one(
     ends
 }
 
-/// The tree so often at least, and so often at most: copy after copy, up to one from which on nothing is going on.
+/// The tree so often at least, and so often at most. Where each copy is one position, or a choice, the character is
+/// looked up once for all copies.
 #[cycle(advance)]
 fn advance_repeated(
     inner: &Re,
@@ -223,6 +228,38 @@ fn advance_repeated(
     if let Re::Set(set) = inner {
         return advance_run(set, low, high, next, read, begins, reads);
     }
+    if let Re::Alt(list) = inner {
+        if let Some(choice) = choice_of(list, next.character) {
+            return advance_choices(choice, low, high, read, begins, reads);
+        }
+    }
+    if let Some(most) = high {
+        if let Some(has) = option_has(inner, next.character) {
+            return advance_options(has, low, most, read, begins, reads);
+        }
+    }
+    advance_copies(inner, low, high, next, read, begins, reads)
+}
+
+/// The same for each tree: copy after copy, up to one from which on nothing is going on.
+#[cycle(advance)]
+fn advance_copies(
+    inner: &Re,
+    low: u32,
+    high: Option<u32>,
+    next: Next,
+    read: &PositionSet,
+    begins: bool,
+    reads: &mut PositionSet,
+) -> bool
+    requires room { length reads.old.flags + copies low high * count_of (view inner.now) ≤ reads.old.room }
+    requires small { length reads.old.flags + copies low high * count_of (view inner.now) ≤ 16384 }
+    ensures ends { result ≡ ends_here (repeated (view inner.now) low high) next.first false (flag_at
+        read.now.flags) (length reads.old.flags) begins }
+    ensures flags { reads.new.flags ≡ reads.old.flags ++ reads_next (repeated (view
+        inner.now) low high) next.first (flag_at read.now.flags) next.character (length reads.old.flags) begins }
+    ensures room { reads.new.room ≡ reads.old.room }
+{
     let count = copies(low, high);
     let base = reads.len();
     let mut here = begins;
@@ -265,21 +302,12 @@ fn advance_run(
     ensures room { reads.new.room ≡ reads.old.room }
 {
     let count = copies(low, high);
-    let has = set.contains(next.character);
-    let base = reads.len();
-    let mut here = begins;
-    let mut ends = may_end(low, 0, begins);
-    for i in 0..count {
-        let again = comes_again(high, count - (i + 1));
-        let was = read.contains(base + i as usize);
-        reads.push((here | again & was) & has);
-        here = was;
-        ends = ends | may_end(low, i + 1, here);
-        if read.has_none_from(base + i as usize + 1) && !here {
-            reads.push_none((count - (i + 1)) as usize);
-            return ends;
-        }
+    let ends = ends_run(low, high, read, reads.len(), begins).ends;
+    if !set.contains(next.character) {
+        reads.push_none(count as usize);
+        return ends;
     }
+    push_copies(count as usize, high.is_none(), read, begins, reads);
     ends
 }
 
@@ -288,6 +316,67 @@ fn comes_again(high: Option<u32>, left: u32) -> bool
     ensures { result ≡ is_none high && nat_eq left 0 }
 {
     high.is_none() && left == 0
+}
+
+/// The same for a choice of sets, which are asked once for all copies.
+fn advance_choices(
+    choice: Choice,
+    low: u32,
+    high: Option<u32>,
+    read: &PositionSet,
+    begins: bool,
+    reads: &mut PositionSet,
+) -> bool
+    requires some { 0 < choice.count }
+    requires few { choice.count ≤ 64 }
+    requires bits { choice.bits < 2 ^ choice.count }
+    requires room { length reads.old.flags + copies low high * choice.count ≤ reads.old.room }
+    requires small { length reads.old.flags + copies low high * choice.count ≤ 16384 }
+    ensures ends { (ts : Trees) (c : ℕ) (first : Bool) → IsChoice ts c choice.count choice.bits
+        → result ≡ ends_here (repeated (either ts) low high) first false (flag_at read.now.flags) (length
+        reads.old.flags) begins }
+    ensures flags { (ts : Trees) (c : ℕ) (first : Bool) → IsChoice ts c choice.count choice.bits
+        → reads.new.flags ≡ reads.old.flags ++ reads_next (repeated (either ts) low high) first (flag_at
+        read.now.flags) c (length reads.old.flags) begins }
+    ensures room { reads.new.room ≡ reads.old.room }
+{
+    let count = copies(low, high) as usize;
+    let skipped = low.saturating_sub(1) as usize;
+    let from = reads.len() + skipped * choice.count;
+    let left = count.saturating_sub(skipped) * choice.count;
+    let ends = may_end(low, 0, begins) | has_some(read, from, left);
+    push_choices(choice, count, high.is_none(), read, begins, reads);
+    ends
+}
+
+/// The same for a set that may be left out, of which `has` says whether it has the character. A match can end where one
+/// can begin, and after each copy that was read.
+fn advance_options(
+    has: bool,
+    low: u32,
+    high: u32,
+    read: &PositionSet,
+    begins: bool,
+    reads: &mut PositionSet,
+) -> bool
+    requires room { length reads.old.flags + high ≤ reads.old.room }
+    requires small { length reads.old.flags + high ≤ 16384 }
+    ensures ends { (t : Tree) (c : ℕ) (first : Bool) → IsOptionThat has t c
+        → result ≡ ends_here (repeated t low (Some high)) first false (flag_at read.now.flags) (length
+        reads.old.flags) begins }
+    ensures flags { (t : Tree) (c : ℕ) (first : Bool) → IsOptionThat has t c
+        → reads.new.flags ≡ reads.old.flags ++ reads_next (repeated t low (Some high)) first (flag_at
+        read.now.flags) c (length reads.old.flags) begins }
+    ensures room { reads.new.room ≡ reads.old.room }
+{
+    let some = begins | has_some(read, reads.len(), high as usize);
+    let ends = may_end(low, high, some);
+    if has {
+        push_options(high as usize, read, begins, reads);
+        return ends;
+    }
+    reads.push_none(high as usize);
+    ends
 }
 
 /// Whether a match of a copy can begin: where the one before ends, or, where it may come again, where it ends itself.

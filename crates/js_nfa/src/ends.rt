@@ -12,6 +12,7 @@ ghost use Rattle.js_pattern.specs.View.{view, list_view};
 
 use crate::count::{copies, count_positions};
 use crate::position_set::PositionSet;
+use crate::runs::has_some;
 use js_pattern::{Re, ReList};
 
 /// Whether the word begins where it ends, and whether no character comes next.
@@ -206,19 +207,23 @@ fn ends_repeated(
 
 /// The same for a set of characters, whichever it is: a match can end after the last copy that must come, and after
 /// those that follow it.
-fn ends_run(low: u32, high: Option<u32>, read: &PositionSet, base: usize, begins: bool) -> Passed
+pub(crate) fn ends_run(
+    low: u32,
+    high: Option<u32>,
+    read: &PositionSet,
+    base: usize,
+    begins: bool,
+) -> Passed
     requires { base + copies low high ≤ 16384 }
     ensures ends { (ranges : List (ℕ × ℕ)) (first last : Bool) → result.ends
         ≡ ends_here (repeated (one_of ranges) low high) first last (flag_at read.now.flags) base begins }
     ensures base { result.base ≡ base + copies low high }
 {
     let count = copies(low, high);
-    let mut ends = may_end(low, 0, begins);
-    for i in low.saturating_sub(1)..count {
-        ends = ends | read.contains(base + i as usize);
-    }
+    let skipped = low.saturating_sub(1);
+    let left = count.saturating_sub(skipped) as usize;
     Passed {
-        ends,
+        ends: may_end(low, 0, begins) | has_some(read, base + skipped as usize, left),
         base: base + count as usize,
     }
 }

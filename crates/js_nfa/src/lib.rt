@@ -8,6 +8,7 @@
 
 mod advance;
 mod atom;
+mod choices;
 mod count;
 mod done;
 mod ends;
@@ -15,7 +16,9 @@ mod fault;
 mod find;
 mod make;
 mod nfa;
+mod options;
 mod position_set;
+mod runs;
 mod scratch;
 mod state;
 mod state_set;

@@ -1,9 +1,10 @@
 //! Sets of positions, filled in the order of the positions.
 
-ghost use Rattle.std.specs.Prelude.{◌≡◌, ◌≢◌, ◌+◌, ◌*◌, ◌<◌, ◌≤◌, ◌++◌, ◌∷◌, [], length, replicate, false, IfOk, IsTrue, ◌↔◌, ◌==◌, ℕ};
+ghost use Rattle.std.specs.Prelude.{◌≡◌, ◌≢◌, ◌+◌, ◌-◌, ◌*◌, ◌%◌, ◌^◌, ◌<◌, ◌≤◌, ◌++◌, ◌∷◌, [], length, replicate, false, IfOk, IsTrue, ◌↔◌, ◌==◌, ℕ};
 ghost use Rattle.std.specs.Int.{bit_at};
 ghost use Rattle.words.specs.PatternState.{numbers_from};
 ghost use Rattle.state_laws.specs.Flow.{flag_at};
+ghost use Rattle.js_nfa.specs.Bits.{flags_of};
 ghost use Rattle.js_nfa.specs.Walk.{Quiet};
 
 use js_doc::Memory;
@@ -95,6 +96,37 @@ impl PositionSet {
         self.len += count;
     }
 
+    /// The flags of so many positions, whose bits are in one word, from the lowest bit of a number on.
+    pub(crate) fn bits(&self, from: usize, count: usize) -> u64
+        requires { from % 64 + count ≤ 64 }
+        ensures bits { (i : ℕ) → i < count → (bit_at result i == 1) ≡ flag_at self.now.flags (from + i) }
+        ensures small { result < 2 ^ count }
+    {
+        if count == 0 {
+            return 0;
+        }
+        let index = from / 64;
+        if index >= self.words.len() {
+            return 0;
+        }
+        (self.words[index] >> (from % 64)) & (u64::MAX >> (64 - count))
+    }
+
+    /// So many flags, whose bits come into one word, from the lowest bit of a number on.
+    pub(crate) fn push_bits(&mut self, bits: u64, count: usize)
+        requires room { length self.old.flags + count ≤ self.old.room }
+        requires word { length self.old.flags % 64 + count ≤ 64 }
+        requires some { 0 < count }
+        requires small { bits < 2 ^ count }
+        ensures flags { self.new.flags ≡ self.old.flags ++ flags_of (bits ∷ []) count }
+        ensures room { self.new.room ≡ self.old.room }
+    {
+        let word = self.words[self.len / 64];
+        self.words[self.len / 64] = with_bits(word, self.len % 64, bits);
+        self.len += count;
+        self.top = self.len;
+    }
+
     /// Whether no position from this one on is seen to be in the set.
     pub(crate) fn has_none_from(&self, position: usize) -> bool
         ensures { IsTrue result → Quiet (flag_at self.now.flags) position }
@@ -166,4 +198,15 @@ fn with_bit(word: u64, place: usize, flag: bool) -> u64
 {
     let bit = 1u64 << place;
     if flag { word | bit } else { word & !bit }
+}
+
+/// The word with more bits from a place on, where it has none.
+fn with_bits(word: u64, place: usize, bits: u64) -> u64
+    requires place { place < 64 }
+    requires fits { bits * 2 ^ place < 2 ^ 64 }
+    requires free { (i : ℕ) → place ≤ i → i < 64 → (bit_at word i == 1) ≡ false }
+    ensures below { (i : ℕ) → i < place → bit_at result i ≡ bit_at word i }
+    ensures above { (i : ℕ) → place ≤ i → i < 64 → bit_at result i ≡ bit_at bits (i - place) }
+{
+    word | bits << place
 }

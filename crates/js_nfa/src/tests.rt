@@ -1,7 +1,8 @@
-//! The most positions that a pattern may have, and where a match is done.
+//! The most positions that a pattern may have, where a match is done, and many copies.
 
 use crate::{NfaFault, Scratch, finds, positions};
 use js_pattern::read_pattern;
+use std::alloc::Global;
 use std::test::Fail;
 
 #[test]
@@ -42,4 +43,43 @@ fn done_at_the_last_copy(rt: HostRuntime) -> Result<(), Fail> {
     let missed = ['b', 'c', 'a', 'b', 'c', 'b', 'a'];
     assert!(rt; !finds(&nfa, missed.as_slice(), &mut scratch));
     Ok(())
+}
+
+/// Seventy copies take more than one word of flags.
+#[test]
+fn copies_in_two_words(rt: HostRuntime) -> Result<(), Fail> {
+    let mut word = vec![in rt.alloc(); 'a'; 70]?;
+    word.push('0')?;
+    let found = [
+        "[a-z]{70}0",
+        "^a{65,}0",
+        "^(?:a|b){70}0$",
+        "^(?:a|b){65,}0",
+        "^(?:a?){70}0$",
+    ];
+    for pattern in found {
+        assert!(rt; is_found(rt.alloc(), pattern, word.as_slice())?);
+    }
+    let missed = [
+        "[a-z]{71}0",
+        "^a{71,}0",
+        "^(?:a|b){69}0$",
+        "^(?:a|b){71,}0",
+        "^(?:a?){69}0$",
+    ];
+    for pattern in missed {
+        assert!(rt; !is_found(rt.alloc(), pattern, word.as_slice())?);
+    }
+    Ok(())
+}
+
+fn is_found(alloc: Global, pattern: &str, word: &[char]) -> Result<bool, Fail> {
+    let Ok(re) = read_pattern(alloc, pattern) else {
+        return Err("no pattern")?;
+    };
+    let Ok(nfa) = positions(alloc, &re) else {
+        return Err("no automaton")?;
+    };
+    let mut scratch = Scratch::room(alloc, &nfa)?;
+    Ok(finds(&nfa, word, &mut scratch))
 }

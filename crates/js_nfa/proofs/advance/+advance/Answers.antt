@@ -1,10 +1,10 @@
-use Rattle.std.proofs.Common.{◌≡◌, ◌+◌, ◌-◌, ◌*◌, ◌||◌, ◌∙◌, false, length, refl, sym, ap, subst, arith}
-use Rattle.patterns.specs.Tree.{one_of}
+use Rattle.std.proofs.Common.{◌≡◌, ◌+◌, ◌-◌, ◌*◌, ◌||◌, ◌∙◌, ◌++◌, false, length, refl, sym, ap, subst, arith}
+use Rattle.patterns.specs.Tree.{one_of, either, repeated}
 use Rattle.words.specs.Position.{count_of, count_in}
-use Rattle.state_laws.specs.Flow.{flag_at}
+use Rattle.state_laws.specs.Flow.{flag_at, ends_here, reads_next}
 use Rattle.js_pattern.specs.declared.re.Re.{fold-roll-Re}
-use Rattle.js_pattern.specs.declared.re.Re.TheVariants.{rolls-Set}
-use Rattle.js_pattern.specs.View.{view}
+use Rattle.js_pattern.specs.declared.re.Re.TheVariants.{rolls-Set, rolls-Alt}
+use Rattle.js_pattern.specs.View.{view, list_view}
 use Rattle.js_nfa.specs.Walk.{Quiet, list_nodes}
 use Rattle.js_nfa.proofs.Items.{nodes-item}
 use Rattle.js_nfa.proofs.Quiet.{ends-none, reads-none}
@@ -107,8 +107,42 @@ advance_of_one-loop-re-preserved t c =
       }
     ]
 
-pub advance_repeated-loop-i-init : goal.advance_repeated-loop-i-init
-advance_repeated-loop-i-init t c = record {
+pub advance_repeated-returns-in-Some : goal.advance_repeated-returns-in-Some
+advance_repeated-returns-in-Some t c =
+    let read = flag_at c.args.read.now.flags in
+    let start = c.args.reads.now.flags in
+    let is : view c.args.inner.now ≡ either (list_view c.in-Alt.list) =
+    ap view (c.in-Alt.is ∙ sym (rolls-Alt c.in-Alt.list)) ∙ fold-roll-Re _ _ _ _ _ in
+    record {
+      ends = c.advance_choices.ensures.ends (list_view c.in-Alt.list) c.args.next.character c.args.next.first
+          c.in-Some.ensures
+          ∙ ap (λ s. ends_here (repeated s c.args.low c.args.high) c.args.next.first false read (length start)
+          c.args.begins) (sym is);
+      flags = c.advance_choices.ensures.flags (list_view c.in-Alt.list) c.args.next.character c.args.next.first
+          c.in-Some.ensures
+          ∙ ap (λ s. start ++ reads_next (repeated s c.args.low c.args.high) c.args.next.first read
+          c.args.next.character (length start) c.args.begins) (sym is);
+      room = c.advance_choices.ensures.room;
+    }
+
+pub advance_repeated-returns-in-Some-option_has : goal.advance_repeated-returns-in-Some-option_has
+advance_repeated-returns-in-Some-option_has t c =
+    let read = flag_at c.args.read.now.flags in
+    let start = c.args.reads.now.flags in
+    record {
+      ends = c.advance_options.ensures.ends (view c.args.inner.now) c.args.next.character c.args.next.first
+          c.in-Some-option_has.ensures
+          ∙ ap (λ high. ends_here (repeated (view c.args.inner.now) c.args.low high) c.args.next.first false read
+          (length start) c.args.begins) (sym c.in-Some-high.is);
+      flags = c.advance_options.ensures.flags (view c.args.inner.now) c.args.next.character c.args.next.first
+          c.in-Some-option_has.ensures
+          ∙ ap (λ high. start ++ reads_next (repeated (view c.args.inner.now) c.args.low high) c.args.next.first read
+          c.args.next.character (length start) c.args.begins) (sym c.in-Some-high.is);
+      room = c.advance_options.ensures.room;
+    }
+
+pub advance_copies-loop-i-init : goal.advance_copies-loop-i-init
+advance_copies-loop-i-init t c = record {
   room = refl;
   count = E.left-init (length c.args.reads.now.flags) c.copies-count.result (count_of (view c.args.inner.now));
   first = λ e. refl;
@@ -119,8 +153,8 @@ advance_repeated-loop-i-init t c = record {
       c.args.low c.args.high c.args.reads.now.flags c.args.begins c.copies-count.result c.copies-count.ensures;
 }
 
-pub advance_repeated-returns-then-after-base-clause-ends : goal.advance_repeated-returns-then-after-base-clause-ends
-advance_repeated-returns-then-after-base-clause-ends t c =
+pub advance_copies-returns-then-after-base-clause-ends : goal.advance_copies-returns-then-after-base-clause-ends
+advance_copies-returns-then-after-base-clause-ends t c =
     let begins = A.begins-is c.args.next.first (flag_at c.args.read.now.flags) c.args.next.character
     (view c.args.inner.now) c.args.low c.args.high c.args.reads.now.flags c.args.begins
     (c.copies-count.result - (c.loop-i.i + 1)) (length c.loop-i.reads.flags) c.len-at.result c.comes_again-again.result
@@ -140,16 +174,16 @@ advance_repeated-returns-then-after-base-clause-ends t c =
     c.advance-one.result begins c.advance-one.ensures.ends)
     c.ends_still.ensures
 
-pub advance_repeated-returns-then-after-base-clause-flags : goal.advance_repeated-returns-then-after-base-clause-flags
-advance_repeated-returns-then-after-base-clause-flags t c =
+pub advance_copies-returns-then-after-base-clause-flags : goal.advance_copies-returns-then-after-base-clause-flags
+advance_copies-returns-then-after-base-clause-flags t c =
     A.reads-nowhere c.args.next.first (flag_at c.args.read.now.flags) c.args.next.character
     (view c.args.inner.now) c.args.low c.args.high c.args.reads.now.flags c.args.begins c.copies-count.result
     c.loop-i.i c.loop-i.reads.flags c.advance-one.new.reads.flags c.loop-i.here c.begins_copy-start.result
     c.loop-i.invariant.count (sym c.len-after.ensures ∙ c.if-after-base.true ∙ c.len-base.ensures)
     c.advance-one.ensures.flags c.loop-i.invariant.flags
 
-pub advance_repeated-overflow_mul-count : goal.advance_repeated-overflow_mul-count
-advance_repeated-overflow_mul-count t c =
+pub advance_copies-overflow_mul-count : goal.advance_copies-overflow_mul-count
+advance_copies-overflow_mul-count t c =
     let longer = A.length-next c.args.next.first (flag_at c.args.read.now.flags) c.args.next.character
     (view c.args.inner.now) c.loop-i.reads.flags c.advance-one.new.reads.flags (length c.loop-i.reads.flags)
     c.begins_copy-start.result c.advance-one.ensures.flags in
@@ -164,8 +198,8 @@ advance_repeated-overflow_mul-count t c =
     let all = ap (λ k. k * each) c.copies-count.ensures in
     omega (arith, rest, left, all, c.requires.small)
 
-pub advance_repeated-push_none-requires : goal.advance_repeated-push_none-requires
-advance_repeated-push_none-requires t c =
+pub advance_copies-push_none-requires : goal.advance_copies-push_none-requires
+advance_copies-push_none-requires t c =
     let longer = A.length-next c.args.next.first (flag_at c.args.read.now.flags) c.args.next.character
     (view c.args.inner.now) c.loop-i.reads.flags c.advance-one.new.reads.flags (length c.loop-i.reads.flags)
     c.begins_copy-start.result c.advance-one.ensures.flags in
@@ -180,8 +214,8 @@ advance_repeated-push_none-requires t c =
     let all = ap (λ k. k * each) c.copies-count.ensures in
     omega (arith, rest, left, all, c.requires.room, c.advance-one.ensures.room, c.loop-i.invariant.room)
 
-pub advance_repeated-returns-then-not-here : goal.advance_repeated-returns-then-not-here
-advance_repeated-returns-then-not-here t c =
+pub advance_copies-returns-then-not-here : goal.advance_copies-returns-then-not-here
+advance_copies-returns-then-not-here t c =
     let longer = A.length-next c.args.next.first (flag_at c.args.read.now.flags) c.args.next.character
     (view c.args.inner.now) c.loop-i.reads.flags c.advance-one.new.reads.flags (length c.loop-i.reads.flags)
     c.begins_copy-start.result c.advance-one.ensures.flags in
@@ -221,8 +255,8 @@ advance_repeated-returns-then-not-here t c =
       room = c.push_none.ensures.room ∙ c.advance-one.ensures.room ∙ c.loop-i.invariant.room;
     }
 
-pub advance_repeated-loop-i-preserved : goal.advance_repeated-loop-i-preserved
-advance_repeated-loop-i-preserved t c =
+pub advance_copies-loop-i-preserved : goal.advance_copies-loop-i-preserved
+advance_copies-loop-i-preserved t c =
     let begins = A.begins-is c.args.next.first (flag_at c.args.read.now.flags) c.args.next.character
     (view c.args.inner.now) c.args.low c.args.high c.args.reads.now.flags c.args.begins
     (c.copies-count.result - (c.loop-i.i + 1)) (length c.loop-i.reads.flags) c.len-at.result c.comes_again-again.result

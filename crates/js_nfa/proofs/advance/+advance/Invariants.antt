@@ -22,6 +22,9 @@ decreases-advance_of_one l = 3 * list_nodes (list_view l.list.now)
 abbrev pub decreases-advance_repeated : goal.decreases-advance_repeated
 decreases-advance_repeated l = 3 * nodes (view l.inner.now) + 2
 
+abbrev pub decreases-advance_copies : goal.decreases-advance_copies
+decreases-advance_copies l = 3 * nodes (view l.inner.now) + 1
+
 abbrev pub invariant-advance_in_turn-loop-re : goal.invariant-advance_in_turn-loop-re
 invariant-advance_in_turn-loop-re l = record {
   room : l.reads.room ≡ l.initial.reads.room;
@@ -36,8 +39,8 @@ invariant-advance_of_one-loop-re l = record {
       l.re-index l.reads.flags l.ends;
 }
 
-abbrev pub invariant-advance_repeated-loop-i : goal.invariant-advance_repeated-loop-i
-invariant-advance_repeated-loop-i l = record {
+abbrev pub invariant-advance_copies-loop-i : goal.invariant-advance_copies-loop-i
+invariant-advance_copies-loop-i l = record {
   room : l.reads.room ≡ l.initial.reads.room;
   count : length l.reads.flags + (l.count - l.i) * count_of (view l.inner)
       ≡ length l.initial.reads.flags + l.count * count_of (view l.inner);
