@@ -110,13 +110,13 @@ fn add_keywords(row: &mut Vec<u32>, keywords: &Keywords) -> Result<(), Memory>
         ++ (lists all k.all_of ++ lists all k.any_of ++ lists all k.one_of ++ lists one k.not
         ++ lists of_needs k.dependencies)) }
 {
-    add_list(row, &keywords.all_of)?;
-    add_list(row, &keywords.any_of)?;
-    add_list(row, &keywords.one_of)?;
-    if let Some(target) = keywords.not {
+    add_list(row, &keywords.in_place.all_of)?;
+    add_list(row, &keywords.in_place.any_of)?;
+    add_list(row, &keywords.in_place.one_of)?;
+    if let Some(target) = keywords.in_place.not {
         row.push(target)?;
     }
-    if let Some(dependencies) = &keywords.dependencies {
+    if let Some(dependencies) = &keywords.objects.dependencies {
         add_dependencies(row, dependencies)?;
     }
     Ok(())

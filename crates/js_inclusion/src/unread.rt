@@ -41,34 +41,49 @@ fn unread_keyword(form: &Form) -> Option<Keyword>
 fn first_other(k: &Keywords) -> Option<Keyword>
     ensures { option_map keyword_name result ≡ first_marked (other_keywords (keywords_view k.now)) }
 {
+    let any = &*k.any;
+    let numbers = &*k.numbers;
+    let strings = &*k.strings;
+    let arrays = &*k.arrays;
+    let objects = &*k.objects;
+    let in_place = &*k.in_place;
     let marked = [
-        (k.additional_items.is_some(), Keyword::AdditionalItems),
+        (arrays.additional_items.is_some(), Keyword::AdditionalItems),
         (
-            k.additional_properties.is_some(),
+            objects.additional_properties.is_some(),
             Keyword::AdditionalProperties,
         ),
-        (k.constant.is_some(), Keyword::Const),
-        (k.contains.is_some(), Keyword::Contains),
-        (k.dependencies.is_some(), Keyword::Dependencies),
-        (k.enumeration.is_some(), Keyword::Enum),
-        (k.exclusive_maximum.is_some(), Keyword::ExclusiveMaximum),
-        (k.exclusive_minimum.is_some(), Keyword::ExclusiveMinimum),
-        (k.items.is_some(), Keyword::Items),
-        (k.max_items.is_some(), Keyword::MaxItems),
-        (k.max_length.is_some(), Keyword::MaxLength),
-        (k.max_properties.is_some(), Keyword::MaxProperties),
-        (k.maximum.is_some(), Keyword::Maximum),
-        (k.min_items.is_some(), Keyword::MinItems),
-        (k.min_length.is_some(), Keyword::MinLength),
-        (k.min_properties.is_some(), Keyword::MinProperties),
-        (k.minimum.is_some(), Keyword::Minimum),
-        (k.multiple_of.is_some(), Keyword::MultipleOf),
-        (k.one_of.is_some(), Keyword::OneOf),
-        (k.pattern.is_some(), Keyword::Pattern),
-        (k.pattern_properties.is_some(), Keyword::PatternProperties),
-        (k.properties.is_some(), Keyword::Properties),
-        (k.property_names.is_some(), Keyword::PropertyNames),
-        (k.required.is_some(), Keyword::Required),
+        (any.constant.is_some(), Keyword::Const),
+        (arrays.contains.is_some(), Keyword::Contains),
+        (objects.dependencies.is_some(), Keyword::Dependencies),
+        (any.enumeration.is_some(), Keyword::Enum),
+        (
+            numbers.exclusive_maximum.is_some(),
+            Keyword::ExclusiveMaximum,
+        ),
+        (
+            numbers.exclusive_minimum.is_some(),
+            Keyword::ExclusiveMinimum,
+        ),
+        (arrays.items.is_some(), Keyword::Items),
+        (arrays.max_items.is_some(), Keyword::MaxItems),
+        (strings.max_length.is_some(), Keyword::MaxLength),
+        (objects.max_properties.is_some(), Keyword::MaxProperties),
+        (numbers.maximum.is_some(), Keyword::Maximum),
+        (arrays.min_items.is_some(), Keyword::MinItems),
+        (strings.min_length.is_some(), Keyword::MinLength),
+        (objects.min_properties.is_some(), Keyword::MinProperties),
+        (numbers.minimum.is_some(), Keyword::Minimum),
+        (numbers.multiple_of.is_some(), Keyword::MultipleOf),
+        (in_place.one_of.is_some(), Keyword::OneOf),
+        (strings.pattern.is_some(), Keyword::Pattern),
+        (
+            objects.pattern_properties.is_some(),
+            Keyword::PatternProperties,
+        ),
+        (objects.properties.is_some(), Keyword::Properties),
+        (objects.property_names.is_some(), Keyword::PropertyNames),
+        (objects.required.is_some(), Keyword::Required),
     ];
     first_marked(&marked)
 }

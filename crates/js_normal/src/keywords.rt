@@ -31,8 +31,9 @@ use crate::values::value_node;
 use js_algebra::{NameList, NameSet, Node, PatternList, Pos, PosList};
 use js_doc::{Doc, DocList, Memory, StrList};
 use js_schema::{
-    Dependency, DependencyList, EntryList, ItemsPart, Keywords, Needs, PatternPropertyList,
-    PropertyList,
+    AnyKeywords, ArrayKeywords, Dependency, DependencyList, EntryList, InPlaceKeywords, ItemsPart,
+    Keywords, Needs, NumberKeywords, ObjectKeywords, PatternPropertyList, PropertyList,
+    StringKeywords,
 };
 use std::alloc::Global;
 
@@ -65,9 +66,10 @@ fn any_nodes(
     ensures { OnOk result (state_of builder.new named.new.items
         ≡ run (W.any_nodes tree_of (keywords_view keywords.now)) (state_of builder.old named.old.items)) }
 {
-    optional(single::types(alloc, &keywords.types)?, builder, named)?;
-    enumeration(alloc, &keywords.enumeration, builder, named)?;
-    constant(alloc, &keywords.constant, builder, named)
+    let any: &AnyKeywords = &keywords.any;
+    optional(single::types(alloc, &any.types)?, builder, named)?;
+    enumeration(alloc, &any.enumeration, builder, named)?;
+    constant(alloc, &any.constant, builder, named)
 }
 
 fn number_nodes(
@@ -75,21 +77,22 @@ fn number_nodes(
     builder: &mut Builder,
     named: &mut Vec<Pos>,
 ) -> Result<(), Memory>
-    requires least { meets is_held keywords.now.exclusive_minimum ≡ true }
-    requires most { meets is_held keywords.now.exclusive_maximum ≡ true }
+    requires least { meets is_held keywords.now.numbers.value.exclusive_minimum ≡ true }
+    requires most { meets is_held keywords.now.numbers.value.exclusive_maximum ≡ true }
     ensures { OnOk result (state_of builder.new named.new.items
         ≡ run (W.number_nodes tree_of (keywords_view keywords.now)) (state_of builder.old named.old.items)) }
 {
-    optional(single::multiple_of(keywords.multiple_of), builder, named)?;
-    optional(single::minimum(keywords.minimum), builder, named)?;
+    let numbers: &NumberKeywords = &keywords.numbers;
+    optional(single::multiple_of(numbers.multiple_of), builder, named)?;
+    optional(single::minimum(numbers.minimum), builder, named)?;
     optional(
-        single::exclusive_minimum(keywords.exclusive_minimum),
+        single::exclusive_minimum(numbers.exclusive_minimum),
         builder,
         named,
     )?;
-    optional(single::maximum(keywords.maximum), builder, named)?;
+    optional(single::maximum(numbers.maximum), builder, named)?;
     optional(
-        single::exclusive_maximum(keywords.exclusive_maximum),
+        single::exclusive_maximum(numbers.exclusive_maximum),
         builder,
         named,
     )
@@ -104,9 +107,10 @@ fn string_nodes(
     ensures { OnOk result (state_of builder.new named.new.items
         ≡ run (W.string_nodes tree_of (keywords_view keywords.now)) (state_of builder.old named.old.items)) }
 {
-    optional(single::min_length(keywords.min_length), builder, named)?;
-    optional(single::max_length(keywords.max_length), builder, named)?;
-    optional(single::pattern(alloc, &keywords.pattern)?, builder, named)
+    let strings: &StringKeywords = &keywords.strings;
+    optional(single::min_length(strings.min_length), builder, named)?;
+    optional(single::max_length(strings.max_length), builder, named)?;
+    optional(single::pattern(alloc, &strings.pattern)?, builder, named)
 }
 
 fn array_nodes(
@@ -118,16 +122,17 @@ fn array_nodes(
     ensures { OnOk result (state_of builder.new named.new.items
         ≡ run (W.array_nodes tree_of (keywords_view keywords.now)) (state_of builder.old named.old.items)) }
 {
+    let arrays: &ArrayKeywords = &keywords.arrays;
     items(
         alloc,
-        &keywords.items,
-        keywords.additional_items,
+        &arrays.items,
+        arrays.additional_items,
         builder,
         named,
     )?;
-    optional(single::contains(keywords.contains), builder, named)?;
-    optional(single::min_items(keywords.min_items), builder, named)?;
-    optional(single::max_items(keywords.max_items), builder, named)
+    optional(single::contains(arrays.contains), builder, named)?;
+    optional(single::min_items(arrays.min_items), builder, named)?;
+    optional(single::max_items(arrays.max_items), builder, named)
 }
 
 fn member_nodes(
@@ -139,16 +144,17 @@ fn member_nodes(
     ensures { OnOk result (state_of builder.new named.new.items
         ≡ run (W.member_nodes tree_of (keywords_view keywords.now)) (state_of builder.old named.old.items)) }
 {
-    required(alloc, &keywords.required, builder, named)?;
-    properties(alloc, &keywords.properties, builder, named)?;
-    pattern_properties(alloc, &keywords.pattern_properties, builder, named)?;
+    let objects: &ObjectKeywords = &keywords.objects;
+    required(alloc, &objects.required, builder, named)?;
+    properties(alloc, &objects.properties, builder, named)?;
+    pattern_properties(alloc, &objects.pattern_properties, builder, named)?;
     optional(additional_properties(alloc, keywords)?, builder, named)?;
     optional(
-        single::property_names(keywords.property_names),
+        single::property_names(objects.property_names),
         builder,
         named,
     )?;
-    dependencies(alloc, &keywords.dependencies, builder, named)
+    dependencies(alloc, &objects.dependencies, builder, named)
 }
 
 fn count_nodes(
@@ -159,13 +165,14 @@ fn count_nodes(
     ensures { OnOk result (state_of builder.new named.new.items
         ≡ run (W.count_nodes tree_of (keywords_view keywords.now)) (state_of builder.old named.old.items)) }
 {
+    let objects: &ObjectKeywords = &keywords.objects;
     optional(
-        single::min_properties(keywords.min_properties),
+        single::min_properties(objects.min_properties),
         builder,
         named,
     )?;
     optional(
-        single::max_properties(keywords.max_properties),
+        single::max_properties(objects.max_properties),
         builder,
         named,
     )
@@ -181,10 +188,11 @@ fn in_place_nodes(
     ensures { OnOk result (state_of builder.new named.new.items
         ≡ run (W.in_place_nodes tree_of (keywords_view keywords.now)) (state_of builder.old named.old.items)) }
 {
-    optional(single::all_of(alloc, &keywords.all_of)?, builder, named)?;
-    optional(single::any_of(alloc, &keywords.any_of)?, builder, named)?;
-    optional(single::one_of(alloc, &keywords.one_of)?, builder, named)?;
-    optional(single::not(keywords.not), builder, named)
+    let in_place: &InPlaceKeywords = &keywords.in_place;
+    optional(single::all_of(alloc, &in_place.all_of)?, builder, named)?;
+    optional(single::any_of(alloc, &in_place.any_of)?, builder, named)?;
+    optional(single::one_of(alloc, &in_place.one_of)?, builder, named)?;
+    optional(single::not(in_place.not), builder, named)
 }
 
 /// One of the values, by groups.
@@ -416,9 +424,9 @@ fn pattern_property_nodes(
 fn additional_properties(alloc: Global, keywords: &Keywords) -> Result<Option<Node>, Memory>
     ensures { IfOk result (λ n. option_map node_view n
         ≡ option_map (P.MembersOf (W.others_of tree_of (keywords_view keywords.now)))
-        keywords.now.additional_properties) }
+        keywords.now.objects.value.additional_properties) }
 {
-    match keywords.additional_properties {
+    match keywords.objects.additional_properties {
         Some(entry) => Ok(Some(Node::MembersOf(others_of(alloc, keywords)?, Pos(entry)))),
         None => Ok(None),
     }
@@ -428,8 +436,9 @@ fn additional_properties(alloc: Global, keywords: &Keywords) -> Result<Option<No
 fn others_of(alloc: Global, keywords: &Keywords) -> Result<NameSet, Memory>
     ensures { IfOk result (λ s. name_set_view s ≡ W.others_of tree_of (keywords_view keywords.now)) }
 {
-    let names = names_of(alloc, &keywords.properties)?;
-    let patterns = patterns_of(alloc, &keywords.pattern_properties)?;
+    let objects: &ObjectKeywords = &keywords.objects;
+    let names = names_of(alloc, &objects.properties)?;
+    let patterns = patterns_of(alloc, &objects.pattern_properties)?;
     Ok(NameSet::Others(names, patterns))
 }
 

@@ -16,12 +16,10 @@ use Rattle.js_schema.specs.declared.constraints.Keywords.{Keywords}
 use Rattle.js_schema.specs.View.{keywords_view}
 
 pub object_form-asks : (root : Json) (entry_of by : Pointer → ℕ) (o : Option Json) → by ≡ entry_of
-    → (p q : Pointer) (ms ns : Members) (k read : Keywords) → o ≡ None → k ≡ read
-    → keywords_view read ≡ keywords_of by q ns → q ≡ p → ns ≡ ms
-    → Asks (keywords_view k) ≡ object_form rules root entry_of o p ms
-object_form-asks root entry_of by o same p q ms ns k read none boxed is place members =
-    ap Asks (ap keywords_view boxed ∙ is ∙ ap (λ e. keywords_of e q ns) same
-    ∙ ap₂ (keywords_of entry_of) place members)
+    → (p q : Pointer) (ms ns : Members) (k : Keywords) → o ≡ None → keywords_view k ≡ keywords_of by q ns → q ≡ p
+    → ns ≡ ms → Asks (keywords_view k) ≡ object_form rules root entry_of o p ms
+object_form-asks root entry_of by o same p q ms ns k none is place members =
+    ap Asks (is ∙ ap (λ e. keywords_of e q ns) same ∙ ap₂ (keywords_of entry_of) place members)
     ∙ sym (ap (λ r. object_form rules root entry_of r p ms) none)
 
 pub view-Text : (w : List ℕ) → view (JV.Text w) ≡ string w

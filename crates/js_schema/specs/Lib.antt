@@ -3,8 +3,9 @@ pub mod View
 pub mod SchemaView
 pub mod Patterns
 pub mod Answering
--- Internal: trees as a test, objects in which nothing is wrong, and schemas by their numbers.
+-- Internal: trees as a test, groups without keywords, objects in which nothing is wrong, and schemas by their numbers.
 pub mod TreeTests
+pub mod NoKeywords
 pub mod NumbersView
 pub mod ObjectView
 pub mod KeywordPlaceView

@@ -1,8 +1,9 @@
 //! An entry of a schema: where its place is, by the number of its pointer, and what it accepts.
 //!
-//! Keywords stand in a box, so that the other forms take little memory.
+//! Keywords stand apart, so that the other forms take little memory, and objects without keywords share theirs.
 
 use crate::constraints::Keywords;
+use std::rc::Rc;
 
 /// What a place accepts: everything, nothing, what another entry accepts, or what its keywords ask for.
 #[derive(Drop)]
@@ -10,7 +11,7 @@ pub enum Form {
     Always,
     Never,
     Ref(u32),
-    Keywords(Box<Keywords>),
+    Keywords(Rc<Keywords>),
 }
 
 #[derive(Drop)]

@@ -12,9 +12,11 @@ ghost use Rattle.js_doc.specs.JsonView.{view, map_view};
 ghost use Rattle.js_keywords.specs.Reading.{rules};
 ghost use Rattle.js_walk.specs.FileView.{root_of};
 ghost use Rattle.js_walk.specs.PlacesView.{IsTarget, RefersTo};
+ghost use Rattle.js_schema.specs.NoKeywords.{HasNone};
 ghost use Rattle.js_schema.specs.NumbersView.{numbered, pointer_at, pointers_in};
 ghost use Rattle.js_schema.specs.View.{form_view};
 
+use crate::constraints::Keywords;
 use crate::entry::Form;
 use crate::keywords::keywords;
 use crate::numbers::Numbers;
@@ -23,16 +25,19 @@ use js_doc::{Json, JsonMap, Memory};
 use js_keywords::Keyword;
 use js_walk::{File, value_of};
 use std::alloc::Global;
+use std::rc::Rc;
 
 /// The form of a place in which nothing is wrong. `target` is where its reference leads, where it has one.
 pub(crate) fn form<'a>(
     alloc: Global,
     file: &File<'a>,
     numbers: &Numbers<'a>,
+    none: &Rc<Keywords>,
     pointer: u32,
     target: Option<u32>,
     value: &Json,
 ) -> Result<Form, Memory>
+    requires none { HasNone none.now.value }
     requires placed { pointer < length (pointers_in numbers.now) }
     requires well_formed { is_json (view value.now) ≡ true }
     requires faultless { fault_at rules (root_of file.now) (pointer_at numbers.now pointer, view value.now) ≡ None }
@@ -42,7 +47,7 @@ pub(crate) fn form<'a>(
 {
     match value {
         Json::Bool(true) => Ok(Form::Always),
-        Json::Members(members) => object_form(alloc, file, numbers, pointer, target, members),
+        Json::Members(members) => object_form(alloc, file, numbers, none, pointer, target, members),
         _ => Ok(Form::Never),
     }
 }
@@ -51,10 +56,12 @@ fn object_form<'a>(
     alloc: Global,
     file: &File<'a>,
     numbers: &Numbers<'a>,
+    none: &Rc<Keywords>,
     pointer: u32,
     target: Option<u32>,
     members: &JsonMap,
 ) -> Result<Form, Memory>
+    requires none { HasNone none.now.value }
     requires placed { pointer < length (pointers_in numbers.now) }
     requires well_formed { are_members (map_view members.now) ≡ true }
     requires faultless { fault_at rules (root_of file.now)
@@ -67,8 +74,7 @@ fn object_form<'a>(
         Some(value) => Ok(reference_form(file, numbers, target, value)),
         None => {
             let object = Object::new(numbers, pointer, members);
-            let keywords = keywords(alloc, &object)?;
-            Ok(Form::Keywords(Box::new(alloc, keywords)?))
+            Ok(Form::Keywords(keywords(alloc, none, &object)?))
         }
     }
 }

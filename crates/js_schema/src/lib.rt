@@ -21,7 +21,10 @@ mod read;
 mod table;
 mod values;
 
-pub use constraints::Keywords;
+pub use constraints::{
+    AnyKeywords, ArrayKeywords, InPlaceKeywords, Keywords, NumberKeywords, ObjectKeywords,
+    StringKeywords,
+};
 pub use entry::Form;
 pub use js_keywords::{Keyword, SchemaFault, TypeName};
 pub use lists::{DependencyList, EntryList, PatternPropertyList, PropertyList, TypeList};

@@ -31,8 +31,11 @@ pub(crate) fn elements(
 {
     let items = items.as_slice();
     let mut made = Vec::with_capacity(alloc, items.len())?;
+    let mut guess = 0;
     for (i, _item) in items.iter().enumerate() {
-        made.push(place.element(i)?)?;
+        let (entry, next) = place.element(i, guess)?;
+        made.push(entry)?;
+        guess = next;
     }
     Ok(EntryList::from_vec(made))
 }

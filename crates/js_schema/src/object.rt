@@ -44,6 +44,13 @@ impl<'a> Object<'a> {
         }
     }
 
+    /// Whether the object has no members.
+    pub(crate) fn is_empty(&self) -> bool
+        ensures { result ≡ true → members_of self.now ≡ D.no_members }
+    {
+        self.members.len() == 0
+    }
+
     /// The value of the keyword, where the object has it.
     #[tactic(auto, using(js_walk::proofs::MembersLemmas::keyword_names, js_walk::proofs::MembersLemmas::rising_names))]
     pub(crate) fn value(&self, keyword: Keyword) -> Option<&'a Json>

@@ -14,18 +14,22 @@ ghost use Rattle.js_doc.specs.JsonView.{view};
 ghost use Rattle.js_keywords.specs.Reading.{rules};
 ghost use Rattle.js_walk.specs.FileView.{root_of};
 ghost use Rattle.js_walk.specs.PlacesView.{AreTargets};
+ghost use Rattle.js_schema.specs.NoKeywords.{HasNone};
 ghost use Rattle.js_schema.specs.NumbersView.{numbered, pointers_in, targets_in};
 ghost use Rattle.js_schema.specs.View.{are_placed, entry_view};
 ghost use Rattle.js_schema.specs.Answering.{Answers};
 
+use crate::constraints::Keywords;
 use crate::entry::Entry;
 use crate::forms::form;
+use crate::keywords::no_keywords;
 use crate::numbers::Numbers;
 use crate::table::Schema;
 use js_doc::{Json, Memory};
 use js_keywords::SchemaFault;
 use js_walk::{File, walk};
 use std::alloc::Global;
+use std::rc::Rc;
 
 /// The schema that `json` is, or what is wrong in it first, in the order of the walk. `json` is the value of a text, as
 /// `js_json::read_json` gives it.
@@ -55,9 +59,10 @@ fn read_entries<'a>(
     ensures entries { IfOk result (λ entries. map (entry_view (pointers_in numbers.now)) entries.items
         ≡ E.entries_at rules (root_of file.now) (numbered numbers.now)) }
 {
+    let none = no_keywords(alloc)?;
     let mut entries = Vec::with_capacity(alloc, numbers.len())?;
     for i in 0..numbers.len() {
-        entries.push(entry(alloc, file, numbers, i)?)?;
+        entries.push(entry(alloc, file, numbers, &none, i)?)?;
     }
     Ok(entries)
 }
@@ -66,8 +71,10 @@ fn entry<'a>(
     alloc: Global,
     file: &File<'a>,
     numbers: &Numbers<'a>,
+    none: &Rc<Keywords>,
     number: usize,
 ) -> Result<Entry, Memory>
+    requires none { HasNone none.now.value }
     requires places { places rules (root_of file.now) ≡ numbered numbers.now }
     requires faultless { first_fault rules (root_of file.now) ≡ None }
     requires targets { AreTargets (root_of file.now) (pointers_in numbers.now) (numbered numbers.now)
@@ -79,6 +86,6 @@ fn entry<'a>(
 {
     let (pointer, value) = numbers.place(number);
     let target = numbers.target(number);
-    let form = form(alloc, file, numbers, pointer, target, value)?;
+    let form = form(alloc, file, numbers, none, pointer, target, value)?;
     Ok(Entry { pointer, form })
 }

@@ -107,12 +107,12 @@ fn add_element(requests: &mut Requests, owner: u32, form: &Form, place: usize) -
 
 fn item_entry(keywords: &Keywords, place: usize) -> Option<u32>
     ensures { lists one result
-        ≡ of_items_part (option_map items_view keywords.now.items) keywords.now.additional_items place }
+        ≡ of_items_part (option_map items_view keywords.now.arrays.value.items) keywords.now.arrays.value.additional_items place }
 {
-    match &keywords.items {
+    match &keywords.arrays.items {
         None => None,
         Some(ItemsPart::Each(entry)) => Some(*entry),
-        Some(ItemsPart::Listed(list)) => listed(list, keywords.additional_items, place),
+        Some(ItemsPart::Listed(list)) => listed(list, keywords.arrays.additional_items, place),
     }
 }
 
@@ -151,7 +151,7 @@ fn add_contains(requests: &mut Requests, owner: u32, form: &Form) -> Result<(), 
         requests.old.entries.items requests.new.owners.items requests.new.entries.items }
 {
     match form {
-        Form::Keywords(keywords) => add_option(requests, owner, keywords.contains),
+        Form::Keywords(keywords) => add_option(requests, owner, keywords.arrays.contains),
         _ => Ok(()),
     }
 }
@@ -160,7 +160,7 @@ pub(crate) fn contained_entry(form: &Form) -> Option<u32>
     ensures { result ≡ contained (form_view form.now) }
 {
     match form {
-        Form::Keywords(keywords) => keywords.contains,
+        Form::Keywords(keywords) => keywords.arrays.contains,
         _ => None,
     }
 }
@@ -186,7 +186,7 @@ fn add_name(requests: &mut Requests, owner: u32, form: &Form) -> Result<(), Memo
         requests.old.entries.items requests.new.owners.items requests.new.entries.items }
 {
     match form {
-        Form::Keywords(keywords) => add_option(requests, owner, keywords.property_names),
+        Form::Keywords(keywords) => add_option(requests, owner, keywords.objects.property_names),
         _ => Ok(()),
     }
 }
@@ -244,15 +244,20 @@ pub(crate) fn member_entries(alloc: Global, form: &Form, name: &Str) -> Result<V
 fn named_entries(alloc: Global, keywords: &Keywords, name: &Str) -> Result<Vec<u32>, Memory>
     requires { is_in_range (keywords_view keywords.now) ≡ true }
     ensures { IfOk result (λ found. found.items ≡ or_else (of_names matches (keywords_view keywords.now) name.now)
-        (lists one keywords.now.additional_properties)) }
+        (lists one keywords.now.objects.value.additional_properties)) }
 {
     let mut found = Vec::new(alloc);
     if let Some(entry) = property_of(keywords, name) {
         found.push(entry)?;
     }
-    add_patterns(alloc, &mut found, &keywords.pattern_properties, name)?;
+    add_patterns(
+        alloc,
+        &mut found,
+        &keywords.objects.pattern_properties,
+        name,
+    )?;
     if found.is_empty()
-        && let Some(entry) = keywords.additional_properties
+        && let Some(entry) = keywords.objects.additional_properties
     {
         found.push(entry)?;
     }
@@ -263,9 +268,9 @@ fn named_entries(alloc: Global, keywords: &Keywords, name: &Str) -> Result<Vec<u
 fn property_of(keywords: &Keywords, name: &Str) -> Option<u32>
     requires { is_in_range (keywords_view keywords.now) ≡ true }
     ensures { lists one result ≡ lists (of_named (λ n. same_word n name.now)) (option_map
-        (λ ps. map property_view ps) keywords.now.properties) }
+        (λ ps. map property_view ps) keywords.now.objects.value.properties) }
 {
-    match &keywords.properties {
+    match &keywords.objects.properties {
         None => None,
         Some(list) => property_entry(list, name.as_text()),
     }
@@ -274,12 +279,12 @@ fn property_of(keywords: &Keywords, name: &Str) -> Option<u32>
 /// The one entry for a member with that name, where no pattern asks for it.
 pub(crate) fn only_entry(keywords: &Keywords, name: &Str) -> Option<u32>
     requires range { is_in_range (keywords_view keywords.now) ≡ true }
-    requires patterns { keywords.now.pattern_properties ≡ None }
+    requires patterns { keywords.now.objects.value.pattern_properties ≡ None }
     ensures { lists one result ≡ of_member matches (Asks (keywords_view keywords.now)) name.now }
 {
     match property_of(keywords, name) {
         Some(entry) => Some(entry),
-        None => keywords.additional_properties,
+        None => keywords.objects.additional_properties,
     }
 }
 

@@ -58,11 +58,12 @@ fn mark_keywords(asked: &mut Vec<bool>, keywords: &Keywords)
     ensures marks { (j : ℕ) → j < length asked.old.items → flag asked.new.items j
         ≡ (flag asked.old.items j || is_at j (in_place (Asks (keywords_view keywords.now)))) }
 {
-    mark_list(asked, &keywords.all_of);
-    mark_list(asked, &keywords.any_of);
-    mark_list(asked, &keywords.one_of);
-    mark_option(asked, keywords.not);
-    mark_dependencies(asked, &keywords.dependencies);
+    let in_place = &*keywords.in_place;
+    mark_list(asked, &in_place.all_of);
+    mark_list(asked, &in_place.any_of);
+    mark_list(asked, &in_place.one_of);
+    mark_option(asked, in_place.not);
+    mark_dependencies(asked, &keywords.objects.dependencies);
 }
 
 fn mark_list(asked: &mut Vec<bool>, list: &Option<EntryList>)

@@ -200,7 +200,7 @@ fn is_member_met(
         (of_member matches (form_view form.now) (member_view member.now).0)) }
 {
     if let Form::Keywords(keywords) = form
-        && keywords.pattern_properties.is_none()
+        && keywords.objects.pattern_properties.is_none()
     {
         let entry = only_entry(keywords, member.name());
         return is_element_met(alloc, schema, order, member.value(), entry);

@@ -63,17 +63,17 @@ fn meets_any(keywords: &Keywords, here: &[bool], doc: &Doc) -> bool
     is_listed(keywords, doc)
         && is_constant(keywords, doc)
         && has_types(keywords, doc)
-        && meets_all_of(&keywords.all_of, here)
-        && meets_any_of(&keywords.any_of, here)
-        && meets_one_of(&keywords.one_of, here)
-        && meets_not(keywords.not, here)
+        && meets_all_of(&keywords.in_place.all_of, here)
+        && meets_any_of(&keywords.in_place.any_of, here)
+        && meets_one_of(&keywords.in_place.one_of, here)
+        && meets_not(keywords.in_place.not, here)
 }
 
 fn is_listed(keywords: &Keywords, doc: &Doc) -> bool
     ensures { result ≡ meets (some (λ d. same_document d (view doc.now)))
-        (option_map (λ ds. elements (list_view ds)) keywords.now.enumeration) }
+        (option_map (λ ds. elements (list_view ds)) keywords.now.any.value.enumeration) }
 {
-    match &keywords.enumeration {
+    match &keywords.any.enumeration {
         None => true,
         Some(list) => is_in_list(list, doc),
     }
@@ -103,18 +103,18 @@ fn is_same(a: &Doc, b: &Doc) -> bool
 }
 
 fn is_constant(keywords: &Keywords, doc: &Doc) -> bool
-    ensures { result ≡ meets (λ d. same_document d (view doc.now)) (option_map view keywords.now.constant) }
+    ensures { result ≡ meets (λ d. same_document d (view doc.now)) (option_map view keywords.now.any.value.constant) }
 {
-    match &keywords.constant {
+    match &keywords.any.constant {
         None => true,
         Some(constant) => is_same(constant, doc),
     }
 }
 
 fn has_types(keywords: &Keywords, doc: &Doc) -> bool
-    ensures { result ≡ meets (some (has_type (view doc.now))) (option_map (λ ts. map type_view ts) keywords.now.types) }
+    ensures { result ≡ meets (some (has_type (view doc.now))) (option_map (λ ts. map type_view ts) keywords.now.any.value.types) }
 {
-    match &keywords.types {
+    match &keywords.any.types {
         None => true,
         Some(types) => has_one_type(types, doc),
     }
@@ -185,11 +185,11 @@ fn meets_not(entry: Option<u32>, here: &[bool]) -> bool
 fn meets_number(keywords: &Keywords, number: i128) -> bool
     ensures { result ≡ asks_number matches no_entry no_parts (keywords_view keywords.now) number }
 {
-    is_multiple_of(keywords.multiple_of, number)
-        && is_up_to(keywords.maximum, number)
-        && is_under(keywords.exclusive_maximum, number)
-        && is_from(keywords.minimum, number)
-        && is_over(keywords.exclusive_minimum, number)
+    is_multiple_of(keywords.numbers.multiple_of, number)
+        && is_up_to(keywords.numbers.maximum, number)
+        && is_under(keywords.numbers.exclusive_maximum, number)
+        && is_from(keywords.numbers.minimum, number)
+        && is_over(keywords.numbers.exclusive_minimum, number)
 }
 
 fn is_up_to(most: Option<i128>, number: i128) -> bool
@@ -252,16 +252,20 @@ fn asks_no_text(keywords: &Keywords) -> bool
     ensures { result ≡ true → (w : List ℕ)
         → true ≡ asks_string matches no_entry no_parts (keywords_view keywords.now) w }
 {
-    keywords.max_length.is_none() && keywords.min_length.is_none() && keywords.pattern.is_none()
+    keywords.strings.max_length.is_none()
+        && keywords.strings.min_length.is_none()
+        && keywords.strings.pattern.is_none()
 }
 
 fn meets_letters(alloc: Global, keywords: &Keywords, word: &[char]) -> Result<bool, Memory>
     ensures { IfOk result (λ b. b ≡ asks_string matches no_entry no_parts (keywords_view keywords.now) word.now) }
 {
-    if !at_most(word.len(), keywords.max_length) || !at_least(word.len(), keywords.min_length) {
+    if !at_most(word.len(), keywords.strings.max_length)
+        || !at_least(word.len(), keywords.strings.min_length)
+    {
         return Ok(false);
     }
-    match &keywords.pattern {
+    match &keywords.strings.pattern {
         None => Ok(true),
         Some(pattern) => is_found(alloc, pattern, word),
     }
@@ -288,24 +292,25 @@ fn at_least(count: usize, least: Option<u64>) -> bool
 fn meets_list(keywords: &Keywords, list: &DocList) -> bool
     ensures { result ≡ own_array matches no_entry (keywords_view keywords.now) (elements (list_view list.now)) }
 {
-    at_most(list.len(), keywords.max_items) && at_least(list.len(), keywords.min_items)
+    at_most(list.len(), keywords.arrays.max_items)
+        && at_least(list.len(), keywords.arrays.min_items)
 }
 
 fn meets_members(keywords: &Keywords, here: &[bool], members: &DocMap) -> bool
     ensures { result ≡ own_object matches (flag here.now) (keywords_view keywords.now) (entries
         (map_view members.now)) }
 {
-    if !at_most(members.len(), keywords.max_properties)
-        || !at_least(members.len(), keywords.min_properties)
+    if !at_most(members.len(), keywords.objects.max_properties)
+        || !at_least(members.len(), keywords.objects.min_properties)
     {
         return false;
     }
-    if keywords.required.is_none() && keywords.dependencies.is_none() {
+    if keywords.objects.required.is_none() && keywords.objects.dependencies.is_none() {
         return true;
     }
     let searchable = is_searchable(members);
-    has_required(&keywords.required, members, searchable)
-        && meets_dependencies(&keywords.dependencies, here, members, searchable)
+    has_required(&keywords.objects.required, members, searchable)
+        && meets_dependencies(&keywords.objects.dependencies, here, members, searchable)
 }
 
 fn has_required(names: &Option<StrList>, members: &DocMap, searchable: bool) -> bool

@@ -59,11 +59,11 @@ pub(crate) fn is_plain(form: &Form) -> bool
 fn are_plain(keywords: &Keywords) -> bool
     ensures { result ≡ is_plain (Asks (keywords_view keywords.now)) }
 {
-    keywords.all_of.is_none()
-        && keywords.any_of.is_none()
-        && keywords.one_of.is_none()
-        && keywords.not.is_none()
-        && keywords.dependencies.is_none()
-        && keywords.contains.is_none()
-        && keywords.property_names.is_none()
+    keywords.in_place.all_of.is_none()
+        && keywords.in_place.any_of.is_none()
+        && keywords.in_place.one_of.is_none()
+        && keywords.in_place.not.is_none()
+        && keywords.objects.dependencies.is_none()
+        && keywords.arrays.contains.is_none()
+        && keywords.objects.property_names.is_none()
 }

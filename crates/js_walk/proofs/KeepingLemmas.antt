@@ -3,8 +3,6 @@ use Rattle.std.proofs.Common.{◌≡◌, ℕ, zero, suc, ◌+◌, ◌≤◌, ◌
 use Rattle.std.proofs.lemmas.Bool.{ltb-true}
 use Rattle.std.proofs.lemmas.List.{map-append, reverse-append, reverse-reverse}
 use Rattle.std.specs.Map.{lookup}
-use Rattle.indexmap.specs.IndexMap.{IndexMap, insert_entry}
-use Rattle.indexmap.proofs.CallerLemmas.{insert_entry-new}
 use Rattle.documents.specs.Tests.{every}
 use Rattle.documents.specs.Json.{Json, null, boolean, number, not_whole, string, array, object}
 use Rattle.js_doc.specs.JsonView.{view}
@@ -205,19 +203,12 @@ module _ (root : Json) (ps qs : List P.Pointer) (es : List (ℕ × Done)) (cs : 
             (ap reverse (views-stay ps qs cs grows kept.waiting));
       }
 
--- a place that isn't done goes last
-pub inserted-last : {S : Type 0} (words : List (List ℕ)) (steps : List (ℕ × ℕ)) (ps : List P.Pointer)
-    → IsTable words steps ps → (m : IndexMap ℕ Done S) (n : ℕ) (d : Done) (es : List (ℕ × Done))
-    → DoneWithin ps m.entries → n < length ps → has_place (done_places ps m.entries) (get_or ps n []) ≡ false
-    → es ≡ insert_entry nat_eq m.entries n d → es ≡ m.entries ++ (n, d) ∷ []
-inserted-last words steps ps table m n d es within less new e =
-    e ∙ insert_entry-new nat_eq m n d
-    (none (lookup (nat_eq n) m.entries)
-    (has_place-lookup words steps ps table n (get_or ps n []) less refl m.entries within ∙ new))
-  where
-    none : (o : Option Done) → is_some o ≡ false → o ≡ None
-    none None h = refl
-    none (Some d) h = absurd (cc)
+-- a place that isn't done has no entry
+pub not_done : (words : List (List ℕ)) (steps : List (ℕ × ℕ)) (ps : List P.Pointer) → IsTable words steps ps
+    → (n : ℕ) (es : List (ℕ × Done)) → DoneWithin ps es → n < length ps
+    → has_place (done_places ps es) (get_or ps n []) ≡ false → is_some (lookup (nat_eq n) es) ≡ false
+not_done words steps ps table n es within less new =
+    has_place-lookup words steps ps table n (get_or ps n []) less refl es within ∙ new
 
 -- the targets of a walk that has ended
 pub targets-seen : (root : Json) (ps qs : List P.Pointer) (es : List (ℕ × Done)) (cs : List P.Place)

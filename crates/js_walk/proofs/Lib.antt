@@ -1,5 +1,6 @@
 pub mod MembersLemmas
 pub mod HoldingLemmas
+pub mod WordLemmas
 pub mod TableLemmas
 pub mod PlacesLemmas
 pub mod GrowthLemmas
@@ -8,3 +9,4 @@ pub mod FaultLemmas
 pub mod VisitLemmas
 pub mod WalkLemmas
 pub mod KeepingLemmas
+pub mod DoneLemmas

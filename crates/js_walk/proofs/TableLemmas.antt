@@ -11,7 +11,11 @@ use Rattle.documents.specs.Tests.{same_word}
 use Rattle.js_doc.proofs.Lookups.{same_word-named}
 use Rattle.schemas.specs.Places.{Pointer}
 use Rattle.schema_laws.proofs.Pointers.{same_word-refl, same_word-eq}
-use Rattle.js_walk.specs.Table.{IsTable}
+use Rattle.js_walk.specs.Table.{IsTable, IsWord, AreNames, word}
+use Rattle.js_walk.proofs.WordLemmas.{same_number, name_word}
+
+pub false_true : false ≡ true → ⊥
+false_true h = absurd (cc)
 
 -- Positions.
 
@@ -45,29 +49,38 @@ not_there test xs k d h less =
 
 -- Words.
 
-abbrev word : {Z : Type 0} → String Z → List ℕ
-word t = chars (string_bytes t)
+abbrev pub text : {Z : Type 0} → String Z → List ℕ
+text t = chars (string_bytes t)
 
-pub position-words : {Z : Type 0} (text : List ℕ) → IsUtf8 text → (ts : List (String Z))
-    → position (λ k. bytes_eq text (string_bytes k)) ts ≡ position (λ w. same_word w (chars text)) (map word ts)
-position-words {Z} text u ts = ap₂ (λ n m. cond (nat_lt n m) (Some n) None) (go ts) (lengths ts)
+pub position-words : {Z : Type 0} (bytes : List ℕ) → IsUtf8 bytes → (ts : List (String Z))
+    → position (λ k. bytes_eq bytes (string_bytes k)) ts ≡ position (λ w. same_word w (chars bytes)) (map text ts)
+position-words {Z} bytes u ts = ap₂ (λ n m. cond (nat_lt n m) (Some n) None) (go ts) (lengths ts)
   where
-    lengths : (ts : List (String Z)) → length ts ≡ length (map word ts)
+    lengths : (ts : List (String Z)) → length ts ≡ length (map text ts)
     lengths [] = refl
     lengths (t ∷ ts) = ap suc (lengths ts)
 
-    go : (ts : List (String Z)) → position_or_len (λ k. bytes_eq text (string_bytes k)) ts
-        ≡ position_or_len (λ w. same_word w (chars text)) (map word ts)
+    go : (ts : List (String Z)) → position_or_len (λ k. bytes_eq bytes (string_bytes k)) ts
+        ≡ position_or_len (λ w. same_word w (chars bytes)) (map text ts)
     go [] = refl
     go (t ∷ ts) =
         ap₂ (λ b n. cond (not b) (1 + n) 0)
-        (sym (same_word-named (string_bytes t) text (chars text) _ (IsUtf8-string_bytes t) u refl refl))
+        (sym (same_word-named (string_bytes t) bytes (chars bytes) _ (IsUtf8-string_bytes t) u refl refl))
         (go ts)
 
--- Steps.
+pub unnamed : (names : List (List ℕ)) (t : List ℕ) → position (λ w. same_word w t) names ≡ None
+    → (i : ℕ) → i < length names → get_or names i [] ≡ t → ⊥
+unnamed names t missing i less is =
+    false_true (sym (not_there (λ w. same_word w t) names i [] missing less)
+    ∙ ap (λ w. same_word w t) is ∙ same_word-refl t)
 
-false_true : false ≡ true → ⊥
-false_true h = absurd (cc)
+pub named : (names : List (List ℕ)) (t : List ℕ) (i : ℕ) → position (λ w. same_word w t) names ≡ Some i
+    → IsWord names (2147483648 + i) t
+named names t i found =
+    let at = at_position (λ w. same_word w t) names i [] found in
+    name_word names t i at.0 (same_word-eq _ t at.1)
+
+-- Steps.
 
 abbrev pub pair : ℕ → ℕ → ℕ × ℕ
 pair m n = (m, n)
@@ -97,11 +110,11 @@ snoc-same (z ∷ xs) (w ∷ ys) x y h =
     let first : z ≡ w = cc in
     (ap₂ (λ a rs. a ∷ rs) first rest.0, rest.1)
 
-module _ (words : List (List ℕ)) (steps : List (ℕ × ℕ)) (ps : List Pointer) (table : IsTable words steps ps) where
+module _ (names : List (List ℕ)) (steps : List (ℕ × ℕ)) (ps : List Pointer) (table : IsTable names steps ps) where
   -- a pointer that isn't the root was made by a step
   by_step : (m : ℕ) (p : Pointer) (t : List ℕ) → m < length ps → get_or ps m [] ≡ p ++ t ∷ []
       → (i : ℕ) × (m ≡ suc i) × (i < length steps) × (get_or ps (get_or steps i (0, 0)).0 [] ≡ p)
-      × (get_or words (get_or steps i (0, 0)).1 [] ≡ t)
+      × (word names (get_or steps i (0, 0)).1 ≡ t)
   by_step zero p t less h = absurd (snoc-not-nil p t (sym table.root ∙ h))
   by_step (suc i) p t less h =
       let counted = table.counted in
@@ -122,28 +135,28 @@ module _ (words : List (List ℕ)) (steps : List (ℕ × ℕ)) (ps : List Pointe
       let e = (table.made step.0 l).earlier in
       (_, omega (arith, counted, l, e), step.3)
 
-  pub below-found : (n k i : ℕ) (p : Pointer) (t : List ℕ) → n < length ps → get_or ps n [] ≡ p
-      → position (λ w. same_word w t) words ≡ Some k
+  pub made-word : (n i : ℕ) (p : Pointer) (t : List ℕ) → get_or ps n [] ≡ p → i < length steps
+      → (get_or steps i (0, 0)).0 ≡ n → word names (get_or steps i (0, 0)).1 ≡ t
+      → (i + 1 < length ps) × (get_or ps (i + 1) [] ≡ p ++ t ∷ [])
+  made-word n i p t is within of_is text_is =
+      let counted = table.counted in (
+        omega (arith, counted, within),
+        ap (λ j. get_or ps j []) (add-one i) ∙ (table.made i within).makes
+            ∙ ap₂ (λ a b. a ++ b ∷ []) (ap (λ j. get_or ps j []) of_is ∙ is) text_is,
+      )
+
+  pub below-found : (n k i : ℕ) (p : Pointer) (t : List ℕ) → get_or ps n [] ≡ p → word names k ≡ t
       → position (λ s. nat_eq n s.0 && nat_eq k s.1) steps ≡ Some i
       → (i + 1 < length ps) × (get_or ps (i + 1) [] ≡ p ++ t ∷ [])
-  below-found n k i p t less is known made =
-      let word = at_position (λ w. same_word w t) words k [] known in
+  below-found n k i p t is known made =
       let found = at_position (λ s. nat_eq n s.0 && nat_eq k s.1) steps i (0, 0) made in
       let same = same_step (n, k) (get_or steps i (0, 0)) found.1 in
-      let counted = table.counted in
-      let within = found.0 in
-      let step = table.made i within in (
-        omega (arith, counted, within),
-        ap (λ j. get_or ps j []) (add-one i) ∙ step.makes
-            ∙ ap₂ (λ a b. a ++ b ∷ [])
-            (ap (λ s. get_or ps s.0 []) (sym same) ∙ is)
-            (ap (λ s. get_or words s.1 []) (sym same) ∙ same_word-eq _ t word.1),
-      )
+      made-word n i p t is found.0 (ap (λ s. s.0) (sym same)) (ap (λ s. word names s.1) (sym same) ∙ known)
 
   -- what goes on from a pointer does so by a step, and by a word
   goes_on : (n : ℕ) (p : Pointer) (t : List ℕ) (m : ℕ) (q : Pointer) → n < length ps → get_or ps n [] ≡ p
       → m < length ps → get_or ps m [] ≡ (p ++ t ∷ []) ++ q
-      → (i : ℕ) × (i < length steps) × (n ≡ (get_or steps i (0, 0)).0) × (get_or words (get_or steps i (0, 0)).1 [] ≡ t)
+      → (i : ℕ) × (i < length steps) × (n ≡ (get_or steps i (0, 0)).0) × (word names (get_or steps i (0, 0)).1 ≡ t)
   goes_on n p t m q less is within h =
       let longer = closed q (p ++ t ∷ []) m within h in
       let step = by_step longer.0 p t longer.1 longer.2 in
@@ -153,29 +166,18 @@ module _ (words : List (List ℕ)) (steps : List (ℕ × ℕ)) (ps : List Pointe
       (step.0, l, table.distinct n _ less (omega (arith, counted, l, e)) (is ∙ sym step.3), step.4)
 
   pub below-unknown : (n : ℕ) (p : Pointer) (t : List ℕ) → n < length ps → get_or ps n [] ≡ p
-      → position (λ w. same_word w t) words ≡ None
+      → ((k : ℕ) → IsWord names k t → ⊥)
       → (m : ℕ) (q : Pointer) → m < length ps → get_or ps m [] ≡ (p ++ t ∷ []) ++ q → ⊥
   below-unknown n p t less is unknown m q within h =
       let on = goes_on n p t m q less is within h in
-      let no = not_there (λ w. same_word w t) words (get_or steps on.0 (0, 0)).1 [] unknown
-      (table.made on.0 on.1).known in
-      false_true (sym no ∙ ap (λ w. same_word w t) on.3 ∙ same_word-refl t)
+      unknown (get_or steps on.0 (0, 0)).1 ((table.made on.0 on.1).known, on.3)
 
-  pub step-missing : (n k : ℕ) (p : Pointer) (t : List ℕ) → n < length ps → get_or ps n [] ≡ p
-      → k < length words → get_or words k [] ≡ t
-      → position (λ s. nat_eq n s.0 && nat_eq k s.1) steps ≡ None
+  pub below-missing : AreNames names → (n k : ℕ) (p : Pointer) (t : List ℕ) → n < length ps → get_or ps n [] ≡ p
+      → IsWord names k t → position (λ s. nat_eq n s.0 && nat_eq k s.1) steps ≡ None
       → (m : ℕ) (q : Pointer) → m < length ps → get_or ps m [] ≡ (p ++ t ∷ []) ++ q → ⊥
-  step-missing n k p t less is known text missing m q within h =
+  below-missing are n k p t less is known missing m q within h =
       let on = goes_on n p t m q less is within h in
       let s = get_or steps on.0 (0, 0) in
-      let same = table.words_distinct k s.1 known (table.made on.0 on.1).known (text ∙ sym on.3) in
+      let same = same_number names are k s.1 known.0 (table.made on.0 on.1).known (known.1 ∙ sym on.3) in
       let no = not_there (λ s. nat_eq n s.0 && nat_eq k s.1) steps on.0 (0, 0) missing on.1 in
       false_true (sym no ∙ ap₂ (λ a b. nat_eq n a && nat_eq k b) (sym on.2) (sym same) ∙ step-same (n, k))
-
-  pub below-missing : (n k : ℕ) (p : Pointer) (t : List ℕ) → n < length ps → get_or ps n [] ≡ p
-      → position (λ w. same_word w t) words ≡ Some k
-      → position (λ s. nat_eq n s.0 && nat_eq k s.1) steps ≡ None
-      → (m : ℕ) (q : Pointer) → m < length ps → get_or ps m [] ≡ (p ++ t ∷ []) ++ q → ⊥
-  below-missing n k p t less is known =
-      let word = at_position (λ w. same_word w t) words k [] known in
-      step-missing n k p t less is word.0 (same_word-eq _ t word.1)

@@ -1,5 +1,6 @@
 -- What a reader must believe: the pointers and places that the program's values stand for.
 pub mod Table
+pub mod TokensView
 pub mod PointersView
 pub mod PlacesView
 pub mod FileView
@@ -7,3 +8,4 @@ pub mod FileView
 pub mod Holding
 pub mod Visiting
 pub mod Walking
+pub mod Noted

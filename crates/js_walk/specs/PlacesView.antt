@@ -23,11 +23,11 @@ abbrev pub pointers_in : Places → List P.Pointer
 pointers_in p = pointers_of p.pointers
 
 abbrev pub places_view : Places → List P.Place
-places_view p = map (done_view (pointers_in p)) p.map.entries
+places_view p = map (done_view (pointers_in p)) p.done
 
 -- where the references of the places lead, in their order
 abbrev pub targets_of : Places → List (Option ℕ)
-targets_of p = map (λ e. e.1.target) p.map.entries
+targets_of p = map (λ e. e.1.target) p.done
 
 -- the number leads to where the reference does, if the value is one
 abbrev pub RefersTo : Json → List P.Pointer → Option Json → Option ℕ → Type 0

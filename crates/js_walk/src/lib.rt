@@ -6,6 +6,7 @@
 #![tactic(auto)]
 
 mod children;
+mod done_list;
 mod file;
 mod holding;
 mod members;
@@ -13,6 +14,7 @@ mod place;
 mod places;
 mod pointers;
 mod steps;
+mod tokens;
 mod visit;
 mod weight;
 

@@ -1,6 +1,6 @@
 //! The places of a file that are done, in the order in which they were met, each found by the number of its pointer.
 //!
-//! A look-up is one of a number, by hashing.
+//! A look-up takes no hashing.
 
 ghost use Rattle.std.specs.Prelude.{◌≡◌, ◌≤◌, ◌<◌, ◌++◌, ◌∷◌, [], ℕ, true, map, length, get_or, chars, nat_lt, IfOk};
 ghost use Rattle.documents.specs.Tests.{every};
@@ -10,9 +10,8 @@ ghost use Rattle.js_doc.specs.JsonView.{view};
 ghost use Rattle.js_walk.specs.PointersView.{pointers_of};
 ghost use Rattle.js_walk.specs.Table.{Leads};
 
-use crate::place::Done;
+use crate::done_list::DoneList;
 use crate::pointers::Pointers;
-use indexmap::IndexMap;
 use js_doc::{Json, Memory};
 use std::alloc::Global;
 
@@ -20,30 +19,27 @@ use std::alloc::Global;
 #[derive(Drop)]
 pub struct Places<'a> {
     pointers: Pointers,
-    map: IndexMap<u32, Done<'a>>,
-    ghost within: { every (λ e. nat_lt e.0 (length (pointers_of pointers))) map.entries ≡ true },
+    done: DoneList<'a>,
+    ghost within: { every (λ e. nat_lt e.0 (length (pointers_of pointers))) done ≡ true },
 }
 
 impl<'a> Places<'a> {
     ghost use Rattle.js_walk.specs.PlacesView.{pointers_in, places_view, targets_of};
     ghost use Rattle.js_walk.specs.Walking.{done_places};
 
-    pub(crate) fn new(pointers: Pointers, done: IndexMap<u32, Done<'a>>) -> Places<'a>
-        requires { every (λ e. nat_lt e.0 (length (pointers_of pointers))) done.entries ≡ true }
+    pub(crate) fn new(pointers: Pointers, done: DoneList<'a>) -> Places<'a>
+        requires { every (λ e. nat_lt e.0 (length (pointers_of pointers))) done ≡ true }
         ensures pointers { pointers_in result ≡ pointers_of pointers }
-        ensures places { places_view result ≡ done_places (pointers_of pointers) done.entry.entries }
-        ensures targets { targets_of result ≡ map (λ e. e.1.target) done.entry.entries }
+        ensures places { places_view result ≡ done_places (pointers_of pointers) done.entry }
+        ensures targets { targets_of result ≡ map (λ e. e.1.target) done.entry }
     {
-        Places {
-            pointers,
-            map: done,
-        }
+        Places { pointers, done }
     }
 
     pub fn len(&self) -> usize
         ensures { result ≡ length (places_view self.now) }
     {
-        self.map.len()
+        self.done.len()
     }
 
     /// The place with that number: the number of its pointer, and its value.
@@ -53,10 +49,8 @@ impl<'a> Places<'a> {
             ≡ get_or (places_view self.now) number (get_or (pointers_in self.now) result.0 [], view result.1.now) }
         ensures pointer { result.0 < length (pointers_in self.now) }
     {
-        match self.map.get_index(number) {
-            Some((pointer, done)) => (*pointer, done.value),
-            None => unreachable!(),
-        }
+        let (pointer, done) = self.done.entry(number);
+        (*pointer, done.value)
     }
 
     /// Where the reference of the place with that number leads, if it has one.
@@ -64,10 +58,7 @@ impl<'a> Places<'a> {
         requires { number < length (places_view self.now) }
         ensures { result ≡ get_or (targets_of self.now) number result }
     {
-        match self.map.get_index(number) {
-            Some((_, done)) => done.target,
-            None => unreachable!(),
-        }
+        self.done.entry(number).1.target
     }
 
     /// The number of the place with that pointer, or how many there are where it isn't among them.
@@ -76,11 +67,11 @@ impl<'a> Places<'a> {
         ensures most { result ≤ length (places_view self.now) }
     {
         match at {
-            Some(pointer) => match self.map.get_index_of(&pointer) {
+            Some(pointer) => match self.done.number(pointer) {
                 Some(number) => number,
-                None => self.map.len(),
+                None => self.done.len(),
             },
-            None => self.map.len(),
+            None => self.done.len(),
         }
     }
 
@@ -92,19 +83,24 @@ impl<'a> Places<'a> {
         self.pointers.below(at, token)
     }
 
-    /// The same with the token of the element at `index`.
-    pub fn below_index(&self, at: Option<u32>, index: usize) -> Result<Option<u32>, Memory>
+    /// The same with the token of the element at `index`. The pointer numbered `guess` is tried first.
+    pub fn below_index(
+        &self,
+        at: Option<u32>,
+        index: usize,
+        guess: u32,
+    ) -> Result<Option<u32>, Memory>
         ensures { IfOk result (λ found. (p : P) → Leads (pointers_in self.now) at p
             → Leads (pointers_in self.now) found (p ++ index_token index ∷ [])) }
     {
-        self.pointers.below_index(at, index)
+        self.pointers.below_index(at, index, guess)
     }
 
     /// All pointers, by the same numbers.
     pub fn into_pointers(self) -> Pointers
         ensures { pointers_of result ≡ pointers_in self.entry }
     {
-        let Places { pointers, map: _ } = self;
+        let Places { pointers, done: _ } = self;
         pointers
     }
 }

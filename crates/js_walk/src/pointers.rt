@@ -1,41 +1,41 @@
 //! The pointers of a file's places, by number.
 //!
 //! Pointer 0 is the root, and each other is an earlier one with one more token. So a pointer takes two numbers, however
-//! long it is, each text of a token is kept once, and to go down by a token takes time in proportion to that token. A
-//! whole pointer is made only when it is asked for.
+//! long it is, and each name in it is kept once. To go down by a name takes time in proportion to that name, and to go
+//! down by an index needs no text. A whole pointer is made only when it is asked for.
 
-ghost use Rattle.std.specs.Prelude.{◌≡◌, ◌≤◌, ◌<◌, ◌++◌, ◌∷◌, [], map, reverse, length, get_or, chars, string_bytes, Some, IfOk, OnOk};
+ghost use Rattle.std.specs.Prelude.{◌≡◌, ◌+◌, ◌≤◌, ◌<◌, ◌++◌, ◌∷◌, ℕ, [], map, reverse, length, get_or, true, chars, Some, IfOk, OnOk};
 ghost use Rattle.schemas.specs.Places.{Pointer as P, index_token};
-ghost use Rattle.js_walk.specs.Table.{numbered, IsTable, Leads, Grows};
+ghost use Rattle.js_walk.specs.TokensView.{names_of, token_text};
+ghost use Rattle.js_walk.specs.Table.{word, numbered, IsWord, IsTable, Leads, Grows};
 
+use crate::tokens::{Token, Tokens, index_number};
 use indexmap::IndexSet;
 use js_doc::{Memory, Str};
 use js_json::Pointer;
 use std::alloc::Global;
 
-/// How many tokens are kept, and how many pointers but for the root. Beyond, it is memory that is wanting.
+/// How many pointers are kept but for the root. Beyond, it is memory that is wanting.
 const MOST: usize = 4_294_967_294;
 
 /// Pointers, no two of them the same. With each stand all those that lead to it.
 #[derive(Drop)]
 pub struct Pointers {
-    tokens: IndexSet<String>,
+    tokens: Tokens,
     steps: IndexSet<(u32, u32)>,
-    ghost table: { IsTable (map (λ w. chars (string_bytes w)) tokens.keys) steps.keys
-        (numbered (map (λ w. chars (string_bytes w)) tokens.keys) steps.keys) },
-    ghost few_tokens: { length tokens.keys ≤ 4294967295 },
+    ghost table: { IsTable (names_of tokens) steps.keys (numbered (names_of tokens) steps.keys) },
     ghost few: { length steps.keys < 4294967295 },
 }
 
 impl Pointers {
-    ghost use Rattle.js_walk.specs.PointersView.{words_of, pointers_of};
+    ghost use Rattle.js_walk.specs.PointersView.{pointers_of};
 
     /// The root alone.
     pub fn new(alloc: Global) -> Pointers
         ensures { pointers_of result ≡ [] ∷ [] }
     {
         Pointers {
-            tokens: IndexSet::new(alloc),
+            tokens: Tokens::new(alloc),
             steps: IndexSet::new(alloc),
         }
     }
@@ -53,19 +53,67 @@ impl Pointers {
             → Leads (pointers_of self.now) result (p ++ chars token.now ∷ []) }
     {
         let of = at?;
-        let token = self.tokens.get_index_of(token)?;
-        let step = (of, token as u32);
+        let token = self.tokens.number(token)?;
+        self.below_token(of, token)
+    }
+
+    /// The same with the token of the element at `index`. Where the pointer numbered `guess` is the one, no hash is
+    /// taken; the elements of a list mostly have numbers that follow each other. An error is memory that is wanting.
+    pub fn below_index(
+        &self,
+        at: Option<u32>,
+        index: usize,
+        guess: u32,
+    ) -> Result<Option<u32>, Memory>
+        ensures { IfOk result (λ found. (p : P) → Leads (pointers_of self.now) at p
+            → Leads (pointers_of self.now) found (p ++ index_token index ∷ [])) }
+    {
+        let Some(token) = index_number(index) else {
+            let token = decimal_text(*self.steps.allocator(), index)?;
+            return Ok(self.below(at, token.as_text()));
+        };
+        match at {
+            Some(of) => Ok(self.below_token_near(of, token, guess)),
+            None => Ok(None),
+        }
+    }
+
+    /// The number of the pointer that goes on from one by the token with that number, where it is there. It is `guess`
+    /// if that is right.
+    fn below_token_near(&self, of: u32, token: u32, guess: u32) -> Option<u32>
+        requires { token < length (names_of self.now.tokens) + 2147483648 }
+        ensures { (p : P) → Leads (pointers_of self.now) (Some of) p
+            → Leads (pointers_of self.now) result (p ++ word (names_of self.now.tokens) token ∷ []) }
+    {
+        if self.goes_on(guess, of, token) {
+            Some(guess)
+        } else {
+            self.below_token(of, token)
+        }
+    }
+
+    /// The same without a guess.
+    fn below_token(&self, of: u32, token: u32) -> Option<u32>
+        requires { token < length (names_of self.now.tokens) + 2147483648 }
+        ensures { (p : P) → Leads (pointers_of self.now) (Some of) p
+            → Leads (pointers_of self.now) result (p ++ word (names_of self.now.tokens) token ∷ []) }
+    {
+        let step = (of, token);
         let index = self.steps.get_index_of(&step)?;
         Some(index as u32 + 1)
     }
 
-    /// The same with the token of the element at `index`.
-    pub fn below_index(&self, at: Option<u32>, index: usize) -> Result<Option<u32>, Memory>
-        ensures { IfOk result (λ found. (p : P) → Leads (pointers_of self.now) at p
-            → Leads (pointers_of self.now) found (p ++ index_token index ∷ [])) }
+    /// Whether the pointer numbered `number` goes on from one by the token with that number.
+    fn goes_on(&self, number: u32, of: u32, token: u32) -> bool
+        ensures { result ≡ true → (number < length (pointers_of self.now))
+            × (get_or (pointers_of self.now) number []
+            ≡ get_or (pointers_of self.now) of [] ++ word (names_of self.now.tokens) token ∷ []) }
     {
-        let token = decimal_text(*self.tokens.allocator(), index)?;
-        Ok(self.below(at, token.as_text()))
+        if number == 0 || number >= self.len() {
+            return false;
+        }
+        let step = self.step(number);
+        step.0 == of && step.1 == token
     }
 
     /// The number of the pointer that goes on from one by a token. It is added where it isn't there.
@@ -86,8 +134,11 @@ impl Pointers {
         ensures number { IfOk result (λ n. Leads (pointers_of self.new) (Some n)
             (get_or (pointers_of self.old) of [] ++ index_token index ∷ [])) }
     {
-        let token = decimal_text(*self.tokens.allocator(), index)?;
-        self.add(of, token.as_text())
+        let Some(token) = index_number(index) else {
+            let token = decimal_text(*self.steps.allocator(), index)?;
+            return self.add(of, token.as_text());
+        };
+        self.step_number(of, token)
     }
 
     /// The number of a pointer that is given whole. It is added where it isn't there, with those that lead to it.
@@ -104,28 +155,19 @@ impl Pointers {
 
     /// The number of a token. It is added where it isn't there.
     fn token_number(&mut self, text: &str) -> Result<u32, Memory>
-        ensures same { OnOk result (pointers_of self.new ≡ pointers_of self.old) }
-        ensures word { IfOk result (λ k. (k < length (words_of self.new))
-            × (get_or (words_of self.new) k [] ≡ chars text.now)) }
+        ensures same { pointers_of self.new ≡ pointers_of self.old }
+        ensures word { IfOk result (λ k. IsWord (names_of self.new.tokens) k (chars text.now)) }
     {
-        if let Some(index) = self.tokens.get_index_of(text) {
-            return Ok(index as u32);
-        }
-        if self.tokens.len() >= MOST {
-            return Err(Memory);
-        }
-        let token = String::from_str(*self.tokens.allocator(), text)?;
-        let (index, _) = self.tokens.insert_full(token)?;
-        Ok(index as u32)
+        self.tokens.add(text)
     }
 
     /// The number of the pointer that goes on from one by the token with that number. It is added where it isn't there.
     fn step_number(&mut self, of: u32, token: u32) -> Result<u32, Memory>
         requires of { of < length (pointers_of self.old) }
-        requires token { token < length (words_of self.old) }
+        requires token { token < length (names_of self.old.tokens) + 2147483648 }
         ensures grows { OnOk result (Grows (pointers_of self.old) (pointers_of self.new)) }
         ensures number { IfOk result (λ n. Leads (pointers_of self.new) (Some n)
-            (get_or (pointers_of self.old) of [] ++ get_or (words_of self.old) token [] ∷ [])) }
+            (get_or (pointers_of self.old) of [] ++ word (names_of self.old.tokens) token ∷ [])) }
     {
         if self.steps.len() >= MOST {
             return Err(Memory);
@@ -142,22 +184,22 @@ impl Pointers {
         let mut tokens = self.tokens_up(alloc, number)?;
         let mut pointer = Pointer::root(alloc);
         while let Some(token) = tokens.pop() {
-            pointer.push_name(token)?;
+            token.push_on(&mut pointer)?;
         }
         Ok(pointer)
     }
 
     /// The tokens of the pointer with that number, the last first.
-    fn tokens_up(&self, alloc: Global, number: u32) -> Result<Vec<&str>, Memory>
+    fn tokens_up(&self, alloc: Global, number: u32) -> Result<Vec<Token<'_>>, Memory>
         requires { number < length (pointers_of self.now) }
-        ensures { IfOk result (λ tokens. reverse (map (λ t. chars t.now) tokens.items)
+        ensures { IfOk result (λ tokens. reverse (map token_text tokens.items)
             ≡ get_or (pointers_of self.now) number []) }
     {
         let mut tokens = Vec::new(alloc);
         let mut at = number;
         while at > 0 {
             let (of, token) = self.step(at);
-            tokens.push(self.token(token))?;
+            tokens.push(self.tokens.token(token))?;
             at = of;
         }
         Ok(tokens)
@@ -168,22 +210,12 @@ impl Pointers {
         requires below { 0 < number }
         requires within { number < length (pointers_of self.now) }
         ensures earlier { result.0 < number }
-        ensures known { result.1 < length (words_of self.now) }
+        ensures known { result.1 < length (names_of self.now.tokens) + 2147483648 }
         ensures makes { get_or (pointers_of self.now) number []
-            ≡ get_or (pointers_of self.now) result.0 [] ++ get_or (words_of self.now) result.1 [] ∷ [] }
+            ≡ get_or (pointers_of self.now) result.0 [] ++ word (names_of self.now.tokens) result.1 ∷ [] }
     {
         match self.steps.get_index(number as usize - 1) {
             Some(step) => *step,
-            None => unreachable!(),
-        }
-    }
-
-    fn token(&self, number: u32) -> &str
-        requires { number < length (words_of self.now) }
-        ensures { chars result.now ≡ get_or (words_of self.now) number [] }
-    {
-        match self.tokens.get_index(number as usize) {
-            Some(token) => token.as_str(),
             None => unreachable!(),
         }
     }

@@ -18,13 +18,13 @@ ghost use Rattle.js_walk.specs.PlacesView.{place_view, pointers_in, places_view,
 ghost use Rattle.js_walk.specs.Visiting.{AreWithin};
 ghost use Rattle.js_walk.specs.Walking.{done_places, stack_view, DoneWithin, Kept, NextOf, Passes, too_large};
 
+use crate::done_list::DoneList;
 use crate::file::File;
 use crate::place::{Done, Found, Place};
 use crate::places::Places;
 use crate::pointers::Pointers;
 use crate::visit::visit;
 use crate::weight::weight;
-use indexmap::IndexMap;
 use js_doc::Memory;
 use js_keywords::SchemaFault;
 use std::alloc::Global;
@@ -41,7 +41,7 @@ pub fn walk<'a>(alloc: Global, file: &File<'a>) -> Result<Places<'a>, SchemaFaul
     ensures fault { IfErr result (λ f. Tells (first_fault rules (root_of file.now)) f) }
 {
     let mut pointers = Pointers::new(alloc);
-    let mut done = IndexMap::new(alloc);
+    let mut done = DoneList::new(alloc);
     let mut waiting = Vec::new(alloc);
     waiting.push(root_place(file))?;
     let mut weight = 0;
@@ -72,12 +72,12 @@ fn root_place<'a>(file: &File<'a>) -> Place<'a>
 /// The next place that isn't done. Those before it are left out.
 fn next<'a>(
     waiting: &mut Vec<Place<'a>>,
-    done: &IndexMap<u32, Done<'a>>,
+    done: &DoneList<'a>,
     pointers: &Pointers,
 ) -> Option<Place<'a>>
     requires waiting { AreWithin (pointers_of pointers.now) waiting.old.items }
-    requires done { DoneWithin (pointers_of pointers.now) done.now.entries }
-    ensures next { NextOf (pointers_of pointers.now) (next_of (done_places (pointers_of pointers.now) done.now.entries)
+    requires done { DoneWithin (pointers_of pointers.now) done.now }
+    ensures next { NextOf (pointers_of pointers.now) (next_of (done_places (pointers_of pointers.now) done.now)
         (stack_view (pointers_of pointers.now) waiting.old.items)) waiting.new.items result }
     ensures left { AreWithin (pointers_of pointers.now) waiting.new.items }
     ensures within { IfSome result (λ p. p.pointer < length (pointers_of pointers.now)) }
@@ -90,13 +90,13 @@ fn next<'a>(
     None
 }
 
-fn is_done<'a>(done: &IndexMap<u32, Done<'a>>, pointers: &Pointers, pointer: u32) -> bool
-    requires done { DoneWithin (pointers_of pointers.now) done.now.entries }
+fn is_done<'a>(done: &DoneList<'a>, pointers: &Pointers, pointer: u32) -> bool
+    requires done { DoneWithin (pointers_of pointers.now) done.now }
     requires pointer { pointer < length (pointers_of pointers.now) }
-    ensures { result ≡ has_place (done_places (pointers_of pointers.now) done.now.entries)
+    ensures { result ≡ has_place (done_places (pointers_of pointers.now) done.now)
         (get_or (pointers_of pointers.now) pointer []) }
 {
-    done.contains_key(&pointer)
+    done.has(pointer)
 }
 
 /// Goes on past a place without a fault: it is done, and what it leads to is next. Answers the weight with it.
@@ -104,29 +104,29 @@ fn pass<'a>(
     alloc: Global,
     file: &File<'a>,
     pointers: &mut Pointers,
-    done: &mut IndexMap<u32, Done<'a>>,
+    done: &mut DoneList<'a>,
     waiting: &mut Vec<Place<'a>>,
     before: u64,
     place: Place<'a>,
 ) -> Result<u64, SchemaFault>
     requires within { place.pointer < length (pointers_of pointers.old) }
-    requires first { has_place (done_places (pointers_of pointers.old) done.old.entries)
+    requires first { has_place (done_places (pointers_of pointers.old) done.old)
         (get_or (pointers_of pointers.old) place.pointer []) ≡ false }
     requires light { before ≤ 2147483647 }
-    requires kept { Kept (root_of file.now) (pointers_of pointers.old) done.old.entries waiting.old.items }
+    requires kept { Kept (root_of file.now) (pointers_of pointers.old) done.old waiting.old.items }
     ensures ok { IfOk result (Passes (root_of file.now) before (place_view (pointers_of pointers.old) place.entry)
-        (done_places (pointers_of pointers.old) done.old.entries)
-        (done_places (pointers_of pointers.new) done.new.entries)
+        (done_places (pointers_of pointers.old) done.old)
+        (done_places (pointers_of pointers.new) done.new)
         (stack_view (pointers_of pointers.old) waiting.old.items)
         (stack_view (pointers_of pointers.new) waiting.new.items)) }
     ensures kept { OnOk result
-        (Kept (root_of file.now) (pointers_of pointers.new) done.new.entries waiting.new.items) }
+        (Kept (root_of file.now) (pointers_of pointers.new) done.new waiting.new.items) }
     ensures fault { IfErr result (λ f. Tells
         (fault_with rules (root_of file.now) before (place_view (pointers_of pointers.old) place.entry)) f) }
 {
     let found = visit(alloc, file, pointers, &place)?;
     let after = with_weight(alloc, pointers, before, &place)?;
-    done.insert(
+    done.push(
         place.pointer,
         Done {
             value: place.value,

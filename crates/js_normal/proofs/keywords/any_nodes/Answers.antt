@@ -8,7 +8,9 @@ use Rattle.js_normal.proofs.keywords.any_nodes.Goals as goal
 
 pub returns : goal.returns
 returns c =
-    let k = c.args.keywords.now in
-    IfOk-equal c.constant.result _ _ _ c.constant.ensures
-    (chain _ _ _ _ _ (c.in_ok-optional.ensures ∙ run-optional (λ ts. Types (kinds_of ts)) (option_map (λ ts. map type_view ts) k.types) _ _ c.in_ok-types.ensures)
-    (chain-end _ _ _ _ c.in_ok-enumeration.ensures))
+    let k = c.deref-any.result.now in
+    rw (← c.deref-any.ensures) (IfOk-equal c.constant.result _ _ _ c.constant.ensures
+    (chain _ _ _ _ _
+    (c.in_ok-optional.ensures
+    ∙ run-optional (λ ts. Types (kinds_of ts)) (option_map (λ ts. map type_view ts) k.types) _ _ c.in_ok-types.ensures)
+    (chain-end _ _ _ _ c.in_ok-enumeration.ensures)))

@@ -6,11 +6,11 @@ use Rattle.js_schema.specs.NumbersView.{numbered, pointer_at}
 use Rattle.js_schema.proofs.FormsLemmas.{object_form-asks}
 use Rattle.js_schema.proofs.forms.object_form.Goals as goal
 
-pub returns-in_ok-new-in-None : goal.returns-in_ok-new-in-None
-returns-in_ok-new-in-None c =
+pub returns-in_ok-keywords-in-None : goal.returns-in_ok-keywords-in-None
+returns-in_ok-keywords-in-None c =
     let none = sym c.value_of.ensures ∙ ap (option_map (λ j. view j.now)) c.in-None.is in
     let numbers = ap (λ n. number_of (numbered n)) c.new-object.ensures.numbers in
     object_form-asks (root_of c.args.file.now) (number_of (numbered c.args.numbers.now)) _ _ numbers
     (pointer_at c.args.numbers.now c.args.pointer) _ (map_view c.args.members.now) _
-    c.in_ok-new-in-None.field-0.value c.in_ok-keywords-in-None.keywords none c.in_ok-new-in-None.ensures.ok
-    c.in_ok-keywords-in-None.ensures c.new-object.ensures.place c.new-object.ensures.members
+    c.in_ok-keywords-in-None.field-0.value none c.in_ok-keywords-in-None.ensures c.new-object.ensures.place
+    c.new-object.ensures.members

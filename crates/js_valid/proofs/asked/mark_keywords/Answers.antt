@@ -18,4 +18,5 @@ returns-clause-marks c j h =
       c.mark_list-3.ensures.len,
       c.mark_option.ensures.len,
     )) in
-    marks_after j _ _ _ _ _ (marks_after j _ _ _ _ _ (marks_after j _ _ _ _ _ (marks_after j _ _ _ _ _ m1 m2) m3) m4) m5
+    rw (← c.deref-in_place.ensures, ← c.deref.ensures) (marks_after j _ _ _ _ _ (marks_after j _ _ _ _ _
+    (marks_after j _ _ _ _ _ (marks_after j _ _ _ _ _ m1 m2) m3) m4) m5)

@@ -6,6 +6,6 @@ use Rattle.js_walk.proofs.steps.is_done.Goals as goal
 pub returns : goal.returns
 returns c =
     let ps = pointers_of c.args.pointers.now in
-    c.contains_key.ensures
+    c.has.ensures
     ∙ has_place-lookup _ _ ps c.args.pointers.now.table c.args.pointer (get_or ps c.args.pointer []) c.requires.pointer
-    refl c.args.done.now.entries c.requires.done
+    refl c.args.done.now c.requires.done

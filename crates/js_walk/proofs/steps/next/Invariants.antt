@@ -8,9 +8,9 @@ use Rattle.js_walk.proofs.steps.next.Given as goal
 abbrev pub invariant-loop-place : goal.invariant-loop-place
 invariant-loop-place l = record {
   within : AreWithin (pointers_of l.fn.pointers) l.waiting.items;
-  next : next_of (done_places (pointers_of l.fn.pointers) l.fn.done.entries)
+  next : next_of (done_places (pointers_of l.fn.pointers) l.fn.done)
       (stack_view (pointers_of l.fn.pointers) l.waiting.items)
-      ≡ next_of (done_places (pointers_of l.fn.pointers) l.fn.done.entries)
+      ≡ next_of (done_places (pointers_of l.fn.pointers) l.fn.done)
       (stack_view (pointers_of l.fn.pointers) l.fn.waiting.items);
 }
 

@@ -3,22 +3,26 @@ use Rattle.js_walk.specs.FileView.{root_of}
 use Rattle.js_walk.specs.PlacesView.{place_view}
 use Rattle.js_walk.specs.PointersView.{pointers_of}
 use Rattle.js_walk.specs.Walking.{done_places, stack_view, Kept, Passed}
-use Rattle.js_walk.proofs.KeepingLemmas.{entry_of, kept-more, passed-more, inserted-last}
+use Rattle.js_walk.proofs.KeepingLemmas.{entry_of, kept-more, passed-more, not_done}
 use Rattle.js_walk.proofs.steps.pass.Goals as goal
+
+pub push-requires : goal.push-requires
+push-requires c =
+    let kept = c.requires.kept in
+    not_done _ _ (pointers_of c.args.pointers.now) c.args.pointers.now.table c.args.place.pointer c.args.done.now kept.done
+    c.requires.within c.requires.first
 
 pub returns-clause-ok : goal.returns-clause-ok
 returns-clause-ok c =
     let root = root_of c.args.file.now in
     let ps = pointers_of c.args.pointers.now in
     let qs = pointers_of c.visit.new.pointers in
-    let es = c.args.done.now.entries in
+    let es = c.args.done.now in
     let cs = c.args.waiting.now.items in
     let place = place_view ps c.args.place in
     let kept = c.requires.kept in
     let weight = c.in_ok-after.ensures.ok in
-    let last =
-    inserted-last _ _ ps c.args.pointers.now.table c.args.done.now c.args.place.pointer _
-    c.insert.new.self.entries kept.done c.requires.within c.requires.first c.in_ok-insert.ensures.entries in
+    let last = c.in_ok-push.ensures in
     subst (λ ds. Passed root c.args.before c.in_ok-after.after place (done_places ps es) (done_places qs ds)
     (stack_view ps cs) (stack_view qs c.stack_up.new.waiting.items)) (sym last)
     (subst (λ ws. Passed root c.args.before c.in_ok-after.after place (done_places ps es)
@@ -32,11 +36,9 @@ returns-clause-kept c =
     let root = root_of c.args.file.now in
     let ps = pointers_of c.args.pointers.now in
     let qs = pointers_of c.visit.new.pointers in
-    let es = c.args.done.now.entries in
+    let es = c.args.done.now in
     let kept = c.requires.kept in
-    let last =
-    inserted-last _ _ ps c.args.pointers.now.table c.args.done.now c.args.place.pointer _
-    c.insert.new.self.entries kept.done c.requires.within c.requires.first c.in_ok-insert.ensures.entries in
+    let last = c.in_ok-push.ensures in
     subst (λ ds. Kept root qs ds c.stack_up.new.waiting.items) (sym last)
     (subst (λ ws. Kept root qs (es ++ entry_of c.args.place c.in_ok-found.found ∷ []) ws)
     (sym c.in_ok-stack_up.ensures)

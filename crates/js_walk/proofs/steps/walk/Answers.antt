@@ -18,14 +18,14 @@ loop-place-init c =
     let place = one_place (ap (λ n. get_or ps n []) first ∙ table.root) c.root_place.ensures.value in
     record {
       reading =
-          begun root (done_places ps c.new-done.result.entries) (stack_view ps c.push.new.self.items)
-          (ap (done_places ps) c.new-done.ensures.empty)
+          begun root (done_places ps c.new-done.result) (stack_view ps c.push.new.self.items)
+          (ap (done_places ps) c.new-done.ensures)
           (alone root ps c.root_place.result c.new-waiting.result.items c.push.new.self.items
           c.in_ok-push.ensures.items c.new-waiting.ensures.items place);
       light = lit≤ tt;
       kept =
-          kept-first root ps c.new-done.result.entries c.new-waiting.result.items c.push.new.self.items
-          c.root_place.result c.new-done.ensures.empty c.in_ok-push.ensures.items c.new-waiting.ensures.items
+          kept-first root ps c.new-done.result c.new-waiting.result.items c.push.new.self.items
+          c.root_place.result c.new-done.ensures c.in_ok-push.ensures.items c.new-waiting.ensures.items
           (omega (arith, counted, first));
     }
 

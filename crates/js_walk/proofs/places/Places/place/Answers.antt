@@ -8,5 +8,5 @@ pub returns-clause-pointer : goal.returns-clause-pointer
 returns-clause-pointer c =
     let places = c.args.self.now in
     ltb-true _ (length (pointers_in places))
-    (every-at (λ e. nat_lt e.0 (length (pointers_in places))) places.map.entries c.args.number
-    (c.in-Some.pointer.now, c.in-Some.done.now) places.within (sym c.in-Some.ensures.entry))
+    (every-at (λ e. nat_lt e.0 (length (pointers_in places))) places.done c.args.number
+    c.entry.result.now places.within (sym c.entry.ensures))

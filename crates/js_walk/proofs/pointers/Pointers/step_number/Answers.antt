@@ -1,12 +1,13 @@
 use Rattle.std.proofs.Common.{◌&&◌, nat_eq}
-use Rattle.js_walk.specs.PointersView.{words_of}
+use Rattle.js_walk.specs.TokensView.{names_of}
 use Rattle.js_walk.proofs.GrowthLemmas.{inserted, step-table, step-grows, step-number}
 use Rattle.js_walk.proofs.pointers.Pointers.step_number.Goals as goal
 
 pub invariant_of-self-clause-table : goal.invariant_of-self-clause-table
 invariant_of-self-clause-table c =
     let t = c.args.self.now in
-    step-table (words_of t) t.steps.keys t.table c.args.of c.args.token c.requires.of c.requires.token
+    step-table (names_of t.tokens) t.steps.keys t.table t.tokens.are_names
+    c.args.of c.args.token c.requires.of c.requires.token
     c.insert_full.new.self.keys
     (inserted (λ a b. nat_eq a.0 b.0 && nat_eq a.1 b.1) t.steps.keys c.insert_full.new.self.keys
     (c.args.of, c.args.token) c.insert_full.result c.insert_full.ensures.keys c.insert_full.ensures.err)
@@ -14,7 +15,8 @@ invariant_of-self-clause-table c =
 pub returns-clause-grows : goal.returns-clause-grows
 returns-clause-grows c =
     let t = c.args.self.now in
-    step-grows (words_of t) t.steps.keys t.table c.args.of c.args.token c.requires.of c.requires.token
+    step-grows (names_of t.tokens) t.steps.keys t.table t.tokens.are_names
+    c.args.of c.args.token c.requires.of c.requires.token
     c.insert_full.new.self.keys
     (inserted (λ a b. nat_eq a.0 b.0 && nat_eq a.1 b.1) t.steps.keys c.insert_full.new.self.keys
     (c.args.of, c.args.token) c.insert_full.result c.insert_full.ensures.keys c.insert_full.ensures.err)
@@ -22,5 +24,6 @@ returns-clause-grows c =
 pub returns-clause-number : goal.returns-clause-number
 returns-clause-number c =
     let t = c.args.self.now in
-    step-number (words_of t) t.steps.keys t.table c.args.of c.args.token c.requires.of c.requires.token
+    step-number (names_of t.tokens) t.steps.keys t.table t.tokens.are_names
+    c.args.of c.args.token c.requires.of c.requires.token
     c.insert_full.new.self.keys _ c.in_ok-index.ensures.keys c.in_ok-index.ensures.index

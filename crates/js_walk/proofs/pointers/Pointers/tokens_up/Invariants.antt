@@ -1,11 +1,12 @@
-use Rattle.std.proofs.Common.{◌≡◌, ◌<◌, [], ◌++◌, map, reverse, length, chars, get_or}
+use Rattle.std.proofs.Common.{◌≡◌, ◌<◌, [], ◌++◌, map, reverse, length, get_or}
+use Rattle.js_walk.specs.TokensView.{token_text}
 use Rattle.js_walk.specs.PointersView.{pointers_of}
 use Rattle.js_walk.proofs.pointers.Pointers.tokens_up.Given as goal
 
 abbrev pub invariant-loop-at : goal.invariant-loop-at
 invariant-loop-at l = record {
   within : l.at < length (pointers_of l.fn.self);
-  rest : get_or (pointers_of l.fn.self) l.at [] ++ reverse (map (λ t. chars t.now) l.tokens.items)
+  rest : get_or (pointers_of l.fn.self) l.at [] ++ reverse (map token_text l.tokens.items)
       ≡ get_or (pointers_of l.fn.self) l.fn.number [];
 }
 
