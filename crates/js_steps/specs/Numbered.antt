@@ -1,0 +1,12 @@
+-- Where each of the steps is found, by its two numbers.
+use Rattle.std.specs.Prelude.{◌≡◌, ℕ, ◌<◌, List, length, get_or, Bool, ◌&&◌, nat_eq, Option, Some}
+
+abbrev pub same_step : ℕ × ℕ → ℕ × ℕ → Bool
+same_step a b = nat_eq a.0 b.0 && nat_eq a.1 b.1
+
+-- what is found stands there, and each step is found where it stands. So no step stands twice
+pub record IsNumbered (steps : List (ℕ × ℕ)) (found : ℕ → ℕ → Option ℕ) : Type 0 where
+  pub sound : (of token i : ℕ) → found of token ≡ Some i
+      → (i < length steps) × (get_or steps i (0, 0) ≡ (of, token))
+  pub complete : (i : ℕ) → i < length steps
+      → found (get_or steps i (0, 0)).0 (get_or steps i (0, 0)).1 ≡ Some i
