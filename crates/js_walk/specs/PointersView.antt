@@ -7,4 +7,4 @@ use Rattle.js_walk.specs.declared.pointers.Pointers.{Pointers}
 
 -- by number
 abbrev pub pointers_of : Pointers → List Pointer
-pointers_of t = numbered (names_of t.tokens) t.steps.keys
+pointers_of t = numbered (names_of t.tokens) t.steps

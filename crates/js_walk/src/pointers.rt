@@ -10,21 +10,18 @@ ghost use Rattle.js_walk.specs.TokensView.{names_of, token_text};
 ghost use Rattle.js_walk.specs.Table.{word, numbered, IsWord, IsTable, Leads, Grows};
 
 use crate::tokens::{Token, Tokens, index_number};
-use indexmap::IndexSet;
 use js_doc::{Memory, Str};
 use js_json::Pointer;
+use js_steps::Steps;
 use std::alloc::Global;
-
-/// How many pointers are kept but for the root. Beyond, it is memory that is wanting.
-const MOST: usize = 4_294_967_294;
 
 /// Pointers, no two of them the same. With each stand all those that lead to it.
 #[derive(Drop)]
 pub struct Pointers {
     tokens: Tokens,
-    steps: IndexSet<(u32, u32)>,
-    ghost table: { IsTable (names_of tokens) steps.keys (numbered (names_of tokens) steps.keys) },
-    ghost few: { length steps.keys < 4294967295 },
+    steps: Steps,
+    ghost table: { IsTable (names_of tokens) steps (numbered (names_of tokens) steps) },
+    ghost few: { length steps < 4294967295 },
 }
 
 impl Pointers {
@@ -36,7 +33,7 @@ impl Pointers {
     {
         Pointers {
             tokens: Tokens::new(alloc),
-            steps: IndexSet::new(alloc),
+            steps: Steps::new(alloc),
         }
     }
 
@@ -69,7 +66,7 @@ impl Pointers {
             → Leads (pointers_of self.now) found (p ++ index_token index ∷ [])) }
     {
         let Some(token) = index_number(index) else {
-            let token = decimal_text(*self.steps.allocator(), index)?;
+            let token = decimal_text(self.tokens.allocator(), index)?;
             return Ok(self.below(at, token.as_text()));
         };
         match at {
@@ -98,8 +95,7 @@ impl Pointers {
         ensures { (p : P) → Leads (pointers_of self.now) (Some of) p
             → Leads (pointers_of self.now) result (p ++ word (names_of self.now.tokens) token ∷ []) }
     {
-        let step = (of, token);
-        let index = self.steps.get_index_of(&step)?;
+        let index = self.steps.number(of, token)?;
         Some(index as u32 + 1)
     }
 
@@ -135,7 +131,7 @@ impl Pointers {
             (get_or (pointers_of self.old) of [] ++ index_token index ∷ [])) }
     {
         let Some(token) = index_number(index) else {
-            let token = decimal_text(*self.steps.allocator(), index)?;
+            let token = decimal_text(self.tokens.allocator(), index)?;
             return self.add(of, token.as_text());
         };
         self.step_number(of, token)
@@ -169,10 +165,7 @@ impl Pointers {
         ensures number { IfOk result (λ n. Leads (pointers_of self.new) (Some n)
             (get_or (pointers_of self.old) of [] ++ word (names_of self.old.tokens) token ∷ [])) }
     {
-        if self.steps.len() >= MOST {
-            return Err(Memory);
-        }
-        let (index, _) = self.steps.insert_full((of, token))?;
+        let index = self.steps.add(of, token)?;
         Ok(index as u32 + 1)
     }
 
@@ -214,10 +207,7 @@ impl Pointers {
         ensures makes { get_or (pointers_of self.now) number []
             ≡ get_or (pointers_of self.now) result.0 [] ++ word (names_of self.now.tokens) result.1 ∷ [] }
     {
-        match self.steps.get_index(number as usize - 1) {
-            Some(step) => *step,
-            None => unreachable!(),
-        }
+        self.steps.step(number as usize - 1)
     }
 }
 

@@ -59,6 +59,11 @@ impl Tokens {
         }
     }
 
+    /// What the names are kept by.
+    pub fn allocator(&self) -> Global {
+        *self.names.allocator()
+    }
+
     /// The number of a token, where it has one, in time in proportion to its text.
     pub fn number(&self, text: &str) -> Option<u32>
         ensures { MatchOption result ((k : ℕ) → IsWord (names_of self.now) k (chars text.now) → ⊥)

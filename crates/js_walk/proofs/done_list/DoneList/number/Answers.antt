@@ -1,4 +1,4 @@
-use Rattle.std.proofs.Common.{◌≡◌, ◌≤◌, ◌<◌, ℕ, length, get_or, nat_eq, position, List, ap, sym, ◌∙◌, arith}
+use Rattle.std.proofs.Common.{◌≡◌, ◌<◌, ℕ, length, get_or, nat_eq, position, List, ap, sym, ◌∙◌, arith}
 use Rattle.std.proofs.lemmas.Grind.{get_or_default_zero}
 use Rattle.std.specs.Map.{keys_of}
 use Rattle.js_walk.proofs.DoneLemmas.{length-keys, key-at, noted-there, noted-beyond, noted-other, noted-nowhere}

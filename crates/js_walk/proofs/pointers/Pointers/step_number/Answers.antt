@@ -6,24 +6,24 @@ use Rattle.js_walk.proofs.pointers.Pointers.step_number.Goals as goal
 pub invariant_of-self-clause-table : goal.invariant_of-self-clause-table
 invariant_of-self-clause-table c =
     let t = c.args.self.now in
-    step-table (names_of t.tokens) t.steps.keys t.table t.tokens.are_names
+    step-table (names_of t.tokens) t.steps t.table t.tokens.are_names
     c.args.of c.args.token c.requires.of c.requires.token
-    c.insert_full.new.self.keys
-    (inserted (λ a b. nat_eq a.0 b.0 && nat_eq a.1 b.1) t.steps.keys c.insert_full.new.self.keys
-    (c.args.of, c.args.token) c.insert_full.result c.insert_full.ensures.keys c.insert_full.ensures.err)
+    c.add.new.self
+    (inserted (λ a b. nat_eq a.0 b.0 && nat_eq a.1 b.1) t.steps c.add.new.self
+    (c.args.of, c.args.token) c.add.result c.add.ensures.keys c.add.ensures.err)
 
 pub returns-clause-grows : goal.returns-clause-grows
 returns-clause-grows c =
     let t = c.args.self.now in
-    step-grows (names_of t.tokens) t.steps.keys t.table t.tokens.are_names
+    step-grows (names_of t.tokens) t.steps t.table t.tokens.are_names
     c.args.of c.args.token c.requires.of c.requires.token
-    c.insert_full.new.self.keys
-    (inserted (λ a b. nat_eq a.0 b.0 && nat_eq a.1 b.1) t.steps.keys c.insert_full.new.self.keys
-    (c.args.of, c.args.token) c.insert_full.result c.insert_full.ensures.keys c.insert_full.ensures.err)
+    c.add.new.self
+    (inserted (λ a b. nat_eq a.0 b.0 && nat_eq a.1 b.1) t.steps c.add.new.self
+    (c.args.of, c.args.token) c.add.result c.add.ensures.keys c.add.ensures.err)
 
 pub returns-clause-number : goal.returns-clause-number
 returns-clause-number c =
     let t = c.args.self.now in
-    step-number (names_of t.tokens) t.steps.keys t.table t.tokens.are_names
+    step-number (names_of t.tokens) t.steps t.table t.tokens.are_names
     c.args.of c.args.token c.requires.of c.requires.token
-    c.insert_full.new.self.keys _ c.in_ok-index.ensures.keys c.in_ok-index.ensures.index
+    c.add.new.self _ c.in_ok-index.ensures.keys c.in_ok-index.ensures.index

@@ -5,9 +5,9 @@ use Rattle.js_walk.proofs.pointers.Pointers.token_number.Goals as goal
 pub invariant_of-self-clause-table : goal.invariant_of-self-clause-table
 invariant_of-self-clause-table c =
     let t = c.args.self.now in
-    word-table (names_of t.tokens) (names_of c.add.new.self) c.add.ensures.keeps t.steps.keys t.table
+    word-table (names_of t.tokens) (names_of c.add.new.self) c.add.ensures.keeps t.steps t.table
 
 pub returns-clause-same : goal.returns-clause-same
 returns-clause-same c =
     let t = c.args.self.now in
-    same_pointers (names_of t.tokens) (names_of c.add.new.self) c.add.ensures.keeps t.steps.keys _ t.table
+    same_pointers (names_of t.tokens) (names_of c.add.new.self) c.add.ensures.keeps t.steps _ t.table
