@@ -94,7 +94,7 @@ impl<'a> DoneList<'a> {
         ensures { OnOk result (self.new ≡ self.old ++ (pointer, done.entry) ∷ []) }
     {
         let number = self.entries.len();
-        if number > MOST {
+        if number >= MOST {
             return Err(Memory);
         }
         let index = pointer as usize;
