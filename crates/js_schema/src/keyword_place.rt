@@ -51,16 +51,14 @@ impl<'a> KeywordPlace<'a> {
         self.object.numbers().number(self.pointer)
     }
 
-    /// The number of the element at `index` of the value, and a guess for the next one: the number after that of this
-    /// element's pointer. Any guess is right, and a good one is faster.
-    pub(crate) fn element(&self, index: usize, guess: u32) -> Result<(u32, u32), Memory>
+    /// The number of the element at `index` of the value.
+    pub(crate) fn element(&self, index: usize) -> Result<u32, Memory>
         ensures { IfOk result
-            (λ r. r.0 ≡ number_of (places_about self.now) (at self.now ++ index_token index ∷ [])) }
+            (λ n. n ≡ number_of (places_about self.now) (at self.now ++ index_token index ∷ [])) }
     {
         let numbers = self.object.numbers();
-        let pointer = numbers.below_index(self.pointer, index, guess)?;
-        let next = pointer.unwrap_or(0).saturating_add(1);
-        Ok((numbers.number(pointer), next))
+        let pointer = numbers.below_index(self.pointer, index)?;
+        Ok(numbers.number(pointer))
     }
 
     /// The number of the member of that name of the value.

@@ -31,11 +31,8 @@ pub(crate) fn elements(
 {
     let items = items.as_slice();
     let mut made = Vec::with_capacity(alloc, items.len())?;
-    let mut guess = 0;
     for (i, _item) in items.iter().enumerate() {
-        let (entry, next) = place.element(i, guess)?;
-        made.push(entry)?;
-        guess = next;
+        made.push(place.element(i)?)?;
     }
     Ok(EntryList::from_vec(made))
 }

@@ -43,17 +43,16 @@ impl<'a> Numbers<'a> {
         self.places.below(pointer, token)
     }
 
-    /// The number of the pointer to the element at `index`. It is found sooner where it is `guess`.
+    /// The number of the pointer to the element at `index`.
     pub(crate) fn below_index(
         &self,
         pointer: Option<u32>,
         index: usize,
-        guess: u32,
     ) -> Result<Option<u32>, Memory>
         ensures { IfOk result (λ below. (p : Pointer) → Leads (pointers_in self.now) pointer p
             → Leads (pointers_in self.now) below (p ++ index_token index ∷ [])) }
     {
-        self.places.below_index(pointer, index, guess)
+        self.places.below_index(pointer, index)
     }
 
     pub(crate) fn len(&self) -> usize

@@ -62,7 +62,8 @@ impl Steps {
     /// The number of a step, where it is there. Where it and those by the lower tokens were added in turn it takes no
     /// hash, nor where all that go on from `of` were so added; else one.
     pub fn number(&self, of: u32, token: u32) -> Option<usize>
-        ensures { result ≡ position (λ s. nat_eq of s.0 && nat_eq token s.1) self.now }
+        ensures index { result ≡ position (λ s. nat_eq of s.0 && nat_eq token s.1) self.now }
+        ensures few { length self.now < 4294967295 }
     {
         self.places.number(of, token)
     }

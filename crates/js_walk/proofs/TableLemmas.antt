@@ -135,7 +135,7 @@ module _ (names : List (List ℕ)) (steps : List (ℕ × ℕ)) (ps : List Pointe
       let e = (table.made step.0 l).earlier in
       (_, omega (arith, counted, l, e), step.3)
 
-  pub made-word : (n i : ℕ) (p : Pointer) (t : List ℕ) → get_or ps n [] ≡ p → i < length steps
+  made-word : (n i : ℕ) (p : Pointer) (t : List ℕ) → get_or ps n [] ≡ p → i < length steps
       → (get_or steps i (0, 0)).0 ≡ n → word names (get_or steps i (0, 0)).1 ≡ t
       → (i + 1 < length ps) × (get_or ps (i + 1) [] ≡ p ++ t ∷ [])
   made-word n i p t is within of_is text_is =

@@ -2,22 +2,29 @@
 use Rattle.std.specs.Prelude.{◌≡◌, ℕ, suc, ◌+◌, ◌-◌, ◌≤◌, ◌<◌, List, [], ◌∷◌, ◌++◌, length, get_or, nat_lt, if◌then◌else◌, Option, Some, None}
 use Rattle.schemas.specs.Places.{Pointer, index_token}
 
--- a number below 2³¹ is that of the token of an element, and others are those of names
+-- the number of the first name
+abbrev pub first_name : ℕ
+first_name = 2147483648
+
+-- a token has the number: those below that of the first name are the tokens of elements
+abbrev pub IsKnown : List (List ℕ) → ℕ → Type 0
+IsKnown names k = k < length names + first_name
+
 unfoldable pub word : List (List ℕ) → ℕ → List ℕ
-word names k = if nat_lt k 2147483648 then index_token k else get_or names (k - 2147483648) []
+word names k = if nat_lt k first_name then index_token k else get_or names (k - first_name) []
 
 abbrev pub IsWord : List (List ℕ) → ℕ → List ℕ → Type 0
-IsWord names k t = (k < length names + 2147483648) × (word names k ≡ t)
+IsWord names k t = IsKnown names k × (word names k ≡ t)
 
 -- no name stands there twice, and none is a token that has a number without it
 pub record AreNames (names : List (List ℕ)) : Type 0 where
   pub distinct : (i j : ℕ) → i < length names → j < length names → get_or names i [] ≡ get_or names j [] → i ≡ j
-  pub no_index : (i n : ℕ) → i < length names → get_or names i [] ≡ index_token n → 2147483648 ≤ n
+  pub no_index : (i n : ℕ) → i < length names → get_or names i [] ≡ index_token n → first_name ≤ n
 
 -- words keep their numbers, and others may come after them
 abbrev pub Keeps : List (List ℕ) → List (List ℕ) → Type 0
 Keeps old new =
-    (length old ≤ length new) × ((k : ℕ) → k < length old + 2147483648 → word new k ≡ word old k)
+    (length old ≤ length new) × ((k : ℕ) → IsKnown old k → word new k ≡ word old k)
 
 -- a step goes on from the pointer with its first number, by the word with its second
 abbrev pub gone_on : List (List ℕ) → List Pointer → List (ℕ × ℕ) → List Pointer
@@ -30,7 +37,7 @@ numbered names steps = gone_on names ([] ∷ []) steps
 -- step i makes pointer i + 1 of an earlier one
 pub record IsStep (names : List (List ℕ)) (ps : List Pointer) (s : ℕ × ℕ) (i : ℕ) : Type 0 where
   pub earlier : s.0 ≤ i
-  pub known : s.1 < length names + 2147483648
+  pub known : IsKnown names s.1
   pub makes : get_or ps (suc i) [] ≡ get_or ps s.0 [] ++ word names s.1 ∷ []
 
 -- no pointer stands there twice

@@ -83,17 +83,12 @@ impl<'a> Places<'a> {
         self.pointers.below(at, token)
     }
 
-    /// The same with the token of the element at `index`. The pointer numbered `guess` is tried first.
-    pub fn below_index(
-        &self,
-        at: Option<u32>,
-        index: usize,
-        guess: u32,
-    ) -> Result<Option<u32>, Memory>
+    /// The same with the token of the element at `index`.
+    pub fn below_index(&self, at: Option<u32>, index: usize) -> Result<Option<u32>, Memory>
         ensures { IfOk result (λ found. (p : P) → Leads (pointers_in self.now) at p
             → Leads (pointers_in self.now) found (p ++ index_token index ∷ [])) }
     {
-        self.pointers.below_index(at, index, guess)
+        self.pointers.below_index(at, index)
     }
 
     /// All pointers, by the same numbers.

@@ -4,10 +4,10 @@
 //! long it is, and each name in it is kept once. To go down by a name takes time in proportion to that name, and to go
 //! down by an index needs no text. A whole pointer is made only when it is asked for.
 
-ghost use Rattle.std.specs.Prelude.{◌≡◌, ◌+◌, ◌≤◌, ◌<◌, ◌++◌, ◌∷◌, ℕ, [], map, reverse, length, get_or, true, chars, Some, IfOk, OnOk};
+ghost use Rattle.std.specs.Prelude.{◌≡◌, ◌<◌, ◌++◌, ◌∷◌, [], map, reverse, length, get_or, chars, Some, IfOk, OnOk};
 ghost use Rattle.schemas.specs.Places.{Pointer as P, index_token};
 ghost use Rattle.js_walk.specs.TokensView.{names_of, token_text};
-ghost use Rattle.js_walk.specs.Table.{word, numbered, IsWord, IsTable, Leads, Grows};
+ghost use Rattle.js_walk.specs.Table.{word, numbered, IsKnown, IsWord, IsTable, Leads, Grows};
 
 use crate::tokens::{Token, Tokens, index_number};
 use js_doc::{Memory, Str};
@@ -21,7 +21,6 @@ pub struct Pointers {
     tokens: Tokens,
     steps: Steps,
     ghost table: { IsTable (names_of tokens) steps (numbered (names_of tokens) steps) },
-    ghost few: { length steps < 4294967295 },
 }
 
 impl Pointers {
@@ -37,13 +36,6 @@ impl Pointers {
         }
     }
 
-    /// How many there are.
-    pub fn len(&self) -> u32
-        ensures { result ≡ length (pointers_of self.now) }
-    {
-        self.steps.len() as u32 + 1
-    }
-
     /// The number of the pointer that goes on from one by a token, where it is there.
     pub fn below(&self, at: Option<u32>, token: &str) -> Option<u32>
         ensures { (p : P) → Leads (pointers_of self.now) at p
@@ -54,14 +46,8 @@ impl Pointers {
         self.below_token(of, token)
     }
 
-    /// The same with the token of the element at `index`. Where the pointer numbered `guess` is the one, no hash is
-    /// taken; the elements of a list mostly have numbers that follow each other. An error is memory that is wanting.
-    pub fn below_index(
-        &self,
-        at: Option<u32>,
-        index: usize,
-        guess: u32,
-    ) -> Result<Option<u32>, Memory>
+    /// The same with the token of the element at `index`. An error is memory that is wanting.
+    pub fn below_index(&self, at: Option<u32>, index: usize) -> Result<Option<u32>, Memory>
         ensures { IfOk result (λ found. (p : P) → Leads (pointers_of self.now) at p
             → Leads (pointers_of self.now) found (p ++ index_token index ∷ [])) }
     {
@@ -70,46 +56,19 @@ impl Pointers {
             return Ok(self.below(at, token.as_text()));
         };
         match at {
-            Some(of) => Ok(self.below_token_near(of, token, guess)),
+            Some(of) => Ok(self.below_token(of, token)),
             None => Ok(None),
         }
     }
 
-    /// The number of the pointer that goes on from one by the token with that number, where it is there. It is `guess`
-    /// if that is right.
-    fn below_token_near(&self, of: u32, token: u32, guess: u32) -> Option<u32>
-        requires { token < length (names_of self.now.tokens) + 2147483648 }
-        ensures { (p : P) → Leads (pointers_of self.now) (Some of) p
-            → Leads (pointers_of self.now) result (p ++ word (names_of self.now.tokens) token ∷ []) }
-    {
-        if self.goes_on(guess, of, token) {
-            Some(guess)
-        } else {
-            self.below_token(of, token)
-        }
-    }
-
-    /// The same without a guess.
+    /// The number of the pointer that goes on from one by the token with that number, where it is there.
     fn below_token(&self, of: u32, token: u32) -> Option<u32>
-        requires { token < length (names_of self.now.tokens) + 2147483648 }
+        requires { IsKnown (names_of self.now.tokens) token }
         ensures { (p : P) → Leads (pointers_of self.now) (Some of) p
             → Leads (pointers_of self.now) result (p ++ word (names_of self.now.tokens) token ∷ []) }
     {
         let index = self.steps.number(of, token)?;
         Some(index as u32 + 1)
-    }
-
-    /// Whether the pointer numbered `number` goes on from one by the token with that number.
-    fn goes_on(&self, number: u32, of: u32, token: u32) -> bool
-        ensures { result ≡ true → (number < length (pointers_of self.now))
-            × (get_or (pointers_of self.now) number []
-            ≡ get_or (pointers_of self.now) of [] ++ word (names_of self.now.tokens) token ∷ []) }
-    {
-        if number == 0 || number >= self.len() {
-            return false;
-        }
-        let step = self.step(number);
-        step.0 == of && step.1 == token
     }
 
     /// The number of the pointer that goes on from one by a token. It is added where it isn't there.
@@ -160,7 +119,7 @@ impl Pointers {
     /// The number of the pointer that goes on from one by the token with that number. It is added where it isn't there.
     fn step_number(&mut self, of: u32, token: u32) -> Result<u32, Memory>
         requires of { of < length (pointers_of self.old) }
-        requires token { token < length (names_of self.old.tokens) + 2147483648 }
+        requires token { IsKnown (names_of self.old.tokens) token }
         ensures grows { OnOk result (Grows (pointers_of self.old) (pointers_of self.new)) }
         ensures number { IfOk result (λ n. Leads (pointers_of self.new) (Some n)
             (get_or (pointers_of self.old) of [] ++ word (names_of self.old.tokens) token ∷ [])) }
@@ -203,7 +162,7 @@ impl Pointers {
         requires below { 0 < number }
         requires within { number < length (pointers_of self.now) }
         ensures earlier { result.0 < number }
-        ensures known { result.1 < length (names_of self.now.tokens) + 2147483648 }
+        ensures known { IsKnown (names_of self.now.tokens) result.1 }
         ensures makes { get_or (pointers_of self.now) number []
             ≡ get_or (pointers_of self.now) result.0 [] ++ word (names_of self.now.tokens) result.1 ∷ [] }
     {

@@ -3,9 +3,9 @@
 //! The token of an element's index is numbered by that index, below 2³¹: it needs no text, and nothing is kept for it.
 //! Every other text is a name. Names are numbered from 2³¹ on, and each is kept once and found by its hash.
 
-ghost use Rattle.std.specs.Prelude.{◌≡◌, ◌+◌, ◌≤◌, ◌<◌, ◌++◌, ◌∷◌, ℕ, [], length, get_or, map, chars, string_bytes, IfOk, OnOk, MatchOption};
+ghost use Rattle.std.specs.Prelude.{◌≡◌, ◌≤◌, ◌<◌, ◌++◌, ◌∷◌, ℕ, [], length, get_or, map, chars, string_bytes, IfOk, OnOk, MatchOption};
 ghost use Rattle.schemas.specs.Places.{index_token};
-ghost use Rattle.js_walk.specs.Table.{word, IsWord, AreNames, Keeps};
+ghost use Rattle.js_walk.specs.Table.{first_name, word, IsKnown, IsWord, AreNames, Keeps};
 
 use indexmap::IndexSet;
 use js_doc::Memory;
@@ -52,7 +52,7 @@ impl Tokens {
 
     /// No names.
     pub fn new(alloc: Global) -> Tokens
-        ensures { length (names_of result) ≡ 0 }
+        ensures { names_of result ≡ [] }
     {
         Tokens {
             names: IndexSet::new(alloc),
@@ -94,7 +94,7 @@ impl Tokens {
 
     /// The token with that number.
     pub fn token(&self, number: u32) -> Token<'_>
-        requires { number < length (names_of self.now) + 2147483648 }
+        requires { IsKnown (names_of self.now) number }
         ensures { token_text result ≡ word (names_of self.now) number }
     {
         if number < FIRST_NAME {
@@ -116,7 +116,7 @@ impl Tokens {
 
 /// The number of the token of the element at `index`, where it has one without a name.
 pub fn index_number(index: usize) -> Option<u32>
-    ensures { MatchOption result (2147483648 ≤ index) (λ k. (k ≡ index) × (k < 2147483648)) }
+    ensures { MatchOption result (first_name ≤ index) (λ k. (k ≡ index) × (k < first_name)) }
 {
     if index < FIRST_NAME as usize {
         Some(index as u32)
@@ -127,8 +127,8 @@ pub fn index_number(index: usize) -> Option<u32>
 
 /// The same for the index that a text is.
 fn numbered_index(text: &str) -> Option<u32>
-    ensures { MatchOption result ((i : ℕ) → chars text.now ≡ index_token i → 2147483648 ≤ i)
-        (λ i. (i < 2147483648) × (index_token i ≡ chars text.now)) }
+    ensures { MatchOption result ((i : ℕ) → chars text.now ≡ index_token i → first_name ≤ i)
+        (λ i. (i < first_name) × (index_token i ≡ chars text.now)) }
 {
     index_number(element_index(text)?)
 }

@@ -3,8 +3,8 @@ use Rattle.js_steps.specs.PlacesView.{found}
 use Rattle.js_steps.proofs.NumberedLemmas.{found-position}
 use Rattle.js_steps.proofs.steps.Steps.number.Goals as goal
 
-pub returns : goal.returns
-returns c =
+pub returns-clause-index : goal.returns-clause-index
+returns-clause-index c =
     let s = c.self.inside in
     c.number.ensures ∙ found-position s.steps.items (found s.places) c.self.invariant.1 c.args.of c.args.token
     ∙ ap (position (λ s. nat_eq c.args.of s.0 && nat_eq c.args.token s.1)) c.self.view_is

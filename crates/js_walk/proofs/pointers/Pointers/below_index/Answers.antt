@@ -9,7 +9,7 @@ use Rattle.js_walk.proofs.pointers.Pointers.below_index.Goals as goal
 pub returns-in-Some-at : goal.returns-in-Some-at
 returns-in-Some-at c = λ p leads.
     let ps = pointers_of c.args.self.now in
-    subst (λ w. Leads ps c.below_token_near.result (p ++ w ∷ []))
+    subst (λ w. Leads ps c.below_token.result (p ++ w ∷ []))
     (word-index (names_of c.args.self.now.tokens) c.in-Some.token c.in-Some.ensures.1
     ∙ ap index_token c.in-Some.ensures.0)
-    (c.below_token_near.ensures p (subst (λ a. Leads ps a p) c.in-Some-at.is leads))
+    (c.below_token.ensures p (subst (λ a. Leads ps a p) c.in-Some-at.is leads))

@@ -2,10 +2,10 @@ use Rattle.js_walk.specs.TokensView.{names_of}
 use Rattle.js_walk.proofs.GrowthLemmas.{word-table, same_pointers}
 use Rattle.js_walk.proofs.pointers.Pointers.token_number.Goals as goal
 
-pub invariant_of-self-clause-table : goal.invariant_of-self-clause-table
-invariant_of-self-clause-table c =
+pub invariant_of-self : goal.invariant_of-self
+invariant_of-self c =
     let t = c.args.self.now in
-    word-table (names_of t.tokens) (names_of c.add.new.self) c.add.ensures.keeps t.steps t.table
+    record { table = word-table (names_of t.tokens) (names_of c.add.new.self) c.add.ensures.keeps t.steps t.table }
 
 pub returns-clause-same : goal.returns-clause-same
 returns-clause-same c =
