@@ -80,7 +80,7 @@ pub struct InPlaceKeywords {
 }
 
 impl AnyKeywords {
-    ghost use Rattle.std.specs.Prelude.{◌≡◌, true};
+    ghost use Rattle.std.specs.Prelude.{◌≡◌, ◌↔◌, IsTrue};
     ghost use Rattle.js_schema.specs.NoKeywords.{no_any};
 
     pub(crate) fn none() -> AnyKeywords
@@ -94,14 +94,14 @@ impl AnyKeywords {
     }
 
     pub(crate) fn is_empty(&self) -> bool
-        ensures { result ≡ true → self.now ≡ no_any }
+        ensures { IsTrue result ↔ (self.now ≡ no_any) }
     {
         self.types.is_none() && self.enumeration.is_none() && self.constant.is_none()
     }
 }
 
 impl NumberKeywords {
-    ghost use Rattle.std.specs.Prelude.{◌≡◌, true};
+    ghost use Rattle.std.specs.Prelude.{◌≡◌, ◌↔◌, IsTrue};
     ghost use Rattle.js_schema.specs.NoKeywords.{no_numbers};
 
     pub(crate) fn none() -> NumberKeywords
@@ -117,7 +117,7 @@ impl NumberKeywords {
     }
 
     pub(crate) fn is_empty(&self) -> bool
-        ensures { result ≡ true → self.now ≡ no_numbers }
+        ensures { IsTrue result ↔ (self.now ≡ no_numbers) }
     {
         self.multiple_of.is_none()
             && self.minimum.is_none()
@@ -128,7 +128,7 @@ impl NumberKeywords {
 }
 
 impl StringKeywords {
-    ghost use Rattle.std.specs.Prelude.{◌≡◌, true};
+    ghost use Rattle.std.specs.Prelude.{◌≡◌, ◌↔◌, IsTrue};
     ghost use Rattle.js_schema.specs.NoKeywords.{no_strings};
 
     pub(crate) fn none() -> StringKeywords
@@ -142,14 +142,14 @@ impl StringKeywords {
     }
 
     pub(crate) fn is_empty(&self) -> bool
-        ensures { result ≡ true → self.now ≡ no_strings }
+        ensures { IsTrue result ↔ (self.now ≡ no_strings) }
     {
         self.min_length.is_none() && self.max_length.is_none() && self.pattern.is_none()
     }
 }
 
 impl ArrayKeywords {
-    ghost use Rattle.std.specs.Prelude.{◌≡◌, true};
+    ghost use Rattle.std.specs.Prelude.{◌≡◌, ◌↔◌, IsTrue};
     ghost use Rattle.js_schema.specs.NoKeywords.{no_arrays};
 
     pub(crate) fn none() -> ArrayKeywords
@@ -165,7 +165,7 @@ impl ArrayKeywords {
     }
 
     pub(crate) fn is_empty(&self) -> bool
-        ensures { result ≡ true → self.now ≡ no_arrays }
+        ensures { IsTrue result ↔ (self.now ≡ no_arrays) }
     {
         self.items.is_none()
             && self.additional_items.is_none()
@@ -176,7 +176,7 @@ impl ArrayKeywords {
 }
 
 impl ObjectKeywords {
-    ghost use Rattle.std.specs.Prelude.{◌≡◌, true};
+    ghost use Rattle.std.specs.Prelude.{◌≡◌, ◌↔◌, IsTrue};
     ghost use Rattle.js_schema.specs.NoKeywords.{no_objects};
 
     pub(crate) fn none() -> ObjectKeywords
@@ -195,7 +195,7 @@ impl ObjectKeywords {
     }
 
     pub(crate) fn is_empty(&self) -> bool
-        ensures { result ≡ true → self.now ≡ no_objects }
+        ensures { IsTrue result ↔ (self.now ≡ no_objects) }
     {
         self.required.is_none()
             && self.properties.is_none()
@@ -209,7 +209,7 @@ impl ObjectKeywords {
 }
 
 impl InPlaceKeywords {
-    ghost use Rattle.std.specs.Prelude.{◌≡◌, true};
+    ghost use Rattle.std.specs.Prelude.{◌≡◌, ◌↔◌, IsTrue};
     ghost use Rattle.js_schema.specs.NoKeywords.{no_in_place};
 
     pub(crate) fn none() -> InPlaceKeywords
@@ -224,7 +224,7 @@ impl InPlaceKeywords {
     }
 
     pub(crate) fn is_empty(&self) -> bool
-        ensures { result ≡ true → self.now ≡ no_in_place }
+        ensures { IsTrue result ↔ (self.now ≡ no_in_place) }
     {
         self.all_of.is_none()
             && self.any_of.is_none()

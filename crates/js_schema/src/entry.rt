@@ -1,6 +1,6 @@
 //! An entry of a schema: where its place is, by the number of its pointer, and what it accepts.
 //!
-//! Keywords stand apart, so that the other forms take little memory, and objects without keywords share theirs.
+//! Keywords stand apart, so that the other forms take little memory, and objects without members share theirs.
 
 use crate::constraints::Keywords;
 use std::rc::Rc;

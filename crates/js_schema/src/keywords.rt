@@ -1,7 +1,7 @@
 //! All keywords of an object, read in groups.
 //!
 //! Each field takes a binary search among the members, and then what its value takes. A group without a keyword takes no
-//! memory: it is that of an object without keywords.
+//! memory: it is that of an object without members.
 
 ghost use Rattle.std.specs.Prelude.{◌≡◌, true, map, codes, option_map, option_and_then, IfOk};
 ghost use Rattle.documents.specs.Document as D;
@@ -26,7 +26,8 @@ use js_keywords::Keyword;
 use std::alloc::Global;
 use std::rc::Rc;
 
-/// What an object without keywords asks for. All such objects share it, and others share its groups.
+/// What an object without members asks for. All such objects share it. Others share those of its groups of which they
+/// have no keyword.
 pub(crate) fn no_keywords(alloc: Global) -> Result<Rc<Keywords>, Memory>
     ensures { IfOk result (λ k. HasNone k.value) }
 {
@@ -41,7 +42,7 @@ pub(crate) fn no_keywords(alloc: Global) -> Result<Rc<Keywords>, Memory>
     Ok(Rc::new(alloc, keywords)?)
 }
 
-/// What the object asks for, with schemas by their numbers. `none` is what an object without keywords asks for.
+/// What the object asks for, with schemas by their numbers. `none` is what an object without members asks for.
 pub(crate) fn keywords(
     alloc: Global,
     none: &Rc<Keywords>,

@@ -1,6 +1,6 @@
 //! An object of a schema in which nothing is wrong, and that has no reference.
 
-ghost use Rattle.std.specs.Prelude.{◌≡◌, ◌<◌, true, is_none, length, codes, option_map};
+ghost use Rattle.std.specs.Prelude.{◌≡◌, ◌<◌, ◌↔◌, IsTrue, true, is_none, length, codes, option_map};
 ghost use Rattle.documents.specs.Json as D;
 ghost use Rattle.documents.specs.WellFormed.{are_members};
 ghost use Rattle.js_doc.specs.JsonView.{view, map_view};
@@ -46,7 +46,7 @@ impl<'a> Object<'a> {
 
     /// Whether the object has no members.
     pub(crate) fn is_empty(&self) -> bool
-        ensures { result ≡ true → members_of self.now ≡ D.no_members }
+        ensures { IsTrue result ↔ (members_of self.now ≡ D.no_members) }
     {
         self.members.len() == 0
     }

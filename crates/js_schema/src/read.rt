@@ -1,9 +1,9 @@
 //! Reading a JSON value as a schema.
 //!
 //! A first pass walks from schema to schema and checks each place; a second makes an entry of each place. Places are
-//! found token by token, by hashing, each token from the number of the pointer above it. So time and memory are in
-//! proportion to the values that the schema reaches, whatever the lengths of the names above them. The program's stack
-//! is used for the values of `enum` and `const` alone, as deep as they nest.
+//! found by the numbers of their pointers, and a pointer's number from that of the one above it and its last token. So
+//! time and memory are in proportion to the values that the schema reaches, whatever the lengths of the names above
+//! them. The program's stack is used for the values of `enum` and `const` alone, as deep as they nest.
 
 ghost use Rattle.std.specs.Prelude.{◌≡◌, ◌<◌, true, None, Ok, map, length, get_or, IfOk};
 ghost use Rattle.documents.specs.WellFormed.{is_json};

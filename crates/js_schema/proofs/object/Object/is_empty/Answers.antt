@@ -8,5 +8,10 @@ members-none : (ms : Members) (n : ℕ) → n ≡ length (entries ms) → n == 0
 members-none no_members n count none = refl
 members-none (member w v ms) n count none = absurd (grind (arith, nat_tests))
 
+none-members : (ms : Members) (n : ℕ) → n ≡ length (entries ms) → ms ≡ no_members → n == 0 ≡ true
+none-members ms n count none = rw (count, none) refl
+
 pub returns : goal.returns
-returns c = λ h. members-none (map_view c.args.self.now.members.now) c.len.result c.len.ensures h
+returns c =
+    let ms = map_view c.args.self.now.members.now in
+    (members-none ms c.len.result c.len.ensures, none-members ms c.len.result c.len.ensures)
