@@ -1,14 +1,12 @@
 -- What the values of an object in which nothing is wrong are.
-use Rattle.std.proofs.Common.{◌≡◌, ◌≢◌, ℕ, suc, ◌+◌, ◌<◌, ◌^◌, List, [], ◌∷◌, ◌++◌, map, Bool, true, false, ◌&&◌, cond, nat_lt, Option, Some, None, option_map, is_none, decimal, codes, refl, sym, ap, subst, ◌∙◌, arith, true≢false}
-use Rattle.std.specs.Result.{result_err}
+use Rattle.std.proofs.Common.{◌≡◌, ℕ, suc, ◌+◌, ◌<◌, ◌^◌, List, [], ◌∷◌, ◌++◌, map, true, cond, nat_lt, Option, Some, None, option_map, is_none, decimal, codes, refl, sym, ap, ◌∙◌, true≢false}
 use Rattle.std.proofs.lemmas.Bool.{and_parts, and_from, ltb-true}
 use Rattle.std.proofs.lemmas.Option.{none-some, same_Some}
-use Rattle.documents.specs.Tests.{same_word}
-use Rattle.documents.specs.Json.{Json, null, boolean, number, not_whole, string, array, object, Items, no_items, item, Members, no_members, member, lookup}
+use Rattle.documents.specs.Json.{Json, null, not_whole, string, array, object, Items, no_items, item, Members, no_members, member, lookup}
 use Rattle.schemas.specs.Places.{Pointer, index_token}
 use Rattle.schemas.specs.Keyword as S
 use Rattle.schemas.specs.Keyword.{Shape, shape_of, read_shape}
-use Rattle.schemas.specs.Fault.{or_else, first_not_whole, not_whole_among, not_whole_in, value_fault, values_fault, pattern_fault, pattern_word_fault, names_fault, pattern_map_fault, keyword_fault}
+use Rattle.schemas.specs.Fault.{first_not_whole, not_whole_among, not_whole_in, value_fault, values_fault, pattern_fault, pattern_word_fault, names_fault, pattern_map_fault, keyword_fault}
 use Rattle.schemas.specs.Reading.{id_fault, shape_fault, members_fault, object_fault, fault_at}
 use Rattle.schemas.specs.Entries.{natural}
 use Rattle.schemas.specs.Schema.{is_count, is_multiple}

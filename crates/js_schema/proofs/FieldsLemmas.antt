@@ -1,5 +1,5 @@
 -- The schemas in a keyword's value, by the place of the value.
-use Rattle.std.proofs.Common.{◌≡◌, ℕ, List, [], ◌∷◌, ◌++◌, map, refl, ap, ap₂}
+use Rattle.std.proofs.Common.{◌≡◌, ℕ, List, [], ◌∷◌, ◌++◌, map, refl, ap₂}
 use Rattle.documents.specs.Json.{Json, array, object, Members, no_members, member, entries}
 use Rattle.schemas.specs.Places.{Pointer, Place}
 use Rattle.schemas.specs.Entries.{number_of, list_numbers, items_part, named_numbers, needs_of, all_needs}
