@@ -1,8 +1,9 @@
 //! The pointers of a file's places, by number.
 //!
 //! Pointer 0 is the root, and each other is an earlier one with one more token. So a pointer takes two numbers, however
-//! long it is, and each name in it is kept once. To go down by a name takes time in proportion to that name, and to go
-//! down by an index needs no text. A whole pointer is made only when it is asked for.
+//! long it is, and each name in it is kept once. To go down by a name takes time in proportion to that name. To go down
+//! by an index needs no text, nor a hash where the elements of the list were added in turn. A whole pointer is made only
+//! when it is asked for.
 
 ghost use Rattle.std.specs.Prelude.{◌≡◌, ◌<◌, ◌++◌, ◌∷◌, [], map, reverse, length, get_or, chars, Some, IfOk, OnOk};
 ghost use Rattle.schemas.specs.Places.{Pointer as P, index_token};
@@ -10,7 +11,7 @@ ghost use Rattle.js_walk.specs.TokensView.{names_of, token_text};
 ghost use Rattle.js_walk.specs.Table.{word, numbered, IsKnown, IsWord, IsTable, Leads, Grows};
 
 use crate::tokens::{Token, Tokens, index_number};
-use js_doc::{Memory, Str};
+use js_doc::Memory;
 use js_json::Pointer;
 use js_steps::Steps;
 use std::alloc::Global;
@@ -52,7 +53,7 @@ impl Pointers {
             → Leads (pointers_of self.now) found (p ++ index_token index ∷ [])) }
     {
         let Some(token) = index_number(index) else {
-            let token = decimal_text(self.tokens.allocator(), index)?;
+            let token = self.tokens.index_text(index)?;
             return Ok(self.below(at, token.as_text()));
         };
         match at {
@@ -90,7 +91,7 @@ impl Pointers {
             (get_or (pointers_of self.old) of [] ++ index_token index ∷ [])) }
     {
         let Some(token) = index_number(index) else {
-            let token = decimal_text(self.tokens.allocator(), index)?;
+            let token = self.tokens.index_text(index)?;
             return self.add(of, token.as_text());
         };
         self.step_number(of, token)
@@ -168,12 +169,4 @@ impl Pointers {
     {
         self.steps.step(number as usize - 1)
     }
-}
-
-/// The decimal text of a number.
-fn decimal_text(alloc: Global, number: usize) -> Result<Str, Memory>
-    ensures { IfOk result (λ s. s ≡ index_token number) }
-{
-    let text = format!(in alloc; "{number}")?;
-    Ok(Str::from_string(text))
 }

@@ -8,7 +8,7 @@ ghost use Rattle.schemas.specs.Places.{index_token};
 ghost use Rattle.js_walk.specs.Table.{first_name, word, IsKnown, IsWord, AreNames, Keeps};
 
 use indexmap::IndexSet;
-use js_doc::Memory;
+use js_doc::{Memory, Str};
 use js_json::{Pointer, element_index};
 use std::alloc::Global;
 
@@ -59,11 +59,6 @@ impl Tokens {
         }
     }
 
-    /// What the names are kept by.
-    pub fn allocator(&self) -> Global {
-        *self.names.allocator()
-    }
-
     /// The number of a token, where it has one, in time in proportion to its text.
     pub fn number(&self, text: &str) -> Option<u32>
         ensures { MatchOption result ((k : ℕ) → IsWord (names_of self.now) k (chars text.now) → ⊥)
@@ -103,6 +98,13 @@ impl Tokens {
         Token::Name(self.name((number - FIRST_NAME) as usize))
     }
 
+    /// The text of an element's index.
+    pub fn index_text(&self, index: usize) -> Result<Str, Memory>
+        ensures { IfOk result (λ text. text ≡ index_token index) }
+    {
+        decimal_text(*self.names.allocator(), index)
+    }
+
     fn name(&self, index: usize) -> &str
         requires { index < length (names_of self.now) }
         ensures { chars result.now ≡ get_or (names_of self.now) index [] }
@@ -131,4 +133,12 @@ fn numbered_index(text: &str) -> Option<u32>
         (λ i. (i < first_name) × (index_token i ≡ chars text.now)) }
 {
     index_number(element_index(text)?)
+}
+
+/// The decimal text of a number.
+fn decimal_text(alloc: Global, number: usize) -> Result<Str, Memory>
+    ensures { IfOk result (λ s. s ≡ index_token number) }
+{
+    let text = format!(in alloc; "{number}")?;
+    Ok(Str::from_string(text))
 }

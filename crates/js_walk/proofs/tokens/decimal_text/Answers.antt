@@ -1,7 +1,7 @@
 use Rattle.std.proofs.Common.{chars, ap, ◌∙◌}
 use Rattle.js_json.proofs.PointerLemmas.{chars-decimal}
 use Rattle.schema_laws.proofs.Tokens.{index_token-decimal}
-use Rattle.js_walk.proofs.pointers.decimal_text.Goals as goal
+use Rattle.js_walk.proofs.tokens.decimal_text.Goals as goal
 
 pub returns : goal.returns
 returns c =
