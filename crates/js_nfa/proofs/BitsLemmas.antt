@@ -22,7 +22,7 @@ pub length-flags_of : (words : List ℕ) (len : ℕ) → length (flags_of words 
 unfolding flags_of
 length-flags_of words len = length-map-range_with_len (bit_of words) 0 len
 
-flag_at-get_or : (xs : List Bool) (p : ℕ) → flag_at xs p ≡ get_or xs p false
+pub flag_at-get_or : (xs : List Bool) (p : ℕ) → flag_at xs p ≡ get_or xs p false
 flag_at-get_or [] p = refl
 flag_at-get_or (b ∷ bs) zero = refl
 flag_at-get_or (b ∷ bs) (suc p) = flag_at-get_or bs p
@@ -236,7 +236,7 @@ cut-small n count h =
 
 module _ (words : List ℕ) (len top : ℕ) (below : top ≤ len) (none : NoBits words top) where
   -- the flags are the bits, and none is set past the last flag
-  flag_at-bit : (p : ℕ) → flag_at (flags_of words len) p ≡ bit_of words p
+  pub flag_at-bit : (p : ℕ) → flag_at (flags_of words len) p ≡ bit_of words p
   flag_at-bit p = elim (cases_lt p len) as (λ _. flag_at (flags_of words len) p ≡ bit_of words p) [
     | inl within ↦ flag_at-flags_of words len p within
     | inr past ↦

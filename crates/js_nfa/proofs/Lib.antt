@@ -2,6 +2,8 @@
 pub mod Counts
 pub mod FlagsLemmas
 pub mod BitsLemmas
+-- Two sets, word by word.
+pub mod SetLemmas
 -- Lists of trees.
 pub mod Items
 -- What a tree makes of a state: laws of going through its copies one by one.
@@ -14,6 +16,8 @@ pub mod OptionsLemmas
 pub mod EndsSteps
 pub mod AdvanceSteps
 pub mod RunSteps
+-- The same by rows, one a position.
+pub mod RowsSteps
 -- States of words by the flags of positions.
 pub mod StateSteps
 -- States as they are fed to a hasher.

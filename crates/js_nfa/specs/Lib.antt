@@ -9,6 +9,10 @@ pub mod Bits
 pub mod Walk
 pub mod Choices
 pub mod Done
+-- Rows of positions, by which a state goes on without a walk.
+pub mod Both
+pub mod Rows
+pub mod AreRows
 -- States as keys of a table.
 pub mod Fed
 pub mod StateLaws

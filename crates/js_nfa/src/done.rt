@@ -55,7 +55,7 @@ fn needs(tree: &Re, from: u32, read: &mut PositionSet) -> bool
 }
 
 /// Adds so many positions to an empty set.
-fn read_all(read: &mut PositionSet, count: u32)
+pub(crate) fn read_all(read: &mut PositionSet, count: u32)
     requires empty { read.old.flags ≡ [] }
     requires room { count ≤ read.old.room }
     ensures flags { read.new.flags ≡ replicate count true }

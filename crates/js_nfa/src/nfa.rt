@@ -7,10 +7,12 @@ ghost use Rattle.words.specs.PatternState.{pattern_state};
 ghost use Rattle.state_laws.specs.Flow.{flag_at, ends_here, reads_next, next_state, is_accepted};
 ghost use Rattle.js_pattern.specs.View.{view};
 ghost use Rattle.js_nfa.specs.Done.{Needs};
+ghost use Rattle.js_nfa.specs.AreRows.{AreRows};
 
 use crate::advance::{Next, advance_tree};
 use crate::ends::{Edges, tree_ends};
 use crate::position_set::PositionSet;
+use crate::rows::Rows;
 use crate::state::PatternState;
 use js_doc::Memory;
 use js_pattern::Re;
@@ -51,6 +53,13 @@ impl Nfa {
         ensures within { result ≤ 16384 }
     {
         self.count
+    }
+
+    /// The rows by which a state goes on without a walk.
+    pub(crate) fn rows(&self, alloc: Global) -> Result<Rows, Memory>
+        ensures { IfOk result (AreRows (tree_of self.now)) }
+    {
+        Rows::of(alloc, &self.tree, self.count)
     }
 
     /// Whether a match that begins at the first position can end where the word ends.

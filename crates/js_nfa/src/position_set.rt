@@ -1,11 +1,13 @@
 //! Sets of positions, filled in the order of the positions.
 
-ghost use Rattle.std.specs.Prelude.{◌≡◌, ◌≢◌, ◌+◌, ◌-◌, ◌*◌, ◌%◌, ◌^◌, ◌<◌, ◌≤◌, ◌++◌, ◌∷◌, [], length, replicate, false, IfOk, IsTrue, ◌↔◌, ◌==◌, ℕ};
+ghost use Rattle.std.specs.Prelude.{◌≡◌, ◌≢◌, ◌+◌, ◌-◌, ◌*◌, ◌%◌, ◌^◌, ◌<◌, ◌≤◌, ◌++◌, ◌∷◌, [], length, replicate, true, false, IfOk, IsTrue, MatchOption, ◌↔◌, ◌==◌, ℕ};
 ghost use Rattle.std.specs.Int.{bit_at};
 ghost use Rattle.words.specs.PatternState.{numbers_from};
 ghost use Rattle.state_laws.specs.Flow.{flag_at};
+ghost use Rattle.flow_laws.specs.Rows.{or_each, and_each};
 ghost use Rattle.js_nfa.specs.Bits.{flags_of};
 ghost use Rattle.js_nfa.specs.Walk.{Quiet};
+ghost use Rattle.js_nfa.specs.Both.{some_both};
 
 use js_doc::Memory;
 use std::alloc::Global;
@@ -180,6 +182,110 @@ impl PositionSet {
             }
         }
         true
+    }
+
+    /// Adds the positions of another set.
+    pub(crate) fn join(&mut self, other: &PositionSet)
+        requires { length other.now.flags ≤ self.old.room }
+        ensures flags { self.new.flags ≡ or_each self.old.flags other.now.flags }
+        ensures room { self.new.room ≡ self.old.room }
+    {
+        for index in 0..other.count_words() {
+            self.words[index] |= other.word(index);
+        }
+        self.len = self.len.max(other.len);
+        self.top = self.top.max(other.top);
+    }
+
+    /// Takes away the positions that another set doesn't have.
+    ///
+    /// `top` falls with them, so that what is asked of the set later looks at fewer words.
+    pub(crate) fn meet(&mut self, other: &PositionSet)
+        requires { length self.old.flags ≡ length other.now.flags }
+        ensures flags { self.new.flags ≡ and_each self.old.flags other.now.flags }
+        ensures room { self.new.room ≡ self.old.room }
+    {
+        let mut used = 0;
+        for index in 0..self.count_words() {
+            let word = self.words[index] & other.word(index);
+            self.words[index] = word;
+            if word != 0 {
+                used = index + 1;
+            }
+        }
+        self.top = self.top.min(64 * used);
+    }
+
+    /// The first position of the set from that one on.
+    ///
+    /// It costs a look at each word up to the one with that position.
+    pub(crate) fn next_from(&self, position: usize) -> Option<usize>
+        ensures { MatchOption result (Quiet (flag_at self.now.flags) position)
+            (λ p. (position ≤ p) × (flag_at self.now.flags p ≡ true)
+            × ((q : ℕ) → position ≤ q → q < p → flag_at self.now.flags q ≡ false)) }
+    {
+        let index = position / 64;
+        let count = self.count_words();
+        if index >= count {
+            return None;
+        }
+        let word = self.word(index) >> (position % 64);
+        if word != 0 {
+            return Some(position + word.trailing_zeros() as usize);
+        }
+        for later in index + 1..count {
+            let word = self.word(later);
+            if word != 0 {
+                return Some(64 * later + word.trailing_zeros() as usize);
+            }
+        }
+        None
+    }
+
+    /// Whether some position is in both.
+    pub(crate) fn meets(&self, other: &PositionSet) -> bool
+        ensures { result ≡ some_both (flag_at self.now.flags) (flag_at other.now.flags) (length self.now.flags) }
+    {
+        for index in 0..self.count_words() {
+            if self.word(index) & other.word(index) != 0 {
+                return true;
+            }
+        }
+        false
+    }
+
+    /// Whether all its positions are in another set.
+    pub(crate) fn is_within(&self, other: &PositionSet) -> bool
+        ensures { IsTrue result
+            ↔ ((p : ℕ) → flag_at self.now.flags p ≡ true → flag_at other.now.flags p ≡ true) }
+    {
+        for index in 0..self.count_words() {
+            let word = self.word(index);
+            if word & other.word(index) != word {
+                return false;
+            }
+        }
+        true
+    }
+
+    /// How many words there are up to the last that has a bit.
+    fn count_words(&self) -> usize
+        ensures quiet { Quiet (flag_at self.now.flags) (64 * result) }
+        ensures within { 64 * result < length self.now.flags + 64 }
+        ensures small { 64 * result ≤ 2 ^ 32 }
+    {
+        self.top.div_ceil(64)
+    }
+
+    /// The flags of 64 positions, the lowest bit for the first of them.
+    fn word(&self, index: usize) -> u64
+        ensures { (i : ℕ) → i < 64 → (bit_at result i == 1) ≡ flag_at self.now.flags (64 * index + i) }
+    {
+        if index < self.words.len() {
+            self.words[index]
+        } else {
+            0
+        }
     }
 }
 

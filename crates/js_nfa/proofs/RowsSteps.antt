@@ -1,0 +1,406 @@
+-- A state goes on by rows as it does by a walk.
+--
+-- Key: `next_by_rows`. A row has what may follow a position, as far as the set of what follows has one of a few
+-- characters; that is enough where those characters have every position that some character of ASCII has.
+use Rattle.std.proofs.Common.{◌≡◌, ℕ, zero, suc, ◌+◌, ◌<◌, ◌≤◌, inl, inr, Bool, true, false, ◌&&◌, ◌||◌, if◌then◌else◌, List, [], ◌∷◌, ◌++◌, length, replicate, get_or, take, refl, sym, ◌∙◌, ap, ap₂, subst, arith}
+use Rattle.std.proofs.Math.Path.{fun_ext}
+use Rattle.std.proofs.Math.Bool.{or_assoc}
+use Rattle.std.proofs.lemmas.List.{take_more, get_or_read}
+use Rattle.std.proofs.lemmas.Bool.{eq-eqb, ne_eqb, cases_eq, cases_lt}
+use Rattle.patterns.specs.Tree.{Tree}
+use Rattle.words.specs.Position.{count_of, sets_of}
+use Rattle.state_laws.specs.Flow.{flag_at, ends_here, reads_next}
+use Rattle.flow_laws.specs.Rows.{or_each, and_each, sets_have, none_read, only, may_follow, follow_each, ends_each}
+use Rattle.flow_laws.proofs.RowsLemmas.{or_nothing, or_true, and_nothing, and_joined, or_each_none, flags_join, length_follow, length_sets_have}
+use Rattle.flow_laws.proofs.Sets.{next_asks_sets}
+use Rattle.flow_laws.proofs.Each.{ends_of_each, next_of_each}
+use Rattle.js_nfa.specs.Marks.{Marks}
+use Rattle.js_nfa.specs.Both.{some_both}
+use Rattle.js_nfa.specs.Rows.{row, AreLong, joined, is_shown, is_in_some}
+use Rattle.js_nfa.proofs.AdvanceSteps.{length-reads}
+
+-- ---- lists of flags
+pub same_flags : (xs ys : List Bool) → length xs ≡ length ys → ((p : ℕ) → flag_at xs p ≡ flag_at ys p) → xs ≡ ys
+same_flags [] [] e h = refl
+same_flags [] (y ∷ ys) e h = absurd (omega (arith, e))
+same_flags (x ∷ xs) [] e h = absurd (omega (arith, e))
+same_flags (x ∷ xs) (y ∷ ys) e h = ap₂ (λ b bs. b ∷ bs) (h 0) (same_flags xs ys (omega (arith, e)) (λ p. h (suc p)))
+
+pub length-or_each : (xs ys : List Bool) (n : ℕ) → length xs ≡ n → length ys ≡ n → length (or_each xs ys) ≡ n
+length-or_each [] ys n e f = f
+length-or_each (x ∷ xs) [] n e f = e
+length-or_each (x ∷ xs) (y ∷ ys) zero e f = absurd (omega (arith, e))
+length-or_each (x ∷ xs) (y ∷ ys) (suc n) e f =
+    ap suc (length-or_each xs ys n (omega (arith, e)) (omega (arith, f)))
+
+pub length-and_each : (xs ys : List Bool) (n : ℕ) → length xs ≡ n → length ys ≡ n → length (and_each xs ys) ≡ n
+length-and_each [] ys n e f = e
+length-and_each (x ∷ xs) [] n e f = f
+length-and_each (x ∷ xs) (y ∷ ys) zero e f = absurd (omega (arith, e))
+length-and_each (x ∷ xs) (y ∷ ys) (suc n) e f =
+    ap suc (length-and_each xs ys n (omega (arith, e)) (omega (arith, f)))
+
+flag-there : (n : ℕ) → flag_at (replicate n false ++ true ∷ []) n ≡ true
+flag-there zero = refl
+flag-there (suc n) = flag-there n
+
+flag-elsewhere : (n p : ℕ) → (p ≡ n → ⊥) → flag_at (replicate n false ++ true ∷ []) p ≡ false
+flag-elsewhere zero zero d = absurd (d refl)
+flag-elsewhere zero (suc p) d = refl
+flag-elsewhere (suc n) zero d = refl
+flag-elsewhere (suc n) (suc p) d = flag-elsewhere n p (λ e. d (ap suc e))
+
+pub flag-only : (position : ℕ) → flag_at (replicate position false ++ true ∷ []) ≡ only position
+flag-only position = fun_ext (λ p. elim (cases_eq p position) as
+    (λ _. flag_at (replicate position false ++ true ∷ []) p ≡ only position p) [
+      | inl e ↦
+          ap (flag_at (replicate position false ++ true ∷ [])) e ∙ flag-there position ∙ sym (eq-eqb p position e)
+      | inr d ↦ flag-elsewhere position p d ∙ sym (ne_eqb p position d)
+    ])
+
+pub flag-none : (flags : List Bool) → flags ≡ [] → flag_at flags ≡ none_read
+flag-none flags e = fun_ext (λ p. ap (λ fs. flag_at fs p) e)
+
+flag-all : (n p : ℕ) → p < n → flag_at (replicate n true) p ≡ true
+flag-all zero p h = absurd (omega (arith, h))
+flag-all (suc n) zero h = refl
+flag-all (suc n) (suc p) h = flag-all n p (omega (arith, h))
+
+pub flag-none_of : (n p : ℕ) → flag_at (replicate n false) p ≡ false
+flag-none_of zero p = refl
+flag-none_of (suc n) zero = refl
+flag-none_of (suc n) (suc p) = flag-none_of n p
+
+-- one flag appended
+pub flag-appended : (xs : List Bool) (b : Bool) (p : ℕ) → p < length xs → flag_at (xs ++ b ∷ []) p ≡ flag_at xs p
+flag-appended [] b p h = absurd (omega (arith, h))
+flag-appended (x ∷ xs) b zero h = refl
+flag-appended (x ∷ xs) b (suc p) h = flag-appended xs b p (omega (arith, h))
+
+pub flag-last : (xs : List Bool) (b : Bool) → flag_at (xs ++ b ∷ []) (length xs) ≡ b
+flag-last [] b = refl
+flag-last (x ∷ xs) b = flag-last xs b
+
+-- ---- characters that are shown
+pub shown-append : (t : Tree) (cs : List ℕ) (c q : ℕ)
+    → is_shown t (cs ++ c ∷ []) q ≡ (is_shown t cs q || flag_at (sets_have (sets_of t) c) q)
+shown-append t [] c q = or_nothing (flag_at (sets_have (sets_of t) c) q)
+shown-append t (d ∷ cs) c q =
+    ap (λ b. flag_at (sets_have (sets_of t) d) q || b) (shown-append t cs c q)
+    ∙ sym (or_assoc (flag_at (sets_have (sets_of t) d) q) (is_shown t cs q) (flag_at (sets_have (sets_of t) c) q))
+
+pub in_some-append : (rows : List Marks) (cs : List ℕ) (c q : ℕ)
+    → is_in_some rows (cs ++ c ∷ []) q ≡ (is_in_some rows cs q || flag_at (row rows c) q)
+in_some-append rows [] c q = or_nothing (flag_at (row rows c) q)
+in_some-append rows (d ∷ cs) c q =
+    ap (λ b. flag_at (row rows d) q || b) (in_some-append rows cs c q)
+    ∙ sym (or_assoc (flag_at (row rows d) q) (is_in_some rows cs q) (flag_at (row rows c) q))
+
+-- ---- tests
+-- what may follow, among all, with a set that has the character and so is shown
+picks : (x u a s : Bool) → (x ≡ true → a ≡ true) → ((a && s) ≡ true → u ≡ true) → ((x && u) && (a && s)) ≡ (x && s)
+picks false u a s f g = refl
+picks true u true true f g = ap (λ b. b && true) (g refl)
+picks true true true false f g = refl
+picks true false true false f g = refl
+picks true u false s f g = absurd (cc (f refl))
+
+more : (x y a b : Bool) → (x ≡ true → a ≡ true) → (y ≡ true → b ≡ true) → (x || y) ≡ true → (a || b) ≡ true
+more true y true b f g e = refl
+more true y false b f g e = absurd (cc (f refl))
+more false y true b f g e = refl
+more false y false b f g e = g e
+
+-- ---- what follows
+module _ (t : Tree) (read : ℕ → Bool) (q : ℕ) where
+  -- the more was read, the more follows
+  follow-more : (all : ℕ → Bool) (n : ℕ) → ((p : ℕ) → p < n → all p ≡ true)
+      → flag_at (follow_each t false read true n) q ≡ true → flag_at (follow_each t false all true n) q ≡ true
+  follow-more all zero h e = e
+  follow-more all (suc n) h e =
+      let after = flag_at (may_follow t false (only n) 0 false) q in
+      (flags_join (follow_each t false all true n) (if all n then may_follow t false (only n) 0 false else []) q).0
+      ∙ ap (λ b. flag_at (follow_each t false all true n) q
+      || flag_at (if b then may_follow t false (only n) 0 false else []) q) (h n (omega arith))
+      ∙ more (flag_at (follow_each t false read true n) q)
+      (flag_at (if read n then may_follow t false (only n) 0 false else []) q)
+      (flag_at (follow_each t false all true n) q) after (follow-more all n (λ p l. h p (omega (arith, l))))
+      (some (read n))
+      (sym (flags_join (follow_each t false read true n) (if read n then may_follow t false (only n) 0 false else []) q).0
+      ∙ e) where
+        some : (b : Bool) → flag_at (if b then may_follow t false (only n) 0 false else []) q ≡ true
+            → flag_at (may_follow t false (only n) 0 false) q ≡ true
+        some true f = f
+        some false f = absurd (cc f)
+
+  module _ (always : List Bool) (rows : List Marks) (shown : List ℕ) (count : ℕ)
+      (first : flag_at always q ≡ (flag_at (may_follow t false none_read 0 true) q && is_shown t shown q))
+      (each : (p : ℕ) → p < count
+      → flag_at (row rows p) q ≡ (flag_at (may_follow t false (only p) 0 false) q && is_shown t shown q)) where
+    joined-shown : (n : ℕ) → n ≤ count → flag_at (joined always rows read n) q
+        ≡ (flag_at (follow_each t false read true n) q && is_shown t shown q)
+    joined-shown zero h = first
+    joined-shown (suc n) h =
+        (flags_join (joined always rows read n) (if read n then row rows n else []) q).0
+        ∙ ap₂ (λ a b. a || b) (joined-shown n (omega (arith, h))) (one (read n))
+        ∙ sym (and_joined (flag_at (follow_each t false read true n) q)
+        (flag_at (if read n then may_follow t false (only n) 0 false else []) q) (is_shown t shown q))
+        ∙ ap (λ b. b && is_shown t shown q)
+        (sym (flags_join (follow_each t false read true n)
+        (if read n then may_follow t false (only n) 0 false else []) q).0) where
+          one : (b : Bool) → flag_at (if b then row rows n else []) q
+              ≡ (flag_at (if b then may_follow t false (only n) 0 false else []) q && is_shown t shown q)
+          one true = each n (omega (arith, h))
+          one false = refl
+
+pub length-joined : (always : List Bool) (rows : List Marks) (read : ℕ → Bool) (count n : ℕ) → n ≤ length rows
+    → length always ≡ count → AreLong count rows → length (joined always rows read n) ≡ count
+length-joined always rows read count zero h e long = e
+length-joined always rows read count (suc n) h e long =
+    go (length-joined always rows read count n (omega (arith, h)) e long) (read n) where
+      go : length (joined always rows read n) ≡ count → (b : Bool)
+          → length (or_each (joined always rows read n) (if b then row rows n else [])) ≡ count
+      go before true = length-or_each (joined always rows read n) (row rows n) count before (long n (omega (arith, h)))
+      go before false = ap length (or_each_none (joined always rows read n)) ∙ before
+
+module _ (t : Tree) (count : ℕ) (counted : count ≡ count_of t) (always : List Bool) (rows having : List Marks)
+    (shown : List ℕ)
+    (first-long : length always ≡ count)
+    (follow-long : AreLong count rows) (as-many : length rows ≡ count)
+    (first : (q : ℕ) → flag_at always q ≡ (flag_at (may_follow t false none_read 0 true) q && is_shown t shown q))
+    (each : (p q : ℕ) → p < count
+    → flag_at (row rows p) q ≡ (flag_at (may_follow t false (only p) 0 false) q && is_shown t shown q))
+    (has : (c : ℕ) → c < 128 → row having c ≡ reads_next t false (flag_at (replicate count true)) c 0 true)
+    (shows : (c q : ℕ) → c < 128 → flag_at (row having c) q ≡ true → is_shown t shown q ≡ true) where
+
+  pub next_by_rows : (c : ℕ) → c < 128 → (read : ℕ → Bool)
+      → reads_next t false read c 0 true ≡ and_each (joined always rows read (length rows)) (row having c)
+  next_by_rows c ascii read =
+      same_flags (reads_next t false read c 0 true) (and_each (joined always rows read (length rows)) (row having c))
+      (length-reads false read c t 0 true ∙ sym counted
+      ∙ sym (length-and_each (joined always rows read (length rows)) (row having c) count
+      (length-joined always rows read count (length rows) (omega arith) first-long follow-long)
+      (ap length (has c ascii) ∙ length-reads false (flag_at (replicate count true)) c t 0 true ∙ sym counted)))
+      flag where
+        sets : List Bool
+        sets = sets_have (sets_of t) c
+
+        all : ℕ → Bool
+        all = flag_at (replicate count true)
+
+        all-is : (q : ℕ) → flag_at (row having c) q
+            ≡ (flag_at (follow_each t false all true (count_of t)) q && flag_at sets q)
+        all-is q =
+            ap (λ fs. flag_at fs q) (has c ascii ∙ next_of_each t false all c true)
+            ∙ (flags_join (follow_each t false all true (count_of t)) sets q).1
+
+        flag : (q : ℕ) → flag_at (reads_next t false read c 0 true) q
+            ≡ flag_at (and_each (joined always rows read (length rows)) (row having c)) q
+        flag q =
+            ap (λ fs. flag_at fs q) (next_of_each t false read c true)
+            ∙ (flags_join (follow_each t false read true (count_of t)) sets q).1
+            ∙ sym (picks (flag_at (follow_each t false read true (count_of t)) q) (is_shown t shown q)
+            (flag_at (follow_each t false all true (count_of t)) q) (flag_at sets q)
+            (follow-more t read q all (count_of t) (λ p l. flag-all count p (omega (arith, l, counted))))
+            (λ e. shows c q ascii (all-is q ∙ e)))
+            ∙ ap₂ (λ a b. a && b)
+            (sym (joined-shown t read q always rows shown count (first q) (λ p. each p q) (count_of t) (omega (arith, counted)))
+            ∙ ap (λ n. flag_at (joined always rows read n) q) (sym counted ∙ sym as-many))
+            (sym (all-is q))
+            ∙ sym ((flags_join (joined always rows read (length rows)) (row having c) q).1)
+
+-- ---- the end of a match
+pub done_by_rows : (t : Tree) (count : ℕ) → count ≡ count_of t → (ends : List Bool) (done : Bool)
+    → done ≡ ends_here t false false none_read 0 true
+    → ((p : ℕ) → p < count → flag_at ends p ≡ ends_here t false false (only p) 0 false)
+    → (read : ℕ → Bool) → ends_here t false false read 0 true ≡ (done || some_both read (flag_at ends) count)
+done_by_rows t count counted ends done is each read =
+    ends_of_each t false false read true
+    ∙ ap (ends_each t false false read true) (sym counted)
+    ∙ up_to count (omega arith) where
+      up_to : (n : ℕ) → n ≤ count
+          → ends_each t false false read true n ≡ (done || some_both read (flag_at ends) n)
+      up_to zero h = sym is ∙ sym (or_nothing done)
+      up_to (suc n) h =
+          ap₂ (λ a b. a || (read n && b)) (up_to n (omega (arith, h))) (sym (each n (omega (arith, h))))
+          ∙ or_assoc done (some_both read (flag_at ends) n) (read n && flag_at ends n)
+
+-- ---- a few characters that show all
+row-past : (rows : List Marks) (n : ℕ) → length rows ≤ n → row rows n ≡ []
+row-past [] n h = refl
+row-past (x ∷ rows) zero h = absurd (omega (arith, h))
+row-past (x ∷ rows) (suc n) h = row-past rows n (omega (arith, h))
+
+module _ (t : Tree) (count : ℕ) (having : List Marks) (characters : length having ≡ 128)
+    (has : (c : ℕ) → c < 128 → row having c ≡ reads_next t false (flag_at (replicate count true)) c 0 true) where
+  set_has : (c q : ℕ) → flag_at (row having c) q ≡ true → flag_at (sets_have (sets_of t) c) q ≡ true
+  set_has c q e = elim (cases_lt c 128) as (λ _. flag_at (sets_have (sets_of t) c) q ≡ true) [
+    | inl ascii ↦
+        right (flag_at (follow_each t false (flag_at (replicate count true)) true (count_of t)) q)
+        (flag_at (sets_have (sets_of t) c) q)
+        (sym ((flags_join (follow_each t false (flag_at (replicate count true)) true (count_of t))
+        (sets_have (sets_of t) c) q).1)
+        ∙ sym (ap (λ fs. flag_at fs q) (has c ascii ∙ next_of_each t false (flag_at (replicate count true)) c true))
+        ∙ e)
+    | inr past ↦ absurd (cc (sym (ap (λ fs. flag_at fs q) (row-past having c (omega (arith, past, characters)))) ∙ e))
+  ] where
+    right : (a b : Bool) → (a && b) ≡ true → b ≡ true
+    right true b f = f
+    right false b f = absurd (cc f)
+
+  pub shows_all : (cs : List ℕ) (q : ℕ) → is_in_some having cs q ≡ true → is_shown t cs q ≡ true
+  shows_all [] q e = e
+  shows_all (c ∷ cs) q e =
+      more (flag_at (row having c) q) (is_in_some having cs q) (flag_at (sets_have (sets_of t) c) q) (is_shown t cs q)
+      (set_has c q) (shows_all cs q) e
+
+pub long-again : (rows : List Marks) (count other : ℕ) → count ≡ other → AreLong count rows → AreLong other rows
+long-again rows count other e long n h = long n h ∙ e
+
+pub long-having : (t : Tree) (count : ℕ) (having : List Marks) → count ≡ count_of t → length having ≡ 128
+    → ((c : ℕ) → c < 128 → row having c ≡ reads_next t false (flag_at (replicate count true)) c 0 true)
+    → AreLong count having
+long-having t count having counted characters has n h =
+    ap length (has n (omega (arith, h, characters)))
+    ∙ length-reads false (flag_at (replicate count true)) n t 0 true ∙ sym counted
+
+-- ---- one row more
+row-before : (rows : List Marks) (x : Marks) (n : ℕ) → n < length rows → row (rows ++ x ∷ []) n ≡ row rows n
+row-before [] x n h = absurd (omega (arith, h))
+row-before (y ∷ rows) x zero h = refl
+row-before (y ∷ rows) x (suc n) h = row-before rows x n (omega (arith, h))
+
+row-last : (rows : List Marks) (x : Marks) → row (rows ++ x ∷ []) (length rows) ≡ Marks.flags x
+row-last [] x = refl
+row-last (y ∷ rows) x = row-last rows x
+
+pub rows-more : (P : ℕ → List Bool → Type 0) (rows after : List Marks) (x : Marks) (n : ℕ) → length rows ≡ n
+    → after ≡ rows ++ x ∷ [] → ((p : ℕ) → p < n → P p (row rows p)) → P n (Marks.flags x)
+    → (p : ℕ) → p < n + 1 → P p (row after p)
+rows-more P rows after x n e f before here p h =
+    subst (λ rs. P p (row rs p)) (sym f) (elim (cases_eq p n) as (λ _. P p (row (rows ++ x ∷ []) p)) [
+      | inl same ↦
+          subst (λ k. P k (row (rows ++ x ∷ []) k)) (e ∙ sym same)
+          (subst (P (length rows)) (sym (row-last rows x)) (subst (λ k. P k (Marks.flags x)) (sym e) here))
+      | inr other ↦
+          subst (P p) (sym (row-before rows x p (omega (arith, h, other, e)))) (before p (omega (arith, h, other)))
+    ])
+
+pub flags-more : (P : ℕ → Bool → Type 0) (flags after : List Bool) (b : Bool) (n : ℕ) → length flags ≡ n
+    → after ≡ flags ++ b ∷ [] → ((p : ℕ) → p < n → P p (flag_at flags p)) → P n b
+    → (p : ℕ) → p < n + 1 → P p (flag_at after p)
+flags-more P flags after b n e f before here p h =
+    subst (λ fs. P p (flag_at fs p)) (sym f) (elim (cases_eq p n) as (λ _. P p (flag_at (flags ++ b ∷ []) p)) [
+      | inl same ↦
+          subst (λ k. P k (flag_at (flags ++ b ∷ []) k)) (e ∙ sym same)
+          (subst (P (length flags)) (sym (flag-last flags b)) (subst (λ k. P k b) (sym e) here))
+      | inr other ↦
+          subst (P p) (sym (flag-appended flags b p (omega (arith, h, other, e)))) (before p (omega (arith, h, other)))
+    ])
+
+-- ---- loops
+abbrev none : Marks
+none = record { flags = []; room = 0 }
+
+pub row-read : (rows : List Marks) (n : ℕ) (x : Marks) → n < length rows → x ≡ get_or rows n x
+    → row rows n ≡ Marks.flags x
+row-read rows n x within is = sym (ap Marks.flags (get_or_read rows n x within is none))
+
+abbrev pub Seen : (having : List Marks) (seen : List Bool) (shown : List ℕ) → ℕ → Type 0
+Seen having seen shown n =
+    ((q : ℕ) → flag_at seen q ≡ true → is_in_some having shown q ≡ true)
+    × ((c q : ℕ) → c < n → flag_at (row having c) q ≡ true → flag_at seen q ≡ true)
+
+module _ (having : List Marks) (seen : List Bool) (shown : List ℕ) (n : ℕ) (x : Marks) (within : n < length having)
+    (is : x ≡ get_or having n x) where
+  pub seen-within : Seen having seen shown n → ((p : ℕ) → flag_at (Marks.flags x) p ≡ true → flag_at seen p ≡ true)
+      → Seen having seen shown (n + 1)
+  seen-within (shows, sees) h = (shows, seen_more) where
+    seen_more : (c q : ℕ) → c < n + 1 → flag_at (row having c) q ≡ true → flag_at seen q ≡ true
+    seen_more c q l e = elim (cases_eq c n) as (λ _. flag_at seen q ≡ true) [
+      | inl same ↦
+          h q (ap (λ fs. flag_at fs q) (sym (row-read having n x within is))
+          ∙ sym (ap (λ k. flag_at (row having k) q) same) ∙ e)
+      | inr other ↦ sees c q (omega (arith, l, other)) e
+    ]
+
+  pub seen-joined : (after : List Bool) (longer : List ℕ) → after ≡ or_each seen (Marks.flags x)
+      → longer ≡ shown ++ n ∷ [] → Seen having seen shown n → Seen having after longer (n + 1)
+  seen-joined after longer joins appends (shows, sees) = (shown_more, seen_more) where
+    flag : (q : ℕ) → flag_at after q ≡ (flag_at seen q || flag_at (row having n) q)
+    flag q =
+        ap (λ fs. flag_at fs q) joins ∙ (flags_join seen (Marks.flags x) q).0
+        ∙ ap (λ fs. flag_at seen q || flag_at fs q) (sym (row-read having n x within is))
+
+    shown_more : (q : ℕ) → flag_at after q ≡ true → is_in_some having longer q ≡ true
+    shown_more q e =
+        ap (λ cs. is_in_some having cs q) appends ∙ in_some-append having shown n q
+        ∙ more (flag_at seen q) (flag_at (row having n) q) (is_in_some having shown q) (flag_at (row having n) q)
+        (shows q) (λ f. f) (sym (flag q) ∙ e)
+
+    seen_more : (c q : ℕ) → c < n + 1 → flag_at (row having c) q ≡ true → flag_at after q ≡ true
+    seen_more c q l e = flag q ∙ elim (cases_eq c n) as (λ _. (flag_at seen q || flag_at (row having n) q) ≡ true) [
+      | inl same ↦
+          ap (λ b. flag_at seen q || b) (sym (ap (λ k. flag_at (row having k) q) same) ∙ e) ∙ or_true (flag_at seen q)
+      | inr other ↦ ap (λ b. b || flag_at (row having n) q) (sees c q (omega (arith, l, other)) e)
+    ]
+
+pub seen-same : (having : List Marks) (seen : List Bool) (shown : List ℕ) (after : List Bool) (longer : List ℕ) (n : ℕ)
+    → after ≡ seen → longer ≡ shown → Seen having seen shown n → Seen having after longer n
+seen-same having seen shown after longer n e f (shows, sees) = (
+  (λ q g. ap (λ cs. is_in_some having cs q) f ∙ shows q (sym (ap (λ fs. flag_at fs q) e) ∙ g)),
+  (λ c q l g. ap (λ fs. flag_at fs q) e ∙ sees c q l g),
+)
+
+-- the rows of positions that were not read add nothing
+pub joined-quiet : (always : List Bool) (rows : List Marks) (read : ℕ → Bool) (n m : ℕ) → n ≤ m
+    → ((p : ℕ) → n ≤ p → p < m → read p ≡ false) → joined always rows read m ≡ joined always rows read n
+joined-quiet always rows read n zero h quiet = let e : 0 ≡ n = omega (arith, h) in ap (joined always rows read) e
+joined-quiet always rows read n (suc m) h quiet = elim (cases_eq n (suc m)) as
+    (λ _. joined always rows read (suc m) ≡ joined always rows read n) [
+      | inl same ↦ ap (joined always rows read) (sym same)
+      | inr other ↦
+          ap (λ b. or_each (joined always rows read m) (if b then row rows m else []))
+          (quiet m (omega (arith, h, other)) (omega arith))
+          ∙ or_each_none (joined always rows read m)
+          ∙ joined-quiet always rows read n m (omega (arith, h, other)) (λ p l k. quiet p l (omega (arith, k)))
+    ]
+
+pub joined-next : (always : List Bool) (rows : List Marks) (read : ℕ → Bool) (n p : ℕ) (x : Marks)
+    (before after : List Bool) → n ≤ p → ((q : ℕ) → n ≤ q → q < p → read q ≡ false) → read p ≡ true
+    → row rows p ≡ Marks.flags x → before ≡ joined always rows read n → after ≡ or_each before (Marks.flags x)
+    → after ≡ joined always rows read (p + 1)
+joined-next always rows read n p x before after h quiet has is e f =
+    let next : suc p ≡ p + 1 = omega arith in
+    f
+    ∙ ap₂ or_each (e ∙ sym (joined-quiet always rows read n p h quiet)) (sym is)
+    ∙ sym (ap (λ b. or_each (joined always rows read p) (if b then row rows p else [])) has)
+    ∙ ap (joined always rows read) next
+
+-- a walk that begins with no flags
+pub from_none : (t : Tree) (read : ℕ → Bool) (c : ℕ) (b : Bool) (start reads : List Bool) → start ≡ []
+    → reads ≡ start ++ reads_next t false read c (length start) b → reads ≡ reads_next t false read c 0 b
+from_none t read c b start reads e f = f ∙ ap (λ fs. fs ++ reads_next t false read c (length fs) b) e
+
+-- one more character asked
+pub row-more : (t : Tree) (read : ℕ → Bool) (begins : Bool) (cs : List ℕ) (i c : ℕ) (flags reads after : List Bool)
+    → i < length cs → c ≡ get_or cs i c
+    → ((q : ℕ) → flag_at flags q ≡ (flag_at (may_follow t false read 0 begins) q && is_shown t (take i cs) q))
+    → reads ≡ reads_next t false read c 0 begins → after ≡ or_each flags reads
+    → (q : ℕ) → flag_at after q ≡ (flag_at (may_follow t false read 0 begins) q && is_shown t (take (i + 1) cs) q)
+row-more t read begins cs i c flags reads after within is before e f q =
+    ap (λ fs. flag_at fs q) f
+    ∙ (flags_join flags reads q).0
+    ∙ ap₂ (λ a b. a || b) (before q)
+    (ap (λ fs. flag_at fs q) (e ∙ next_asks_sets t false read c 0 begins)
+    ∙ (flags_join (may_follow t false read 0 begins) (sets_have (sets_of t) c) q).1)
+    ∙ apart (flag_at (may_follow t false read 0 begins) q) (is_shown t (take i cs) q)
+    (flag_at (sets_have (sets_of t) c) q)
+    ∙ ap (λ b. flag_at (may_follow t false read 0 begins) q && b)
+    (sym (ap (λ ds. is_shown t ds q) (more_taken) ∙ shown-append t (take i cs) c q)) where
+      more_taken : take (i + 1) cs ≡ take i cs ++ c ∷ []
+      more_taken = take_more cs i c within ∙ ap (λ d. take i cs ++ d ∷ []) (sym is)
+
+      apart : (a b d : Bool) → ((a && b) || (a && d)) ≡ (a && (b || d))
+      apart true b d = refl
+      apart false b d = refl

@@ -1,0 +1,45 @@
+use Rattle.std.proofs.Common.{◌≡◌, ◌<◌, ◌+◌, ◌&&◌, Bool, ℕ, List, false, true, ◌∙◌, [], ◌∷◌, length, sym, ap, arith, length-append}
+use Rattle.state_laws.specs.Flow.{flag_at, ends_here}
+use Rattle.flow_laws.specs.Rows.{only, may_follow}
+use Rattle.js_pattern.specs.View.{view}
+use Rattle.js_nfa.specs.Marks.{Marks}
+use Rattle.js_nfa.specs.Rows.{row, is_shown}
+use Rattle.js_nfa.proofs.RowsSteps as S
+use Rattle.js_nfa.proofs.followers.follow_each.Goals as goal
+
+pub loop-p-preserved : goal.loop-p-preserved
+loop-p-preserved c =
+    let t = view c.args.tree.now in
+    let cs = c.args.characters.now in
+    let before = c.loop-p.invariant in
+    let pushed = c.in_ok-push.ensures.items in
+    let as_many : length c.push.new.self.items ≡ c.loop-p.p + 1 =
+    ap length pushed ∙ length-append c.loop-p.rows.items (c.in_ok-row.field-0 ∷ [])
+    ∙ ap (λ n. n + 1) before.as_many in
+    record {
+      room = (
+        omega (arith, before.room.0, c.read_only.ensures.room),
+        omega (arith, before.room.1, c.push-in-loop-p.ensures.room),
+      );
+      as_many = as_many;
+      long = λ n h.
+          S.rows-more (λ p flags. length flags ≡ c.args.count) c.loop-p.rows.items c.push.new.self.items
+          c.in_ok-row.field-0 c.loop-p.p before.as_many pushed
+          (λ p l. before.long p (omega (arith, l, before.as_many))) c.in_ok-row.ensures.length n
+          (omega (arith, h, as_many));
+      rows = λ p q h.
+          S.rows-more
+          (λ k flags. flag_at flags q ≡ (flag_at (may_follow t false (only k) 0 false) q && is_shown t cs q))
+          c.loop-p.rows.items c.push.new.self.items c.in_ok-row.field-0 c.loop-p.p before.as_many pushed
+          (λ k l. before.rows k q l)
+          (c.in_ok-row.ensures.flags q
+          ∙ ap (λ read. flag_at (may_follow t false read 0 false) q && is_shown t cs q) c.read_only.ensures.only)
+          p h;
+      many = ap length c.push-in-loop-p.ensures.flags
+          ∙ length-append c.loop-p.ends.flags (c.is_end.result ∷ [])
+          ∙ ap (λ n. n + 1) before.many;
+      ends = S.flags-more (λ k b. b ≡ ends_here t false false (only k) 0 false) c.loop-p.ends.flags
+          c.push-in-loop-p.new.self.flags c.is_end.result c.loop-p.p before.many c.push-in-loop-p.ensures.flags
+          before.ends
+          (c.is_end.ensures ∙ ap (λ read. ends_here t false false read 0 false) c.read_only.ensures.only);
+    }

@@ -1,0 +1,10 @@
+use Rattle.std.proofs.Common.{◌++◌, ◌∷◌, [], ◌∙◌, ap, true, false, replicate}
+use Rattle.state_laws.specs.Flow.{flag_at}
+use Rattle.js_nfa.proofs.RowsSteps.{flag-only}
+use Rattle.js_nfa.proofs.followers.read_only.Goals as goal
+
+pub returns-clause-only : goal.returns-clause-only
+returns-clause-only c =
+    ap flag_at (c.push.ensures.flags ∙ ap (λ z. z ++ true ∷ []) (c.push_none.ensures.flags
+    ∙ ap (λ z. z ++ replicate c.args.position false) c.clear.ensures.flags))
+    ∙ flag-only c.args.position

@@ -1,0 +1,15 @@
+use Rattle.std.proofs.Common.{◌≡◌, ◌≤◌, ◌&&◌, ℕ, false, length, take}
+use Rattle.state_laws.specs.Flow.{flag_at}
+use Rattle.flow_laws.specs.Rows.{may_follow}
+use Rattle.js_pattern.specs.View.{view}
+use Rattle.js_nfa.specs.Rows.{is_shown}
+use Rattle.js_nfa.proofs.followers.row.Given as goal
+
+abbrev pub invariant-loop-c : goal.invariant-loop-c
+invariant-loop-c l = record {
+  room : (l.count ≤ l.row.room) × (l.count ≤ l.reads.room);
+  length : length l.row.flags ≡ l.count;
+  flags : (q : ℕ) → flag_at l.row.flags q
+      ≡ (flag_at (may_follow (view l.tree) false (flag_at l.read.flags) 0 l.begins) q
+      && is_shown (view l.tree) (take l.c-index l.characters) q);
+}

@@ -1,0 +1,54 @@
+use Rattle.std.proofs.Common.{◌≡◌, ◌<◌, ◌&&◌, ◌||◌, ℕ, length, false, true, ◌∙◌, sym, ap, ap₂, subst}
+use Rattle.state_laws.specs.Flow.{flag_at, ends_here}
+use Rattle.flow_laws.specs.Rows.{only, may_follow}
+use Rattle.js_pattern.specs.View.{view}
+use Rattle.js_nfa.specs.Both.{some_both}
+use Rattle.js_nfa.specs.Rows.{row, AreLong, is_shown, is_in_some}
+use Rattle.js_nfa.proofs.RowsSteps as S
+use Rattle.js_nfa.proofs.rows.Rows.of.Goals as goal
+
+pub shown-requires-clause-long : goal.shown-requires-clause-long
+shown-requires-clause-long c =
+    subst (AreLong c.args.count) (sym c.deref.ensures.value)
+    (S.long-having (view c.args.tree.now) c.args.count c.in_ok-having.having.items c.requires.counted
+    c.in_ok-having.ensures.length c.in_ok-having.ensures.rows)
+
+pub invariant_of-result : goal.invariant_of-result
+invariant_of-result c =
+    let as_many = sym c.in_ok-rows.ensures.length in
+    record {
+      first_long = c.in_ok-always.ensures.length ∙ as_many;
+      follow_long = S.long-again c.in_ok-rows.field-0.rows.items c.args.count _ as_many c.in_ok-rows.ensures.long;
+      having_long = S.long-again c.in_ok-having.having.items c.args.count _ as_many
+          (S.long-having (view c.args.tree.now) c.args.count c.in_ok-having.having.items c.requires.counted
+          c.in_ok-having.ensures.length c.in_ok-having.ensures.rows);
+      characters = c.in_ok-having.ensures.length;
+    }
+
+pub returns : goal.returns
+returns c =
+    let t = view c.args.tree.now in
+    let rows = c.in_ok-rows.field-0.rows.items in
+    let having = c.in_ok-having.having.items in
+    let shown = c.in_ok-shown.shown.items in
+    let none = S.flag-none c.in_ok-none.none.flags c.in_ok-none.ensures.flags in
+    let ends = flag_at c.in_ok-rows.field-0.ends.flags in
+    let in_some : (d q : ℕ) → d < 128 → flag_at (row having d) q ≡ true → is_in_some having shown q ≡ true =
+    subst (λ hs. (d q : ℕ) → d < 128 → flag_at (row hs d) q ≡ true → is_in_some hs shown q ≡ true)
+    c.deref.ensures.value c.in_ok-shown.ensures in
+    record {
+      counted = sym c.requires.counted ∙ sym c.in_ok-rows.ensures.length;
+      next = S.next_by_rows t c.args.count c.requires.counted c.in_ok-always.always.flags rows having shown
+          c.in_ok-always.ensures.length c.in_ok-rows.ensures.long c.in_ok-rows.ensures.length
+          (λ q. c.in_ok-always.ensures.flags q
+          ∙ ap₂ (λ read cs. flag_at (may_follow t false read 0 true) q && is_shown t cs q) none c.deref-2.ensures.value)
+          (λ p q h. c.in_ok-rows.ensures.rows p q h
+          ∙ ap (λ cs. flag_at (may_follow t false (only p) 0 false) q && is_shown t cs q) c.deref-3.ensures.value)
+          c.in_ok-having.ensures.rows
+          (λ d q h e. S.shows_all t c.args.count having c.in_ok-having.ensures.length c.in_ok-having.ensures.rows shown
+          q (in_some d q h e));
+      done = λ read.
+          S.done_by_rows t c.args.count c.requires.counted c.in_ok-rows.field-0.ends.flags c.tree_ends-done.result
+          (c.tree_ends-done.ensures ∙ ap (λ r. ends_here t false false r 0 true) none) c.in_ok-rows.ensures.ends read
+          ∙ ap (λ n. c.tree_ends-done.result || some_both read ends n) (sym c.in_ok-rows.ensures.length);
+    }

@@ -1,0 +1,156 @@
+//! What may follow each position of a tree, found by walks in which that position alone was read.
+//!
+//! A walk says which positions read a given character. So it is done for each of a few characters which, between them,
+//! are in the sets of all positions that read one of ASCII.
+
+ghost use Rattle.std.specs.Prelude.{◌≡◌, ◌<◌, ◌≤◌, ◌++◌, ◌∷◌, ◌&&◌, [], ℕ, true, false, length, replicate, IfOk};
+ghost use Rattle.words.specs.Position.{count_of};
+ghost use Rattle.state_laws.specs.Flow.{flag_at, ends_here, reads_next};
+ghost use Rattle.flow_laws.specs.Rows.{only, may_follow};
+ghost use Rattle.js_pattern.specs.View.{view};
+ghost use Rattle.js_nfa.specs.Rows.{row, AreLong, is_shown, is_in_some};
+
+use crate::advance::{Next, advance};
+use crate::done::read_all;
+use crate::ends::{Edges, ends_here};
+use crate::position_set::PositionSet;
+use js_doc::Memory;
+use js_pattern::Re;
+use std::alloc::Global;
+
+/// How many characters have a row: those of ASCII.
+pub(crate) const CHARACTERS: u8 = 128;
+
+/// A row for each position, and those with which a match is done.
+#[derive(Drop)]
+pub(crate) struct Followers {
+    pub(crate) rows: Vec<PositionSet>,
+    pub(crate) ends: PositionSet,
+}
+
+/// For each character of ASCII, the positions that read it where all positions were read.
+pub(crate) fn having(alloc: Global, tree: &Re, count: u32) -> Result<Vec<PositionSet>, Memory>
+    requires counted { count ≡ count_of (view tree.now) }
+    requires within { count ≤ 16384 }
+    ensures length { IfOk result (λ rows. length rows.items ≡ 128) }
+    ensures rows { IfOk result (λ rows. (c : ℕ) → c < 128 → row rows.items c
+        ≡ reads_next (view tree.now) false (flag_at (replicate count true)) c 0 true) }
+{
+    let mut all = PositionSet::with_room(alloc, count)?;
+    read_all(&mut all, count);
+    let mut rows = Vec::new(alloc);
+    for c in 0..CHARACTERS {
+        let next = Next {
+            first: false,
+            character: char::from(c),
+        };
+        let mut row = PositionSet::with_room(alloc, count)?;
+        let _ends = advance(tree, next, &all, true, &mut row);
+        rows.push(row)?;
+    }
+    Ok(rows)
+}
+
+/// Characters that between them have all the positions that some character of ASCII has.
+pub(crate) fn shown(
+    alloc: Global,
+    having: &[PositionSet],
+    count: u32,
+) -> Result<Vec<char>, Memory>
+    requires characters { length having.now ≡ 128 }
+    requires long { AreLong count having.now }
+    ensures { IfOk result (λ shown. (c q : ℕ) → c < 128 → flag_at (row having.now c) q ≡ true
+        → is_in_some having.now shown.items q ≡ true) }
+{
+    let mut seen = PositionSet::with_room(alloc, count)?;
+    let mut shown = Vec::new(alloc);
+    for c in 0..CHARACTERS {
+        let row = &having[c as usize];
+        if !row.is_within(&seen) {
+            seen.join(row);
+            shown.push(char::from(c))?;
+        }
+    }
+    Ok(shown)
+}
+
+/// What may follow those positions, as far as its set has one of the characters.
+pub(crate) fn row(
+    alloc: Global,
+    tree: &Re,
+    count: u32,
+    characters: &[char],
+    read: &PositionSet,
+    begins: bool,
+) -> Result<PositionSet, Memory>
+    requires counted { count ≡ count_of (view tree.now) }
+    requires within { count ≤ 16384 }
+    ensures length { IfOk result (λ row. length row.flags ≡ count) }
+    ensures flags { IfOk result (λ row. (q : ℕ) → flag_at row.flags q
+        ≡ flag_at (may_follow (view tree.now) false (flag_at read.now.flags) 0 begins) q
+        && is_shown (view tree.now) characters.now q) }
+{
+    let mut row = PositionSet::with_room(alloc, count)?;
+    row.push_none(count as usize);
+    let mut reads = PositionSet::with_room(alloc, count)?;
+    for c in characters {
+        let next = Next {
+            first: false,
+            character: *c,
+        };
+        reads.clear();
+        let _ends = advance(tree, next, read, begins, &mut reads);
+        row.join(&reads);
+    }
+    Ok(row)
+}
+
+/// A row for each position, as far as the sets have one of the characters.
+pub(crate) fn follow_each(
+    alloc: Global,
+    tree: &Re,
+    count: u32,
+    characters: &[char],
+) -> Result<Followers, Memory>
+    requires counted { count ≡ count_of (view tree.now) }
+    requires within { count ≤ 16384 }
+    ensures length { IfOk result (λ each. length each.rows.items ≡ count) }
+    ensures long { IfOk result (λ each. AreLong count each.rows.items) }
+    ensures rows { IfOk result (λ each. (p q : ℕ) → p < count → flag_at (row each.rows.items p) q
+        ≡ flag_at (may_follow (view tree.now) false (only p) 0 false) q && is_shown (view tree.now) characters.now q) }
+    ensures ends { IfOk result (λ each. (p : ℕ) → p < count → flag_at each.ends.flags p
+        ≡ ends_here (view tree.now) false false (only p) 0 false) }
+{
+    let mut read = PositionSet::with_room(alloc, count)?;
+    let mut rows = Vec::new(alloc);
+    let mut ends = PositionSet::with_room(alloc, count)?;
+    for p in 0..count {
+        read_only(&mut read, p);
+        rows.push(row(alloc, tree, count, characters, &read, false)?)?;
+        ends.push(is_end(tree, &read));
+    }
+    Ok(Followers { rows, ends })
+}
+
+/// Whether a match is done with those positions, of which there is one.
+fn is_end(tree: &Re, read: &PositionSet) -> bool
+    requires { count_of (view tree.now) ≤ 16384 }
+    ensures { result ≡ ends_here (view tree.now) false false (flag_at read.now.flags) 0 false }
+{
+    let edges = Edges {
+        first: false,
+        last: false,
+    };
+    ends_here(tree, edges, read, 0, false).ends
+}
+
+/// Makes that position the only one.
+fn read_only(read: &mut PositionSet, position: u32)
+    requires { position < read.old.room }
+    ensures only { flag_at read.new.flags ≡ only position }
+    ensures room { read.new.room ≡ read.old.room }
+{
+    read.clear();
+    read.push_none(position as usize);
+    read.push(true);
+}
