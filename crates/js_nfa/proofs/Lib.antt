@@ -18,6 +18,7 @@ pub mod AdvanceSteps
 pub mod RunSteps
 -- The same by rows, one a position.
 pub mod RowsSteps
+pub mod FoursSteps
 -- States of words by the flags of positions.
 pub mod StateSteps
 -- States as they are fed to a hasher.

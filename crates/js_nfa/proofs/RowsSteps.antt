@@ -226,7 +226,7 @@ done_by_rows t count counted ends done is each read =
           ∙ or_assoc done (some_both read (flag_at ends) n) (read n && flag_at ends n)
 
 -- ---- a few characters that show all
-row-past : (rows : List Marks) (n : ℕ) → length rows ≤ n → row rows n ≡ []
+pub row-past : (rows : List Marks) (n : ℕ) → length rows ≤ n → row rows n ≡ []
 row-past [] n h = refl
 row-past (x ∷ rows) zero h = absurd (omega (arith, h))
 row-past (x ∷ rows) (suc n) h = row-past rows n (omega (arith, h))
@@ -351,31 +351,6 @@ seen-same having seen shown after longer n e f (shows, sees) = (
   (λ q g. ap (λ cs. is_in_some having cs q) f ∙ shows q (sym (ap (λ fs. flag_at fs q) e) ∙ g)),
   (λ c q l g. ap (λ fs. flag_at fs q) e ∙ sees c q l g),
 )
-
--- the rows of positions that were not read add nothing
-pub joined-quiet : (always : List Bool) (rows : List Marks) (read : ℕ → Bool) (n m : ℕ) → n ≤ m
-    → ((p : ℕ) → n ≤ p → p < m → read p ≡ false) → joined always rows read m ≡ joined always rows read n
-joined-quiet always rows read n zero h quiet = let e : 0 ≡ n = omega (arith, h) in ap (joined always rows read) e
-joined-quiet always rows read n (suc m) h quiet = elim (cases_eq n (suc m)) as
-    (λ _. joined always rows read (suc m) ≡ joined always rows read n) [
-      | inl same ↦ ap (joined always rows read) (sym same)
-      | inr other ↦
-          ap (λ b. or_each (joined always rows read m) (if b then row rows m else []))
-          (quiet m (omega (arith, h, other)) (omega arith))
-          ∙ or_each_none (joined always rows read m)
-          ∙ joined-quiet always rows read n m (omega (arith, h, other)) (λ p l k. quiet p l (omega (arith, k)))
-    ]
-
-pub joined-next : (always : List Bool) (rows : List Marks) (read : ℕ → Bool) (n p : ℕ) (x : Marks)
-    (before after : List Bool) → n ≤ p → ((q : ℕ) → n ≤ q → q < p → read q ≡ false) → read p ≡ true
-    → row rows p ≡ Marks.flags x → before ≡ joined always rows read n → after ≡ or_each before (Marks.flags x)
-    → after ≡ joined always rows read (p + 1)
-joined-next always rows read n p x before after h quiet has is e f =
-    let next : suc p ≡ p + 1 = omega arith in
-    f
-    ∙ ap₂ or_each (e ∙ sym (joined-quiet always rows read n p h quiet)) (sym is)
-    ∙ sym (ap (λ b. or_each (joined always rows read p) (if b then row rows p else [])) has)
-    ∙ ap (joined always rows read) next
 
 -- a walk that begins with no flags
 pub from_none : (t : Tree) (read : ℕ → Bool) (c : ℕ) (b : Bool) (start reads : List Bool) → start ≡ []

@@ -1,19 +1,19 @@
 -- What rows say of a tree.
-use Rattle.std.specs.Prelude.{◌≡◌, ℕ, ◌<◌, Bool, true, false, ◌||◌, List, length}
+use Rattle.std.specs.Prelude.{◌≡◌, ℕ, ◌/◌, ◌<◌, Bool, true, false, ◌||◌, List, length}
 use Rattle.patterns.specs.Tree.{Tree}
 use Rattle.words.specs.Position.{count_of}
 use Rattle.state_laws.specs.Flow.{flag_at, ends_here, reads_next}
 use Rattle.flow_laws.specs.Rows.{and_each}
 use Rattle.js_nfa.specs.Both.{some_both}
-use Rattle.js_nfa.specs.Rows.{row, joined}
+use Rattle.js_nfa.specs.Rows.{row, by_fours}
 use Rattle.js_nfa.specs.declared.rows.Rows.{Rows}
 
 -- whatever was read, but for a word's first character, they say which positions read a character of ASCII, and whether
 -- a match is done
 pub record AreRows (t : Tree) (r : Rows) : Type 0 where
-  pub counted : count_of t ≡ length r.follow.items
+  pub counted : count_of t ≡ length r.always.flags
   pub next : (c : ℕ) → c < 128 → (read : ℕ → Bool)
       → reads_next t false read c 0 true
-      ≡ and_each (joined r.always.flags r.follow.items read (length r.follow.items)) (row r.having.items c)
+      ≡ and_each (by_fours r.always.flags r.fours.items read (length r.fours.items / 16)) (row r.having.items c)
   pub done : (read : ℕ → Bool)
-      → ends_here t false false read 0 true ≡ (r.done || some_both read (flag_at r.ends.flags) (length r.follow.items))
+      → ends_here t false false read 0 true ≡ (r.done || some_both read (flag_at r.ends.flags) (length r.always.flags))

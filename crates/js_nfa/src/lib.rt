@@ -15,6 +15,7 @@ mod ends;
 mod fault;
 mod find;
 mod followers;
+mod fours;
 mod make;
 mod nfa;
 mod options;

@@ -2,17 +2,18 @@
 //!
 //! What may follow all positions of a state is the union of what may follow each, and of these the next character takes
 //! those whose sets have it. So a row for each position and one for each character of ASCII say what a walk would say.
-//! A step looks at the words of the rows of those positions that were read.
+//! Rows are joined four at a time, so that a step looks at the words of one row for each four positions.
 
-ghost use Rattle.std.specs.Prelude.{◌≡◌, ◌<◌, ◌≤◌, true, false, length, IfOk};
+ghost use Rattle.std.specs.Prelude.{◌≡◌, ◌/◌, ◌<◌, ◌≤◌, true, false, length, IfOk};
 ghost use Rattle.patterns.specs.Tree.{Tree};
 ghost use Rattle.words.specs.Position.{count_of};
 ghost use Rattle.state_laws.specs.Flow.{flag_at, ends_here, reads_next};
 ghost use Rattle.js_pattern.specs.View.{view};
-ghost use Rattle.js_nfa.specs.Rows.{AreLong, joined};
+ghost use Rattle.js_nfa.specs.Rows.{AreLong, AreWithin, by_fours};
 
 use crate::ends::{Edges, tree_ends};
 use crate::followers::{Followers, follow_each, having, row, shown};
+use crate::fours::fours;
 use crate::position_set::PositionSet;
 use js_doc::Memory;
 use js_pattern::Re;
@@ -23,24 +24,23 @@ use std::alloc::Global;
 pub(crate) struct Rows {
     /// what may come first
     always: PositionSet,
-    /// for each position what may follow it
-    follow: Vec<PositionSet>,
+    /// for each four positions, and each choice among them, what may follow those chosen
+    fours: Vec<PositionSet>,
     /// for each character of ASCII the positions whose sets have it
     having: Vec<PositionSet>,
     /// the positions with which a match is done
     ends: PositionSet,
     /// whether a match is done with none
     done: bool,
-    ghost first_long: { length always.flags ≡ length follow.items },
-    ghost follow_long: { AreLong (length follow.items) follow.items },
-    ghost having_long: { AreLong (length follow.items) having.items },
+    ghost fours_within: { AreWithin (length always.flags) fours.items },
+    ghost having_long: { AreLong (length always.flags) having.items },
     ghost characters: { length having.items ≡ 128 },
 }
 
 impl Rows {
     ghost use Rattle.js_nfa.specs.AreRows.{AreRows};
 
-    /// The rows of a tree. They take a bit for each two positions, and a walk for each position and each of a few
+    /// The rows of a tree. They take four bits for each two positions, and a walk for each position and each of a few
     /// characters.
     pub(crate) fn of(alloc: Global, tree: &Re, count: u32) -> Result<Rows, Memory>
         requires counted { count ≡ count_of (view tree.now) }
@@ -52,6 +52,7 @@ impl Rows {
         let none = PositionSet::with_room(alloc, count)?;
         let always = row(alloc, tree, count, &shown, &none, true)?;
         let Followers { rows, ends } = follow_each(alloc, tree, count, &shown)?;
+        let fours = fours(alloc, &rows, count)?;
         let edges = Edges {
             first: false,
             last: false,
@@ -59,7 +60,7 @@ impl Rows {
         let done = tree_ends(tree, edges, &none);
         Ok(Rows {
             always,
-            follow: rows,
+            fours,
             having,
             ends,
             done,
@@ -75,7 +76,7 @@ impl Rows {
         reads: &mut PositionSet,
     ) -> bool
         requires ascii { character < 128 }
-        requires room { length self.now.follow.items ≤ reads.old.room }
+        requires room { length self.now.always.flags ≤ reads.old.room }
         ensures flags { (t : Tree) → AreRows t self.now → reads.new.flags
             ≡ reads_next t false (flag_at read.now.flags) character 0 true }
         ensures done { (t : Tree) → AreRows t self.now → result
@@ -89,21 +90,17 @@ impl Rows {
 
     /// Fills a set with what may come first, and what may follow the positions that were read.
     fn follow_all(&self, read: &PositionSet, reads: &mut PositionSet)
-        requires { length self.now.follow.items ≤ reads.old.room }
+        requires { length self.now.always.flags ≤ reads.old.room }
         ensures flags { reads.new.flags
-            ≡ joined self.now.always.flags self.now.follow.items (flag_at read.now.flags) (length
-            self.now.follow.items) }
+            ≡ by_fours self.now.always.flags self.now.fours.items (flag_at read.now.flags) (length
+            self.now.fours.items / 16) }
         ensures room { reads.new.room ≡ reads.old.room }
     {
         reads.clear();
         reads.join(&self.always);
-        let mut at = 0;
-        while let Some(position) = read.next_from(at) {
-            if position >= self.follow.len() {
-                return;
-            }
-            reads.join(&self.follow[position]);
-            at = position + 1;
+        for four in 0..self.fours.len() / 16 {
+            let choice = read.bits(4 * four, 4) as usize;
+            reads.join(&self.fours[16 * four + choice]);
         }
     }
 }
