@@ -8,7 +8,7 @@ use Rattle.state_laws.specs.Flow.{flag_at}
 use Rattle.flow_laws.specs.Rows.{or_each}
 use Rattle.flow_laws.proofs.RowsLemmas.{or_each_none}
 use Rattle.js_nfa.specs.Marks.{Marks}
-use Rattle.js_nfa.specs.Rows.{row, AreLong, AreWithin, AreFours, joined, chosen, four_bits, choice_at, by_fours}
+use Rattle.js_nfa.specs.Rows.{row, AreLong, AreWithin, AreFours, joined, chosen_rows, four_bits, choice_at, by_fours}
 use Rattle.js_nfa.proofs.RowsSteps.{row-past}
 
 -- ---- the bits of a choice
@@ -178,18 +178,18 @@ length-by_fours always fours read (suc n) h within =
     ∙ before
 
 -- the rows of four positions, of which a number's bits are those in the set
-chosen-joined : (always : List Bool) (rows : List Marks) (read : ℕ → Bool) (first bits : ℕ)
+chosen_rows-joined : (always : List Bool) (rows : List Marks) (read : ℕ → Bool) (first bits : ℕ)
     → ((i : ℕ) → i < 4 → eqb (bit_at bits i) 1 ≡ read (first + i)) → (n : ℕ) → n ≤ 4
-    → or_each (joined always rows read first) (chosen rows first bits n) ≡ joined always rows read (first + n)
-chosen-joined always rows read first bits is zero h =
+    → or_each (joined always rows read first) (chosen_rows rows first bits n) ≡ joined always rows read (first + n)
+chosen_rows-joined always rows read first bits is zero h =
     let same : first ≡ first + 0 = omega arith in
     or_each_none (joined always rows read first) ∙ ap (joined always rows read) same
-chosen-joined always rows read first bits is (suc n) h =
+chosen_rows-joined always rows read first bits is (suc n) h =
     let next : suc (first + n) ≡ first + suc n = omega arith in
-    sym (or_each-assoc (joined always rows read first) (chosen rows first bits n)
+    sym (or_each-assoc (joined always rows read first) (chosen_rows rows first bits n)
     (if eqb (bit_at bits n) 1 then row rows (first + n) else []))
     ∙ ap₂ (λ xs b. or_each xs (if b then row rows (first + n) else []))
-    (chosen-joined always rows read first bits is n (omega (arith, h))) (is n (omega (arith, h)))
+    (chosen_rows-joined always rows read first bits is n (omega (arith, h))) (is n (omega (arith, h)))
     ∙ ap (joined always rows read) next
 
 by_fours-joined : (always : List Bool) (rows fours : List Marks) (read : ℕ → Bool) → AreFours rows fours → (n : ℕ)
@@ -202,8 +202,8 @@ by_fours-joined always rows fours read are (suc n) h =
     let bits : (16 * n + choice) % 16 ≡ choice = omega (arith, small) in
     let next : 4 * n + 4 ≡ 4 * suc n = omega arith in
     ap₂ or_each (by_fours-joined always rows fours read are n (omega (arith, h)))
-    (are.1 (16 * n + choice) (omega (arith, h, small)) ∙ ap₂ (λ f b. chosen rows (4 * f) b 4) four bits)
-    ∙ chosen-joined always rows read (4 * n) choice (choice-read read (4 * n)) 4 (omega arith)
+    (are.1 (16 * n + choice) (omega (arith, h, small)) ∙ ap₂ (λ f b. chosen_rows rows (4 * f) b 4) four bits)
+    ∙ chosen_rows-joined always rows read (4 * n) choice (choice-read read (4 * n)) 4 (omega arith)
     ∙ ap (joined always rows read) next
 
 -- beyond the last row nothing is added
@@ -231,24 +231,24 @@ fours_join always rows fours read are =
     ∙ sym (by_fours-joined always rows fours read are (length fours / 16) (omega arith))
 
 -- ---- loops
-pub chosen-more : (rows : List Marks) (first bits n : ℕ) (x : Marks) (before after : List Bool)
-    → before ≡ chosen rows first bits n → eqb (bit_at bits n) 1 ≡ true → row rows (first + n) ≡ Marks.flags x
-    → after ≡ or_each before (Marks.flags x) → after ≡ chosen rows first bits (n + 1)
-chosen-more rows first bits n x before after e bit is f =
+pub chosen_rows-more : (rows : List Marks) (first bits n : ℕ) (x : Marks) (before after : List Bool)
+    → before ≡ chosen_rows rows first bits n → eqb (bit_at bits n) 1 ≡ true → row rows (first + n) ≡ Marks.flags x
+    → after ≡ or_each before (Marks.flags x) → after ≡ chosen_rows rows first bits (n + 1)
+chosen_rows-more rows first bits n x before after e bit is f =
     let next : suc n ≡ n + 1 = omega arith in
     f
     ∙ ap₂ or_each e (sym is)
-    ∙ sym (ap (λ b. or_each (chosen rows first bits n) (if b then row rows (first + n) else [])) bit)
-    ∙ ap (chosen rows first bits) next
+    ∙ sym (ap (λ b. or_each (chosen_rows rows first bits n) (if b then row rows (first + n) else [])) bit)
+    ∙ ap (chosen_rows rows first bits) next
 
-pub chosen-still : (rows : List Marks) (first bits n : ℕ) (before : List Bool) → before ≡ chosen rows first bits n
-    → (if eqb (bit_at bits n) 1 then row rows (first + n) else []) ≡ [] → before ≡ chosen rows first bits (n + 1)
-chosen-still rows first bits n before e none =
+pub chosen_rows-still : (rows : List Marks) (first bits n : ℕ) (before : List Bool) → before ≡ chosen_rows rows first bits n
+    → (if eqb (bit_at bits n) 1 then row rows (first + n) else []) ≡ [] → before ≡ chosen_rows rows first bits (n + 1)
+chosen_rows-still rows first bits n before e none =
     let next : suc n ≡ n + 1 = omega arith in
     e
-    ∙ sym (or_each_none (chosen rows first bits n))
-    ∙ sym (ap (or_each (chosen rows first bits n)) none)
-    ∙ ap (chosen rows first bits) next
+    ∙ sym (or_each_none (chosen_rows rows first bits n))
+    ∙ sym (ap (or_each (chosen_rows rows first bits n)) none)
+    ∙ ap (chosen_rows rows first bits) next
 
 pub within-again : (rows : List Marks) (count other : ℕ) → count ≡ other → AreWithin count rows → AreWithin other rows
 within-again rows count other e within n h = let one = within n h in omega (arith, one, e)

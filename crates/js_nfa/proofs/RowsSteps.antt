@@ -172,7 +172,6 @@ module _ (t : Tree) (count : ℕ) (counted : count ≡ count_of t) (always : Lis
     → flag_at (row rows p) q ≡ (flag_at (may_follow t false (only p) 0 false) q && is_shown t shown q))
     (has : (c : ℕ) → c < 128 → row having c ≡ reads_next t false (flag_at (replicate count true)) c 0 true)
     (shows : (c q : ℕ) → c < 128 → flag_at (row having c) q ≡ true → is_shown t shown q ≡ true) where
-
   pub next_by_rows : (c : ℕ) → c < 128 → (read : ℕ → Bool)
       → reads_next t false read c 0 true ≡ and_each (joined always rows read (length rows)) (row having c)
   next_by_rows c ascii read =

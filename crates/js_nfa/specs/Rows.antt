@@ -25,16 +25,16 @@ abbrev pub AreWithin : ℕ → List Marks → Type 0
 AreWithin count rows = (n : ℕ) → n < length rows → length (row rows n) ≤ count
 
 -- the rows of those positions from `first` on that the bits below n choose
-abbrev pub chosen : (rows : List Marks) (first bits : ℕ) → ℕ → List Bool
-chosen rows first bits zero = []
-chosen rows first bits (suc n) =
-    or_each (chosen rows first bits n) (if bit_at bits n == 1 then row rows (first + n) else [])
+abbrev pub chosen_rows : (rows : List Marks) (first bits : ℕ) → ℕ → List Bool
+chosen_rows rows first bits zero = []
+chosen_rows rows first bits (suc n) =
+    or_each (chosen_rows rows first bits n) (if bit_at bits n == 1 then row rows (first + n) else [])
 
 -- for each four rows, those of each choice among them
 abbrev pub AreFours : (rows fours : List Marks) → Type 0
 AreFours rows fours =
     (length rows ≤ 4 * (length fours / 16))
-    × ((n : ℕ) → n < length fours → row fours n ≡ chosen rows (4 * (n / 16)) (n % 16) 4)
+    × ((n : ℕ) → n < length fours → row fours n ≡ chosen_rows rows (4 * (n / 16)) (n % 16) 4)
 
 -- four tests as the bits of a number, the lowest bit first
 abbrev pub four_bits : (a b c d : Bool) → ℕ

@@ -2,7 +2,7 @@
 //!
 //! The walk goes through the tree in the order of its positions, so it costs a look at each node, and as many at a
 //! repeated tree as it has copies, up to one from which on nothing is going on. A repeated tree without positions is
-//! gone through once, and a repeated set of characters in a loop over the copies that may be the last.
+//! gone through once, and of a repeated set of characters the words are looked at that have its copies.
 
 ghost use Rattle.std.specs.Prelude.{◌≡◌, ◌+◌, ◌*◌, ◌≤◌, ◌^◌, ◌&&◌, nat_eq, nat_le, true, if◌then◌else◌, Bool, List, ℕ};
 ghost use Rattle.patterns.specs.Tree.{one_of, repeated};

@@ -52,11 +52,7 @@ pub(crate) fn having(alloc: Global, tree: &Re, count: u32) -> Result<Vec<Positio
 }
 
 /// Characters that between them have all the positions that some character of ASCII has.
-pub(crate) fn shown(
-    alloc: Global,
-    having: &[PositionSet],
-    count: u32,
-) -> Result<Vec<char>, Memory>
+pub(crate) fn shown(alloc: Global, having: &[PositionSet], count: u32) -> Result<Vec<char>, Memory>
     requires characters { length having.now ≡ 128 }
     requires long { AreLong count having.now }
     ensures { IfOk result (λ shown. (c q : ℕ) → c < 128 → flag_at (row having.now c) q ≡ true

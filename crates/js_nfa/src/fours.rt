@@ -3,7 +3,7 @@
 //! A state has its positions as bits, so four of them choose one of sixteen unions: one look for four rows.
 
 ghost use Rattle.std.specs.Prelude.{◌≡◌, ◌≤◌, ◌*◌, ◌<◌, length, IfOk};
-ghost use Rattle.js_nfa.specs.Rows.{AreLong, AreWithin, AreFours, chosen};
+ghost use Rattle.js_nfa.specs.Rows.{AreLong, AreWithin, AreFours, chosen_rows};
 
 use crate::position_set::PositionSet;
 use js_doc::Memory;
@@ -37,7 +37,7 @@ fn union(
 ) -> Result<PositionSet, Memory>
     requires long { AreLong count rows.now }
     requires few { first ≤ 16384 }
-    ensures flags { IfOk result (λ union. union.flags ≡ chosen rows.now first bits 4) }
+    ensures flags { IfOk result (λ union. union.flags ≡ chosen_rows rows.now first bits 4) }
     ensures within { IfOk result (λ union. length union.flags ≤ count) }
 {
     let mut union = PositionSet::with_room(alloc, count)?;

@@ -40,8 +40,8 @@ pub(crate) struct Rows {
 impl Rows {
     ghost use Rattle.js_nfa.specs.AreRows.{AreRows};
 
-    /// The rows of a tree. They take four bits for each two positions, and a walk for each position and each of a few
-    /// characters.
+    /// The rows of a tree. They take four bits for each pair of positions, a walk for each character of ASCII, and one for
+    /// each position and each of a few characters.
     pub(crate) fn of(alloc: Global, tree: &Re, count: u32) -> Result<Rows, Memory>
         requires counted { count ≡ count_of (view tree.now) }
         requires within { count ≤ 16384 }

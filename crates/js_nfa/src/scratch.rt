@@ -22,8 +22,9 @@ impl Scratch {
     ghost use Rattle.std.specs.Prelude.{IfOk};
     ghost use Rattle.js_nfa.specs.View.{HasRoom};
 
-    /// Room for the states of an automaton: two flags a position, and with up to 256 positions a flag for each two, and
-    /// 128 a position. To find these, the pattern's tree is walked for each position and each of a few characters.
+    /// Room for the states of an automaton: two flags a position, and with up to 256 positions four for each pair of them
+    /// and 128 for each. To find these, the pattern's tree is walked for each character of ASCII, and for each position
+    /// and each of a few characters.
     pub fn room(alloc: Global, nfa: &Nfa) -> Result<Scratch, Memory>
         ensures { IfOk result (HasRoom nfa.now) }
     {

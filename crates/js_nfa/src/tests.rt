@@ -55,6 +55,7 @@ fn copies_in_two_words(rt: HostRuntime) -> Result<(), Fail> {
         "^a{65,}0",
         "^(?:a|b){70}0$",
         "^(?:a|b){65,}0",
+        "^(?:b|a|c){70}0$",
         "^(?:a?){70}0$",
     ];
     for pattern in found {
@@ -65,8 +66,50 @@ fn copies_in_two_words(rt: HostRuntime) -> Result<(), Fail> {
         "^a{71,}0",
         "^(?:a|b){69}0$",
         "^(?:a|b){71,}0",
+        "^(?:b|a|c){69}0$",
         "^(?:a?){69}0$",
     ];
+    for pattern in missed {
+        assert!(rt; !is_found(rt.alloc(), pattern, word.as_slice())?);
+    }
+    Ok(())
+}
+
+/// With more than 256 positions there are no rows.
+#[test]
+fn copies_without_rows(rt: HostRuntime) -> Result<(), Fail> {
+    let mut word = vec![in rt.alloc(); 'a'; 300]?;
+    word.push('0')?;
+    let found = [
+        "[a-z]{300}0",
+        "^(?:a|b){300}0$",
+        "^(?:[ab][ac]){150}0$",
+        "^(?:a?){300}0$",
+    ];
+    for pattern in found {
+        assert!(rt; is_found(rt.alloc(), pattern, word.as_slice())?);
+    }
+    let missed = [
+        "[a-z]{301}0",
+        "^(?:a|b){299}0$",
+        "^(?:[ab][ac]){151}0$",
+        "^(?:a?){299}0$",
+    ];
+    for pattern in missed {
+        assert!(rt; !is_found(rt.alloc(), pattern, word.as_slice())?);
+    }
+    Ok(())
+}
+
+/// A character beyond ASCII between others, and first of all.
+#[test]
+fn characters_without_rows(rt: HostRuntime) -> Result<(), Fail> {
+    let word = ['é', 'a', 'é', 'b', 'c'];
+    let found = ["^éaé[ab]c$", "(?:é|a){3}b", "[^a]b", "^[^a-z]a"];
+    for pattern in found {
+        assert!(rt; is_found(rt.alloc(), pattern, word.as_slice())?);
+    }
+    let missed = ["^aé", "(?:é|a){4}", "é$", "é^b"];
     for pattern in missed {
         assert!(rt; !is_found(rt.alloc(), pattern, word.as_slice())?);
     }

@@ -1,5 +1,5 @@
 use Rattle.std.proofs.Common.{◌≡◌, ◌≤◌, ◌<◌, ◌+◌, ◌*◌, ◌/◌, ◌%◌, [], ◌∷◌, length, ◌∙◌, sym, ap, arith, length-append}
-use Rattle.js_nfa.specs.Rows.{chosen}
+use Rattle.js_nfa.specs.Rows.{chosen_rows}
 use Rattle.js_nfa.proofs.RowsSteps as S
 use Rattle.js_nfa.proofs.fours.fours.Goals as goal
 
@@ -13,11 +13,11 @@ loop-index-preserved c =
     let turned : c.loop-index.index / 16 * 4 ≡ 4 * (c.loop-index.index / 16) = omega arith in
     record {
       as_many = as_many;
-      rows = S.rows-more (λ n flags. flags ≡ chosen c.args.rows.now (4 * (n / 16)) (n % 16) 4)
+      rows = S.rows-more (λ n flags. flags ≡ chosen_rows c.args.rows.now (4 * (n / 16)) (n % 16) 4)
           c.loop-index.fours.items c.push.new.self.items c.in_ok-union.field-0 c.loop-index.index before.as_many pushed
           before.rows
           (c.in_ok-union.ensures.flags
-          ∙ ap (λ first. chosen c.args.rows.now first (c.loop-index.index % 16) 4) turned);
+          ∙ ap (λ first. chosen_rows c.args.rows.now first (c.loop-index.index % 16) 4) turned);
       within = λ n h.
           S.rows-more (λ p flags. length flags ≤ c.args.count) c.loop-index.fours.items c.push.new.self.items
           c.in_ok-union.field-0 c.loop-index.index before.as_many pushed

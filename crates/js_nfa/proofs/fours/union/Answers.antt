@@ -5,7 +5,7 @@ use Rattle.std.proofs.lemmas.Nat.Bits.{shr_and_one}
 use Rattle.js_nfa.specs.Marks.{Marks}
 use Rattle.js_nfa.specs.Rows.{row}
 use Rattle.js_nfa.proofs.RowsSteps.{row-read}
-use Rattle.js_nfa.proofs.FoursSteps.{or_each-within, chosen-more, chosen-still, picked-past}
+use Rattle.js_nfa.proofs.FoursSteps.{or_each-within, chosen_rows-more, chosen_rows-still, picked-past}
 use Rattle.js_nfa.proofs.fours.union.Goals as goal
 use Rattle.js_nfa.proofs.fours.union.Goals.{then-bits-place-eq1+then-position-rows, else-bits-place-eq1, else-bits-place-eq1-via-then-bits-place-eq1+else-position-rows, else-bits-place-eq1-via-else-bits-place-eq1}
 
@@ -25,7 +25,7 @@ loop-place-preserved c =
           record {
             room = omega (arith, before.room, w.join.ensures.room, ap Marks.room w.union-is);
             flags = ap Marks.flags w.union-is
-                ∙ chosen-more rows c.args.first c.args.bits place x c.loop-place.union.flags w.join.new.self.flags
+                ∙ chosen_rows-more rows c.args.first c.args.bits place x c.loop-place.union.flags w.join.new.self.flags
                 before.flags bit one w.join.ensures.flags;
             within = omega (
               arith,
@@ -47,7 +47,7 @@ loop-place-preserved c =
           record {
             room = omega (arith, before.room, ap Marks.room w.union-is);
             flags = ap Marks.flags w.union-is
-                ∙ chosen-still rows c.args.first c.args.bits place c.loop-place.union.flags before.flags none;
+                ∙ chosen_rows-still rows c.args.first c.args.bits place c.loop-place.union.flags before.flags none;
             within = omega (arith, before.within, ap (λ (s : Marks). length s.flags) w.union-is);
           }
     ]
