@@ -1,15 +1,14 @@
 -- Rows joined four at a time.
 --
 -- Key: `fours_join`, the union of four rows is that of the choice which their bits are.
-use Rattle.std.proofs.Common.{◌≡◌, ℕ, zero, suc, ◌+◌, ◌-◌, ◌*◌, ◌/◌, ◌%◌, ◌<◌, ◌≤◌, Bool, true, false, ◌||◌, if◌then◌else◌, eqb, List, [], ◌∷◌, ◌++◌, length, get_or, refl, sym, ◌∙◌, ap, ap₂, arith}
+use Rattle.std.proofs.Common.{◌≡◌, ℕ, zero, suc, ◌+◌, ◌-◌, ◌*◌, ◌/◌, ◌%◌, ◌<◌, ◌≤◌, Bool, true, false, if◌then◌else◌, eqb, List, [], ◌∷◌, length, refl, sym, ◌∙◌, ap, ap₂, arith}
 use Rattle.std.proofs.Math.Bool.{or_assoc}
 use Rattle.std.specs.Int.{bit_at}
-use Rattle.state_laws.specs.Flow.{flag_at}
 use Rattle.flow_laws.specs.Rows.{or_each}
 use Rattle.flow_laws.proofs.RowsLemmas.{or_each_none}
 use Rattle.js_nfa.specs.Marks.{Marks}
-use Rattle.js_nfa.specs.Rows.{row, AreLong, AreWithin, AreFours, joined, chosen_rows, four_bits, choice_at, by_fours}
-use Rattle.js_nfa.proofs.RowsSteps.{row-past}
+use Rattle.js_nfa.specs.Rows.{row, HaveAtMost, AreFours, chosen_rows, four_bits, choice_at, by_fours}
+use Rattle.js_nfa.proofs.RowsSteps.{row-past, joined}
 
 -- ---- the bits of a choice
 pub choice-bits : (v : ℕ) → v < 16
@@ -167,7 +166,7 @@ or_each-long (x ∷ xs) [] h = refl
 or_each-long (x ∷ xs) (y ∷ ys) h = ap suc (or_each-long xs ys (omega (arith, h)))
 
 pub length-by_fours : (always : List Bool) (fours : List Marks) (read : ℕ → Bool) (n : ℕ) → n ≤ length fours / 16
-    → AreWithin (length always) fours → length (by_fours always fours read n) ≡ length always
+    → HaveAtMost (length always) fours → length (by_fours always fours read n) ≡ length always
 length-by_fours always fours read zero h within = refl
 length-by_fours always fours read (suc n) h within =
     let before = length-by_fours always fours read n (omega (arith, h)) within in
@@ -250,7 +249,7 @@ chosen_rows-still rows first bits n before e none =
     ∙ sym (ap (or_each (chosen_rows rows first bits n)) none)
     ∙ ap (chosen_rows rows first bits) next
 
-pub within-again : (rows : List Marks) (count other : ℕ) → count ≡ other → AreWithin count rows → AreWithin other rows
+pub within-again : (rows : List Marks) (count other : ℕ) → count ≡ other → HaveAtMost count rows → HaveAtMost other rows
 within-again rows count other e within n h = let one = within n h in omega (arith, one, e)
 
 pub picked-past : (b : Bool) (rows : List Marks) (n : ℕ) → length rows ≤ n → (if b then row rows n else []) ≡ []

@@ -11,13 +11,18 @@ use Rattle.patterns.specs.Tree.{Tree}
 use Rattle.words.specs.Position.{count_of, sets_of}
 use Rattle.state_laws.specs.Flow.{flag_at, ends_here, reads_next}
 use Rattle.flow_laws.specs.Rows.{or_each, and_each, sets_have, none_read, only, may_follow, follow_each, ends_each}
-use Rattle.flow_laws.proofs.RowsLemmas.{or_nothing, or_true, and_nothing, and_joined, or_each_none, flags_join, length_follow, length_sets_have}
+use Rattle.flow_laws.proofs.RowsLemmas.{or_nothing, or_true, and_joined, or_each_none, flags_join}
 use Rattle.flow_laws.proofs.Sets.{next_asks_sets}
 use Rattle.flow_laws.proofs.Each.{ends_of_each, next_of_each}
 use Rattle.js_nfa.specs.Marks.{Marks}
 use Rattle.js_nfa.specs.Both.{some_both}
-use Rattle.js_nfa.specs.Rows.{row, AreLong, joined, is_shown, is_in_some}
+use Rattle.js_nfa.specs.Rows.{row, HaveLength, is_shown, is_in_some}
 use Rattle.js_nfa.proofs.AdvanceSteps.{length-reads}
+
+-- what is always there, and the rows of the positions below n that are in the set
+abbrev pub joined : (always : List Bool) (rows : List Marks) (read : ℕ → Bool) → ℕ → List Bool
+joined always rows read zero = always
+joined always rows read (suc n) = or_each (joined always rows read n) (if read n then row rows n else [])
 
 -- ---- lists of flags
 pub same_flags : (xs ys : List Bool) → length xs ≡ length ys → ((p : ℕ) → flag_at xs p ≡ flag_at ys p) → xs ≡ ys
@@ -154,7 +159,7 @@ module _ (t : Tree) (read : ℕ → Bool) (q : ℕ) where
           one false = refl
 
 pub length-joined : (always : List Bool) (rows : List Marks) (read : ℕ → Bool) (count n : ℕ) → n ≤ length rows
-    → length always ≡ count → AreLong count rows → length (joined always rows read n) ≡ count
+    → length always ≡ count → HaveLength count rows → length (joined always rows read n) ≡ count
 length-joined always rows read count zero h e long = e
 length-joined always rows read count (suc n) h e long =
     go (length-joined always rows read count n (omega (arith, h)) e long) (read n) where
@@ -166,7 +171,7 @@ length-joined always rows read count (suc n) h e long =
 module _ (t : Tree) (count : ℕ) (counted : count ≡ count_of t) (always : List Bool) (rows having : List Marks)
     (shown : List ℕ)
     (first-long : length always ≡ count)
-    (follow-long : AreLong count rows) (as-many : length rows ≡ count)
+    (follow-long : HaveLength count rows) (as-many : length rows ≡ count)
     (first : (q : ℕ) → flag_at always q ≡ (flag_at (may_follow t false none_read 0 true) q && is_shown t shown q))
     (each : (p q : ℕ) → p < count
     → flag_at (row rows p) q ≡ (flag_at (may_follow t false (only p) 0 false) q && is_shown t shown q))
@@ -253,12 +258,12 @@ module _ (t : Tree) (count : ℕ) (having : List Marks) (characters : length hav
       more (flag_at (row having c) q) (is_in_some having cs q) (flag_at (sets_have (sets_of t) c) q) (is_shown t cs q)
       (set_has c q) (shows_all cs q) e
 
-pub long-again : (rows : List Marks) (count other : ℕ) → count ≡ other → AreLong count rows → AreLong other rows
+pub long-again : (rows : List Marks) (count other : ℕ) → count ≡ other → HaveLength count rows → HaveLength other rows
 long-again rows count other e long n h = long n h ∙ e
 
 pub long-having : (t : Tree) (count : ℕ) (having : List Marks) → count ≡ count_of t → length having ≡ 128
     → ((c : ℕ) → c < 128 → row having c ≡ reads_next t false (flag_at (replicate count true)) c 0 true)
-    → AreLong count having
+    → HaveLength count having
 long-having t count having counted characters has n h =
     ap length (has n (omega (arith, h, characters)))
     ∙ length-reads false (flag_at (replicate count true)) n t 0 true ∙ sym counted

@@ -7,7 +7,7 @@ use Rattle.std.specs.Prelude.{bit_and, bit_or, slice_index}
 use Rattle.std.specs.Int.{bit_at}
 use Rattle.std.proofs.lemmas.Bool.{cases_lt}
 use Rattle.std.proofs.lemmas.Nat.{and_le_l}
-use Rattle.std.proofs.lemmas.Nat.Bits.{bit_at-zero, bit_at_above, bit_at-trailing_zeros, same_from_bits_below, bit_at-lt, bit_at_or, bit_at_and}
+use Rattle.std.proofs.lemmas.Nat.Bits.{bit_at-zero, bit_at-trailing_zeros, same_from_bits_below, bit_at-lt, bit_at_or, bit_at_and}
 use Rattle.state_laws.specs.Flow.{flag_at}
 use Rattle.flow_laws.specs.Rows.{or_each, and_each}
 use Rattle.flow_laws.proofs.RowsLemmas.{or_nothing, or_true, flags_join}
@@ -16,7 +16,7 @@ use Rattle.js_nfa.specs.Bits.{bit_of, flags_of}
 use Rattle.js_nfa.specs.Both.{some_both}
 use Rattle.js_nfa.specs.Walk.{Quiet}
 use Rattle.js_nfa.proofs.FlagsLemmas.{flag_at-beyond}
-use Rattle.js_nfa.proofs.BitsLemmas.{NoBits, bit_at-div, length-flags_of, flag_at-get_or, flag_at-bit}
+use Rattle.js_nfa.proofs.BitsLemmas.{NoBits, length-flags_of, flag_at-get_or, flag_at-bit}
 
 -- ---- lists of flags
 same_flags : (xs ys : List Bool) → length xs ≡ length ys → ((p : ℕ) → flag_at xs p ≡ flag_at ys p) → xs ≡ ys
@@ -93,9 +93,6 @@ Merged both old new flags index =
     (length new ≡ length old)
     × ((p : ℕ) → p < 64 * index → bit_of new p ≡ both (bit_of old p) (flag_at flags p))
     × ((p : ℕ) → 64 * index ≤ p → bit_of new p ≡ bit_of old p)
-
-pub merged-start : (both : Bool → Bool → Bool) (old : List ℕ) (flags : List Bool) → Merged both old old flags 0
-merged-start both old flags = (refl, (λ p l. absurd (omega (arith, l))), (λ p h. refl))
 
 bit_of-same_word : (words : List ℕ) (index word p : ℕ) → index < length words → p / 64 ≡ index
     → bit_of (set words index word) p ≡ eqb (bit_at word (p % 64)) 1
@@ -242,25 +239,6 @@ module _ (word from count : ℕ) (read : ℕ → Bool) (bits : HasBits word from
     first_in_word =
         sym (bits (count_trailing_zeros 64 word) first_within)
         ∙ ap (λ x. eqb x 1) ((bit_at-trailing_zeros w64 word some fits).1)
-
-    pub none_before : (p : ℕ) → from ≤ p → p < from + count_trailing_zeros 64 word → read p ≡ false
-    none_before p h l =
-        sym (from_place p h (omega (arith, l, first_within)))
-        ∙ ap (λ x. eqb x 1) ((bit_at-trailing_zeros w64 word some fits).2 (p - from) (omega (arith, h, l)))
-
--- a word from one of its positions on
-module _ (word position : ℕ) (flags : List Bool) where
-  pub shifted : IsWord word flags (position / 64)
-      → HasBits (word / 2 ^ (position % 64)) position (64 - position % 64) (flag_at flags)
-  shifted w i l =
-      let same : 64 * (position / 64) + (position % 64 + i) ≡ position + i = omega arith in
-      ap (λ x. eqb x 1) (bit_at-div word (position % 64) i)
-      ∙ w (position % 64 + i) (omega (arith, l))
-      ∙ ap (flag_at flags) same
-
-  pub shifted-above : word < 2 ^ 64 → (i : ℕ) → 64 - position % 64 ≤ i → bit_at (word / 2 ^ (position % 64)) i ≡ 0
-  shifted-above fits i h =
-      bit_at-div word (position % 64) i ∙ bit_at_above word 64 (position % 64 + i) fits (omega (arith, h))
 
 -- ---- positions in both of two sets
 abbrev pub InBoth : (xs ys : List Bool) → ℕ → Bool

@@ -1,5 +1,5 @@
 -- What rows say of a tree.
-use Rattle.std.specs.Prelude.{◌≡◌, ℕ, ◌/◌, ◌<◌, Bool, true, false, ◌||◌, List, length}
+use Rattle.std.specs.Prelude.{◌≡◌, ℕ, ◌/◌, ◌<◌, Bool, true, false, ◌||◌, length}
 use Rattle.patterns.specs.Tree.{Tree}
 use Rattle.words.specs.Position.{count_of}
 use Rattle.state_laws.specs.Flow.{flag_at, ends_here, reads_next}

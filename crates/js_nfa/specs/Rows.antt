@@ -12,17 +12,12 @@ abbrev pub row : List Marks → ℕ → List Bool
 row rows n = Marks.flags (get_or rows n (record { flags = []; room = 0 }))
 
 -- each row has so many flags
-abbrev pub AreLong : ℕ → List Marks → Type 0
-AreLong count rows = (n : ℕ) → n < length rows → length (row rows n) ≡ count
-
--- what is always there, and the rows of the positions below n that are in the set
-abbrev pub joined : (always : List Bool) (rows : List Marks) (read : ℕ → Bool) → ℕ → List Bool
-joined always rows read zero = always
-joined always rows read (suc n) = or_each (joined always rows read n) (if read n then row rows n else [])
+abbrev pub HaveLength : ℕ → List Marks → Type 0
+HaveLength count rows = (n : ℕ) → n < length rows → length (row rows n) ≡ count
 
 -- no row has more flags
-abbrev pub AreWithin : ℕ → List Marks → Type 0
-AreWithin count rows = (n : ℕ) → n < length rows → length (row rows n) ≤ count
+abbrev pub HaveAtMost : ℕ → List Marks → Type 0
+HaveAtMost count rows = (n : ℕ) → n < length rows → length (row rows n) ≤ count
 
 -- the rows of those positions from `first` on that the bits below n choose
 abbrev pub chosen_rows : (rows : List Marks) (first bits : ℕ) → ℕ → List Bool

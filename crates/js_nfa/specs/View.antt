@@ -1,13 +1,11 @@
 -- What a contract sees of the crate's types.
 use Rattle.std.specs.Prelude.{◌≤◌, ℕ, List, Bool, false}
-use Rattle.std.specs.Option.{IfSome}
 use Rattle.patterns.specs.Tree.{Tree}
 use Rattle.patterns.specs.Decision.{is_empty}
 use Rattle.words.specs.Position.{count_of}
 use Rattle.words.specs.PatternState as states
 use Rattle.state_laws.specs.Flow.{next_state}
 use Rattle.js_pattern.specs.View.{view}
-use Rattle.js_nfa.specs.AreRows.{AreRows}
 use Rattle.js_nfa.specs.declared.nfa.Nfa.{Nfa}
 use Rattle.js_nfa.specs.declared.state.PatternState.{PatternState}
 use Rattle.js_nfa.specs.declared.state.PatternState.TheVariants.{Done, Reading}
@@ -35,7 +33,6 @@ state_of t w = (is_empty w, states.pattern_state t w)
 abbrev pub after : Tree → ℕ → Bool × states.PatternState → Bool × states.PatternState
 after t c s = (false, next_state t s.0 c s.1)
 
--- both sets of a scratch have room for the pattern's positions, and its rows are the pattern's
+-- both sets of a scratch have room for the pattern's positions
 abbrev pub HasRoom : Nfa → Scratch → Type 0
-HasRoom n s =
-    (count_of (tree_of n) ≤ s.read.room) × (count_of (tree_of n) ≤ s.reads.room) × IfSome s.rows (AreRows (tree_of n))
+HasRoom n s = (count_of (tree_of n) ≤ s.read.room) × (count_of (tree_of n) ≤ s.reads.room)

@@ -4,23 +4,18 @@ ghost use Rattle.std.specs.Prelude.{◌≡◌, ◌↔◌, ◌≤◌, IsTrue, tru
 ghost use Rattle.patterns.specs.Decision.{finds};
 ghost use Rattle.patterns.specs.Match.{IsFoundIn};
 ghost use Rattle.state_laws.specs.Flow.{flag_at, reads_next, ends_here};
-ghost use Rattle.std.specs.Option.{IfSome};
-ghost use Rattle.words.specs.Position.{count_of};
 ghost use Rattle.js_nfa.specs.View.{tree_of, HasRoom};
-ghost use Rattle.js_nfa.specs.AreRows.{AreRows};
 
 use crate::advance::Next;
 use crate::ends::Edges;
 use crate::nfa::Nfa;
-use crate::position_set::PositionSet;
-use crate::rows::Rows;
 use crate::scratch::Scratch;
 use std::mem;
 
-/// Whether the pattern matches somewhere in the word. It takes no memory, and for each character up to the end of the
-/// first match a look at the rows of the positions that were read last. Where there are no rows, which is with more than
-/// 256 positions and with characters beyond ASCII, it takes two walks over the pattern's tree, or one where none of the
-/// positions was read that a match's end needs.
+/// Whether the pattern matches somewhere in the word. It takes no memory. Up to the end of the first match, a character
+/// costs a look at the words of one row for each four positions. The word's first character, one beyond ASCII, and each
+/// with more than 256 positions cost two walks over the pattern's tree, or one where none of the positions was read that
+/// a match's end needs. So do the word's beginning and its end, a walk each.
 pub fn finds(nfa: &Nfa, word: &[char], scratch: &mut Scratch) -> bool
     requires { HasRoom nfa.now scratch.old }
     ensures decided { result ≡ finds (tree_of nfa.now) word.now }
@@ -56,37 +51,7 @@ fn read_next(nfa: &Nfa, scratch: &mut Scratch, next: Next) -> bool
     ensures done { result ≡ ends_here (tree_of nfa.now) false false (flag_at scratch.new.read.flags) 0 true }
     ensures room { HasRoom nfa.now scratch.new }
 {
-    let done = advance(
-        nfa,
-        scratch.rows.as_ref(),
-        next,
-        &scratch.read,
-        &mut scratch.reads,
-    );
+    let done = nfa.advance(next, &scratch.read, &mut scratch.reads);
     mem::swap(&mut scratch.read, &mut scratch.reads);
     done
-}
-
-/// Fills a set with the positions that read the next character, by rows where there are some that have it, and answers
-/// whether a match is done.
-fn advance(
-    nfa: &Nfa,
-    rows: Option<&Rows>,
-    next: Next,
-    read: &PositionSet,
-    reads: &mut PositionSet,
-) -> bool
-    requires room { count_of (tree_of nfa.now) ≤ reads.old.room }
-    requires rows { IfSome rows (λ rows. AreRows (tree_of nfa.now) rows.now) }
-    ensures flags { reads.new.flags ≡ reads_next (tree_of nfa.now) next.first (flag_at
-        read.now.flags) next.character 0 true }
-    ensures done { result ≡ ends_here (tree_of nfa.now) false false (flag_at reads.new.flags) 0 true }
-    ensures room { reads.new.room ≡ reads.old.room }
-{
-    match rows {
-        Some(rows) if !next.first && next.character.is_ascii() => {
-            rows.advance(next.character, read, reads)
-        }
-        _ => nfa.advance(next, read, reads),
-    }
 }

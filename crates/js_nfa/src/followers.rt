@@ -1,14 +1,14 @@
 //! What may follow each position of a tree, found by walks in which that position alone was read.
 //!
-//! A walk says which positions read a given character. So it is done for each of a few characters which, between them,
-//! are in the sets of all positions that read one of ASCII.
+//! A walk says which positions read a given character. So it is done for each of some characters which, between them,
+//! are in the sets of all positions that read one of ASCII. These are at most 128, and no more than the positions.
 
 ghost use Rattle.std.specs.Prelude.{◌≡◌, ◌<◌, ◌≤◌, ◌++◌, ◌∷◌, ◌&&◌, [], ℕ, true, false, length, replicate, IfOk};
 ghost use Rattle.words.specs.Position.{count_of};
 ghost use Rattle.state_laws.specs.Flow.{flag_at, ends_here, reads_next};
 ghost use Rattle.flow_laws.specs.Rows.{only, may_follow};
 ghost use Rattle.js_pattern.specs.View.{view};
-ghost use Rattle.js_nfa.specs.Rows.{row, AreLong, is_shown, is_in_some};
+ghost use Rattle.js_nfa.specs.Rows.{row, HaveLength, is_shown, is_in_some};
 
 use crate::advance::{Next, advance};
 use crate::done::read_all;
@@ -19,7 +19,7 @@ use js_pattern::Re;
 use std::alloc::Global;
 
 /// How many characters have a row: those of ASCII.
-pub(crate) const CHARACTERS: u8 = 128;
+const CHARACTERS: u8 = 128;
 
 /// A row for each position, and those with which a match is done.
 #[derive(Drop)]
@@ -54,7 +54,7 @@ pub(crate) fn having(alloc: Global, tree: &Re, count: u32) -> Result<Vec<Positio
 /// Characters that between them have all the positions that some character of ASCII has.
 pub(crate) fn shown(alloc: Global, having: &[PositionSet], count: u32) -> Result<Vec<char>, Memory>
     requires characters { length having.now ≡ 128 }
-    requires long { AreLong count having.now }
+    requires long { HaveLength count having.now }
     ensures { IfOk result (λ shown. (c q : ℕ) → c < 128 → flag_at (row having.now c) q ≡ true
         → is_in_some having.now shown.items q ≡ true) }
 {
@@ -102,7 +102,7 @@ pub(crate) fn row(
 }
 
 /// A row for each position, as far as the sets have one of the characters.
-pub(crate) fn follow_each(
+pub(crate) fn rows_of_each(
     alloc: Global,
     tree: &Re,
     count: u32,
@@ -111,7 +111,7 @@ pub(crate) fn follow_each(
     requires counted { count ≡ count_of (view tree.now) }
     requires within { count ≤ 16384 }
     ensures length { IfOk result (λ each. length each.rows.items ≡ count) }
-    ensures long { IfOk result (λ each. AreLong count each.rows.items) }
+    ensures long { IfOk result (λ each. HaveLength count each.rows.items) }
     ensures rows { IfOk result (λ each. (p q : ℕ) → p < count → flag_at (row each.rows.items p) q
         ≡ flag_at (may_follow (view tree.now) false (only p) 0 false) q && is_shown (view tree.now) characters.now q) }
     ensures ends { IfOk result (λ each. (p : ℕ) → p < count → flag_at each.ends.flags p
@@ -121,7 +121,7 @@ pub(crate) fn follow_each(
     let mut rows = Vec::new(alloc);
     let mut ends = PositionSet::with_room(alloc, count)?;
     for p in 0..count {
-        read_only(&mut read, p);
+        read_one(&mut read, p);
         rows.push(row(alloc, tree, count, characters, &read, false)?)?;
         ends.push(is_end(tree, &read));
     }
@@ -141,7 +141,7 @@ fn is_end(tree: &Re, read: &PositionSet) -> bool
 }
 
 /// Makes that position the only one.
-fn read_only(read: &mut PositionSet, position: u32)
+fn read_one(read: &mut PositionSet, position: u32)
     requires { position < read.old.room }
     ensures only { flag_at read.new.flags ≡ only position }
     ensures room { read.new.room ≡ read.old.room }

@@ -3,7 +3,7 @@
 //! A state has its positions as bits, so four of them choose one of sixteen unions: one look for four rows.
 
 ghost use Rattle.std.specs.Prelude.{◌≡◌, ◌≤◌, ◌*◌, ◌<◌, length, IfOk};
-ghost use Rattle.js_nfa.specs.Rows.{AreLong, AreWithin, AreFours, chosen_rows};
+ghost use Rattle.js_nfa.specs.Rows.{HaveLength, HaveAtMost, AreFours, chosen_rows};
 
 use crate::position_set::PositionSet;
 use js_doc::Memory;
@@ -15,10 +15,10 @@ pub(crate) fn fours(
     rows: &[PositionSet],
     count: u32,
 ) -> Result<Vec<PositionSet>, Memory>
-    requires long { AreLong count rows.now }
+    requires long { HaveLength count rows.now }
     requires few { length rows.now ≤ 16384 }
     ensures fours { IfOk result (λ fours. AreFours rows.now fours.items) }
-    ensures within { IfOk result (λ fours. AreWithin count fours.items) }
+    ensures within { IfOk result (λ fours. HaveAtMost count fours.items) }
 {
     let mut fours = Vec::new(alloc);
     for index in 0..rows.len().div_ceil(4) * 16 {
@@ -35,7 +35,7 @@ fn union(
     first: usize,
     bits: usize,
 ) -> Result<PositionSet, Memory>
-    requires long { AreLong count rows.now }
+    requires long { HaveLength count rows.now }
     requires few { first ≤ 16384 }
     ensures flags { IfOk result (λ union. union.flags ≡ chosen_rows rows.now first bits 4) }
     ensures within { IfOk result (λ union. length union.flags ≤ count) }

@@ -2,9 +2,8 @@
 //! matches in a word.
 //!
 //! A state is a set of positions. It goes on by the next character in one walk over the tree in the order of its
-//! positions, in which the copies of a repeated tree are gone through one by one, as far as anything is going on. So
-//! what follows what isn't stored, but for a pattern with few positions that is looked for in a word: such walks then say
-//! beforehand what follows each position.
+//! positions, in which the copies of a repeated tree are gone through one by one, as far as anything is going on. What
+//! follows what isn't stored for that. For patterns with few positions, such walks say beforehand what follows each.
 #![tactic(auto)]
 
 mod advance;

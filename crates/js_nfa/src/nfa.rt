@@ -1,7 +1,8 @@
 //! The automaton of a pattern: its tree, walked from the positions that a partial match read last to those that read
-//! the next character.
+//! the next character, and rows that say for few positions what the walks would.
 
 ghost use Rattle.std.specs.Prelude.{◌≡◌, ◌≤◌, [], true, false, IfOk};
+ghost use Rattle.std.specs.Option.{ForSome};
 ghost use Rattle.words.specs.Position.{count_of};
 ghost use Rattle.words.specs.PatternState.{pattern_state};
 ghost use Rattle.state_laws.specs.Flow.{flag_at, ends_here, reads_next, next_state, is_accepted};
@@ -25,25 +26,29 @@ pub struct Nfa {
     count: u32,
     /// the position that has to be read, or a later one, for a match to be done before the word's end; 0 says nothing
     done_from: u32,
+    rows: Option<Rows>,
     ghost counted: { count ≡ count_of (view tree) },
     ghost within: { count ≤ 16384 },
     ghost needed: { Needs (view tree) done_from },
+    ghost rows_of: { ForSome rows (AreRows (view tree)) },
 }
 
 impl Nfa {
     ghost use Rattle.js_nfa.specs.View.{tree_of, state_view};
 
     /// The automaton of a tree with so many positions, one of which, from one on, has to be read.
-    pub(crate) fn of(tree: Re, count: u32, done_from: u32) -> Nfa
+    pub(crate) fn of(tree: Re, count: u32, done_from: u32, rows: Option<Rows>) -> Nfa
         requires counted { count ≡ count_of (view tree) }
         requires within { count ≤ 16384 }
         requires needed { Needs (view tree) done_from }
+        requires rows { ForSome rows (AreRows (view tree)) }
         ensures { tree_of result ≡ view tree }
     {
         Nfa {
             tree,
             count,
             done_from,
+            rows,
         }
     }
 
@@ -55,13 +60,6 @@ impl Nfa {
         self.count
     }
 
-    /// The rows by which a state goes on without a walk.
-    pub(crate) fn rows(&self, alloc: Global) -> Result<Rows, Memory>
-        ensures { IfOk result (AreRows (tree_of self.now)) }
-    {
-        Rows::of(alloc, &self.tree, self.count)
-    }
-
     /// Whether a match that begins at the first position can end where the word ends.
     pub(crate) fn ends(&self, edges: Edges, read: &PositionSet) -> bool
         ensures { result ≡ ends_here (tree_of self.now) edges.first edges.last (flag_at read.now.flags) 0 true }
@@ -69,9 +67,25 @@ impl Nfa {
         tree_ends(&self.tree, edges, read)
     }
 
-    /// Fills a set with the positions that read the next character, and answers whether a match ends after it that uses
-    /// no end assertion.
+    /// Fills a set with the positions that read the next character, by rows where they have it, and answers whether a
+    /// match ends after it that uses no end assertion.
     pub(crate) fn advance(&self, next: Next, read: &PositionSet, reads: &mut PositionSet) -> bool
+        requires { count_of (tree_of self.now) ≤ reads.old.room }
+        ensures flags { reads.new.flags ≡ reads_next (tree_of self.now) next.first (flag_at
+            read.now.flags) next.character 0 true }
+        ensures done { result ≡ ends_here (tree_of self.now) false false (flag_at reads.new.flags) 0 true }
+        ensures room { reads.new.room ≡ reads.old.room }
+    {
+        match &self.rows {
+            Some(rows) if !next.first && next.character.is_ascii() => {
+                rows.advance(next.character, read, reads)
+            }
+            _ => self.walk(next, read, reads),
+        }
+    }
+
+    /// The same by walks over the tree.
+    fn walk(&self, next: Next, read: &PositionSet, reads: &mut PositionSet) -> bool
         requires { count_of (tree_of self.now) ≤ reads.old.room }
         ensures flags { reads.new.flags ≡ reads_next (tree_of self.now) next.first (flag_at
             read.now.flags) next.character 0 true }

@@ -1,6 +1,6 @@
-//! Sets of positions, filled in the order of the positions.
+//! Sets of positions: filled in the order of the positions, and joined and met a word at a time.
 
-ghost use Rattle.std.specs.Prelude.{◌≡◌, ◌≢◌, ◌+◌, ◌-◌, ◌*◌, ◌%◌, ◌^◌, ◌<◌, ◌≤◌, ◌++◌, ◌∷◌, [], length, replicate, true, false, IfOk, IsTrue, MatchOption, ◌↔◌, ◌==◌, ℕ};
+ghost use Rattle.std.specs.Prelude.{◌≡◌, ◌≢◌, ◌+◌, ◌-◌, ◌*◌, ◌%◌, ◌^◌, ◌<◌, ◌≤◌, ◌++◌, ◌∷◌, [], length, replicate, true, false, IfOk, IsTrue, ◌↔◌, ◌==◌, ℕ};
 ghost use Rattle.std.specs.Int.{bit_at};
 ghost use Rattle.words.specs.PatternState.{numbers_from};
 ghost use Rattle.state_laws.specs.Flow.{flag_at};
@@ -216,32 +216,6 @@ impl PositionSet {
         self.top = self.top.min(64 * used);
     }
 
-    /// The first position of the set from that one on.
-    ///
-    /// It costs a look at each word up to the one with that position.
-    pub(crate) fn next_from(&self, position: usize) -> Option<usize>
-        ensures { MatchOption result (Quiet (flag_at self.now.flags) position)
-            (λ p. (position ≤ p) × (flag_at self.now.flags p ≡ true)
-            × ((q : ℕ) → position ≤ q → q < p → flag_at self.now.flags q ≡ false)) }
-    {
-        let index = position / 64;
-        let count = self.count_words();
-        if index >= count {
-            return None;
-        }
-        let word = self.word(index) >> (position % 64);
-        if word != 0 {
-            return Some(position + word.trailing_zeros() as usize);
-        }
-        for later in index + 1..count {
-            let word = self.word(later);
-            if word != 0 {
-                return Some(64 * later + word.trailing_zeros() as usize);
-            }
-        }
-        None
-    }
-
     /// Whether some position is in both.
     pub(crate) fn meets(&self, other: &PositionSet) -> bool
         ensures { result ≡ some_both (flag_at self.now.flags) (flag_at other.now.flags) (length self.now.flags) }
@@ -268,7 +242,7 @@ impl PositionSet {
         true
     }
 
-    /// How many words there are up to the last that has a bit.
+    /// How many words there are up to `top`, from which on no bit is set.
     fn count_words(&self) -> usize
         ensures quiet { Quiet (flag_at self.now.flags) (64 * result) }
         ensures within { 64 * result < length self.now.flags + 64 }

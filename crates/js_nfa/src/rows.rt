@@ -9,10 +9,10 @@ ghost use Rattle.patterns.specs.Tree.{Tree};
 ghost use Rattle.words.specs.Position.{count_of};
 ghost use Rattle.state_laws.specs.Flow.{flag_at, ends_here, reads_next};
 ghost use Rattle.js_pattern.specs.View.{view};
-ghost use Rattle.js_nfa.specs.Rows.{AreLong, AreWithin, by_fours};
+ghost use Rattle.js_nfa.specs.Rows.{HaveLength, HaveAtMost, by_fours};
 
 use crate::ends::{Edges, tree_ends};
-use crate::followers::{Followers, follow_each, having, row, shown};
+use crate::followers::{Followers, having, row, rows_of_each, shown};
 use crate::fours::fours;
 use crate::position_set::PositionSet;
 use js_doc::Memory;
@@ -32,16 +32,16 @@ pub(crate) struct Rows {
     ends: PositionSet,
     /// whether a match is done with none
     done: bool,
-    ghost fours_within: { AreWithin (length always.flags) fours.items },
-    ghost having_long: { AreLong (length always.flags) having.items },
+    ghost fours_within: { HaveAtMost (length always.flags) fours.items },
+    ghost having_long: { HaveLength (length always.flags) having.items },
     ghost characters: { length having.items ≡ 128 },
 }
 
 impl Rows {
     ghost use Rattle.js_nfa.specs.AreRows.{AreRows};
 
-    /// The rows of a tree. They take four bits for each pair of positions, a walk for each character of ASCII, and one for
-    /// each position and each of a few characters.
+    /// The rows of a tree: sixteen sets for each four positions, and one for each character of ASCII. They take a walk
+    /// for each such character, and for each position one, and one more for each character that is shown.
     pub(crate) fn of(alloc: Global, tree: &Re, count: u32) -> Result<Rows, Memory>
         requires counted { count ≡ count_of (view tree.now) }
         requires within { count ≤ 16384 }
@@ -51,7 +51,7 @@ impl Rows {
         let shown = shown(alloc, &having, count)?;
         let none = PositionSet::with_room(alloc, count)?;
         let always = row(alloc, tree, count, &shown, &none, true)?;
-        let Followers { rows, ends } = follow_each(alloc, tree, count, &shown)?;
+        let Followers { rows, ends } = rows_of_each(alloc, tree, count, &shown)?;
         let fours = fours(alloc, &rows, count)?;
         let edges = Edges {
             first: false,
@@ -67,8 +67,8 @@ impl Rows {
         })
     }
 
-    /// Fills a set with the positions that read a character of ASCII which isn't the word's first, and answers whether a
-    /// match ends after it that uses no end assertion.
+    /// Fills a set with the positions that read a character of ASCII, which isn't the word's first, and answers whether
+    /// a match ends after it that uses no end assertion.
     pub(crate) fn advance(
         &self,
         character: char,

@@ -29,8 +29,7 @@ pub fn start(alloc: Global, nfa: &Nfa) -> Result<StateSet, Memory>
     })
 }
 
-/// The state after one more character. It costs a walk over the pattern's tree, in which a repeated tree is gone
-/// through as often as it has copies.
+/// The state after one more character. It costs what a character costs `finds`.
 pub fn step(alloc: Global, nfa: &Nfa, set: &StateSet, c: char) -> Result<StateSet, Memory>
     ensures next { IfOk result (λ s. set_view s ≡ after (tree_of nfa.now) c (set_view set.now)) }
     ensures word { IfOk result (λ s. (w : List ℕ) → set_view set.now ≡ state_of (tree_of nfa.now) w

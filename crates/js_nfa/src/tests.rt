@@ -81,6 +81,8 @@ fn copies_without_rows(rt: HostRuntime) -> Result<(), Fail> {
     let mut word = vec![in rt.alloc(); 'a'; 300]?;
     word.push('0')?;
     let found = [
+        "[a-z]{255}0",
+        "[a-z]{256}0",
         "[a-z]{300}0",
         "^(?:a|b){300}0$",
         "^(?:[ab][ac]){150}0$",

@@ -16,7 +16,7 @@ returns-then-ends-clause-relation c =
 
 pub loop-c-init : goal.loop-c-init
 loop-c-init c = record {
-  room = (omega (arith, c.requires.0, c.clear.ensures.room), c.requires.1, c.requires.2);
+  room = (omega (arith, c.requires.0, c.clear.ensures.room), c.requires.1);
   first = refl;
   state = S.read-none (tree_of c.args.nfa.now) c.clear.new.self.flags c.ends.result c.clear.ensures.flags
       c.ends.ensures c.if-ends.false;

@@ -1,4 +1,4 @@
-use Rattle.std.proofs.Common.{◌≡◌, length, false, replicate, ◌++◌, ◌∙◌, sym, ap, arith}
+use Rattle.std.proofs.Common.{length, false, replicate, ◌++◌, ◌∙◌, sym, ap, arith}
 use Rattle.std.proofs.lemmas.List.{length-replicate}
 use Rattle.state_laws.specs.Flow.{flag_at}
 use Rattle.flow_laws.proofs.RowsLemmas.{and_nothing}

@@ -1,4 +1,4 @@
-use Rattle.std.proofs.Common.{◌≤◌, ◌<◌, ◌+◌, ◌++◌, ◌∷◌, [], ◌∙◌, length, refl, ap, arith}
+use Rattle.std.proofs.Common.{◌<◌, ◌+◌, ◌++◌, ◌∷◌, [], ◌∙◌, length, refl, ap, arith}
 use Rattle.js_nfa.specs.Marks.{Marks}
 use Rattle.js_nfa.proofs.RowsSteps as S
 use Rattle.js_nfa.proofs.followers.shown.Goals as goal

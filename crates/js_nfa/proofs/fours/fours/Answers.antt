@@ -1,4 +1,4 @@
-use Rattle.std.proofs.Common.{◌≡◌, ◌≤◌, ◌<◌, ◌+◌, ◌*◌, ◌/◌, ◌%◌, [], ◌∷◌, length, ◌∙◌, sym, ap, arith, length-append}
+use Rattle.std.proofs.Common.{◌≡◌, ◌≤◌, ◌+◌, ◌*◌, ◌/◌, ◌%◌, [], ◌∷◌, length, ◌∙◌, ap, arith, length-append}
 use Rattle.js_nfa.specs.Rows.{chosen_rows}
 use Rattle.js_nfa.proofs.RowsSteps as S
 use Rattle.js_nfa.proofs.fours.fours.Goals as goal

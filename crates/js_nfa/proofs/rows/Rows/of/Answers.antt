@@ -1,21 +1,21 @@
-use Rattle.std.proofs.Common.{◌≡◌, ◌<◌, ◌&&◌, ◌||◌, ℕ, length, false, true, ◌∙◌, sym, ap, ap₂, subst}
+use Rattle.std.proofs.Common.{◌≡◌, ◌<◌, ◌&&◌, ◌||◌, ℕ, false, true, ◌∙◌, sym, ap, ap₂, subst}
 use Rattle.state_laws.specs.Flow.{flag_at, ends_here}
 use Rattle.flow_laws.specs.Rows.{and_each, only, may_follow}
 use Rattle.js_pattern.specs.View.{view}
 use Rattle.js_nfa.specs.Both.{some_both}
-use Rattle.js_nfa.specs.Rows.{row, AreLong, AreFours, is_shown, is_in_some}
+use Rattle.js_nfa.specs.Rows.{row, HaveLength, AreFours, is_shown, is_in_some}
 use Rattle.js_nfa.proofs.FoursSteps.{fours_join, within-again}
 use Rattle.js_nfa.proofs.RowsSteps as S
 use Rattle.js_nfa.proofs.rows.Rows.of.Goals as goal
 
 pub shown-requires-clause-long : goal.shown-requires-clause-long
 shown-requires-clause-long c =
-    subst (AreLong c.args.count) (sym c.deref.ensures.value)
+    subst (HaveLength c.args.count) (sym c.deref.ensures.value)
     (S.long-having (view c.args.tree.now) c.args.count c.in_ok-having.having.items c.requires.counted
     c.in_ok-having.ensures.length c.in_ok-having.ensures.rows)
 
 pub fours-requires-clause-long : goal.fours-requires-clause-long
-fours-requires-clause-long c = subst (AreLong c.args.count) (sym c.deref-4.ensures.value) c.in_ok-rows.ensures.long
+fours-requires-clause-long c = subst (HaveLength c.args.count) (sym c.deref-4.ensures.value) c.in_ok-rows.ensures.long
 
 pub invariant_of-result : goal.invariant_of-result
 invariant_of-result c =

@@ -1,11 +1,10 @@
-use Rattle.std.proofs.Common.{◌≡◌, ◌<◌, ◌+◌, ◌&&◌, Bool, ℕ, List, false, true, ◌∙◌, [], ◌∷◌, length, sym, ap, arith, length-append}
+use Rattle.std.proofs.Common.{◌≡◌, ◌+◌, ◌&&◌, false, ◌∙◌, [], ◌∷◌, length, ap, arith, length-append}
 use Rattle.state_laws.specs.Flow.{flag_at, ends_here}
 use Rattle.flow_laws.specs.Rows.{only, may_follow}
 use Rattle.js_pattern.specs.View.{view}
-use Rattle.js_nfa.specs.Marks.{Marks}
-use Rattle.js_nfa.specs.Rows.{row, is_shown}
+use Rattle.js_nfa.specs.Rows.{is_shown}
 use Rattle.js_nfa.proofs.RowsSteps as S
-use Rattle.js_nfa.proofs.followers.follow_each.Goals as goal
+use Rattle.js_nfa.proofs.followers.rows_of_each.Goals as goal
 
 pub loop-p-preserved : goal.loop-p-preserved
 loop-p-preserved c =
@@ -18,7 +17,7 @@ loop-p-preserved c =
     ∙ ap (λ n. n + 1) before.as_many in
     record {
       room = (
-        omega (arith, before.room.0, c.read_only.ensures.room),
+        omega (arith, before.room.0, c.read_one.ensures.room),
         omega (arith, before.room.1, c.push-in-loop-p.ensures.room),
       );
       as_many = as_many;
@@ -33,7 +32,7 @@ loop-p-preserved c =
           c.loop-p.rows.items c.push.new.self.items c.in_ok-row.field-0 c.loop-p.p before.as_many pushed
           (λ k l. before.rows k q l)
           (c.in_ok-row.ensures.flags q
-          ∙ ap (λ read. flag_at (may_follow t false read 0 false) q && is_shown t cs q) c.read_only.ensures.only)
+          ∙ ap (λ read. flag_at (may_follow t false read 0 false) q && is_shown t cs q) c.read_one.ensures.only)
           p h;
       many = ap length c.push-in-loop-p.ensures.flags
           ∙ length-append c.loop-p.ends.flags (c.is_end.result ∷ [])
@@ -41,5 +40,5 @@ loop-p-preserved c =
       ends = S.flags-more (λ k b. b ≡ ends_here t false false (only k) 0 false) c.loop-p.ends.flags
           c.push-in-loop-p.new.self.flags c.is_end.result c.loop-p.p before.many c.push-in-loop-p.ensures.flags
           before.ends
-          (c.is_end.ensures ∙ ap (λ read. ends_here t false false read 0 false) c.read_only.ensures.only);
+          (c.is_end.ensures ∙ ap (λ read. ends_here t false false read 0 false) c.read_one.ensures.only);
     }

@@ -2,14 +2,14 @@ use Rattle.std.proofs.Common.{◌≡◌, ◌≤◌, ◌<◌, ◌&&◌, ℕ, fals
 use Rattle.state_laws.specs.Flow.{flag_at, ends_here}
 use Rattle.flow_laws.specs.Rows.{only, may_follow}
 use Rattle.js_pattern.specs.View.{view}
-use Rattle.js_nfa.specs.Rows.{row, AreLong, is_shown}
-use Rattle.js_nfa.proofs.followers.follow_each.Given as goal
+use Rattle.js_nfa.specs.Rows.{row, HaveLength, is_shown}
+use Rattle.js_nfa.proofs.followers.rows_of_each.Given as goal
 
 abbrev pub invariant-loop-p : goal.invariant-loop-p
 invariant-loop-p l = record {
   room : (l.count ≤ l.read.room) × (l.count ≤ l.ends.room);
   as_many : length l.rows.items ≡ l.p;
-  long : AreLong l.count l.rows.items;
+  long : HaveLength l.count l.rows.items;
   rows : (p q : ℕ) → p < l.p → flag_at (row l.rows.items p) q
       ≡ (flag_at (may_follow (view l.tree) false (only p) 0 false) q && is_shown (view l.tree) l.characters q);
   many : length l.ends.flags ≡ l.p;
