@@ -1,5 +1,7 @@
 use Rattle.std.proofs.Common.{IfSome, subst}
+use Rattle.std.specs.Option.{IfNone}
 use Rattle.certificates.specs.Line.{IsText}
+use Rattle.js_cert.specs.Text.{HasNoLines}
 use Rattle.js_schema.specs.SchemaView.{schema_view}
 use Rattle.js_top.proofs.Includes.{IfOk-weaker}
 use Rattle.js_top.proofs.AcceptLaws.{refused-second, good-accepted, bad-rejected, good-included}
@@ -37,3 +39,8 @@ returns-clause-included c =
 pub returns-in-Refused-2-clause-rejected : goal.returns-in-Refused-2-clause-rejected
 returns-in-Refused-2-clause-rejected c =
     refused-second c.args.a.now c.args.b.now c.args.certificate.now _ (rw c.in-Refused-2.is at c.in_ok-schema-2.ensures)
+
+pub returns-in_default-clause-rejected : goal.returns-in_default-clause-rejected
+returns-in_default-clause-rejected c =
+    let none = subst (λ o. IfNone o (HasNoLines c.args.certificate.now)) c.in_default.is c.in_ok-lines.ensures.refused in
+    λ accepted. none accepted.good.lines accepted.good.is_text
