@@ -509,6 +509,18 @@ def some_letters(count):
     return [chr(0x100 + i) for i in range(count)]
 
 
+def some_names(count):
+    """That many names of five to eight letters, of which many begin alike."""
+    found, state = [], 1
+    while len(found) < count:
+        name = ''
+        for _ in range(5 + state % 4):
+            state = (state * 1103515245 + 12345) % 2**31
+            name += 'abcdefghklmnoprst'[(state >> 16) % (3 if len(name) < 4 else 17)]
+        found += [name] if name not in found else []
+    return found
+
+
 def digit_sets():
     """For each of ten places the set of the characters from U+0400 on that have the binary digit 1 there. They tell
     1,024 classes apart."""
@@ -715,6 +727,15 @@ CASES = [
     [m('^(?:a{0,9}b){0,9}$')],
     [w('constraint', 'contains', 'content', 'const', 'consul'), n(12)],
     [w(''.join(map(chr, range(0x4e00, 0x4e40)))), m('[\u4e00-\u4e1f]$')],
+    # a list of one word for each of some names, as objects have them
+    [w('a'), w('a')],
+    [w('ab'), w('abc'), w('b'), w('')],
+    [w('ab', 'ac'), w('ac'), w('bc', 'ab', 'ab'), w()],
+    [w('ba'), m('a$'), w('bb'), n(2), w('ba', 'b')],
+    [m('^a'), w('ab'), m('b'), w('aab')],
+    [w(name) for name in some_names(40)],
+    [w(name) for name in some_names(150)],
+    [w(*some_names(150)[:90])] + [w(name) for name in some_names(150)[60:]] + [m('^[a-m]'), n(3)],
     # the limit on positions
     [m('[]a{16383}')],
     [m('[]a{16384}')],

@@ -4,7 +4,7 @@
 //! rows in which it is true.
 
 ghost use Rattle.std.specs.Prelude.{◌≡◌, ◌<◌, ◌≤◌, length};
-ghost use Rattle.words.specs.Classes.{class_count};
+ghost use Rattle.word_states.specs.Classes.{class_count};
 ghost use Rattle.js_automaton.specs.AutomatonView.{atoms_of, rows_of};
 
 use crate::line::{LineFault, read_atoms};

@@ -79,7 +79,7 @@ fn words_of(alloc: Global, list: &JsonList) -> Result<Atom, LineFault> {
     let mut words = Vec::with_capacity(alloc, list.len())?;
     for json in list.as_slice() {
         match json {
-            Json::Text(word) => words.push(word.copy(alloc)?)?,
+            Json::Text(word) => words.push(word.as_str().copy(alloc)?)?,
             _ => return Err(LineFault::NotAtoms),
         }
     }

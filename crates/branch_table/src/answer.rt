@@ -1,8 +1,6 @@
 //! The branches of the goal that one schema or two ask for.
 
 ghost use Rattle.std.specs.Prelude.{◌≡◌, ◌<◌, ◌^◌, true, length, map, IfOk, IfSome};
-ghost use Rattle.documents.specs.WellFormed.{is_json};
-ghost use Rattle.js_doc.specs.JsonView.{view};
 ghost use Rattle.js_algebra.specs.View.{signed_view, are_in_table};
 
 use crate::text::goal_text;
@@ -61,7 +59,6 @@ fn table_of(alloc: Global, text: &str) -> Result<Option<Core>, Memory>
 }
 
 fn table_of_value(alloc: Global, json: &Json) -> Result<Option<Core>, Memory>
-    requires { is_json (view json.now) ≡ true }
     ensures filled { IfOk result (λ o. IfSome o (λ c. 0 < length c.positions)) }
     ensures small { IfOk result (λ o. IfSome o (λ c. length c.positions < 2 ^ 31)) }
 {

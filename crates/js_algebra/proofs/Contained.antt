@@ -3,6 +3,10 @@ use Rattle.std.proofs.Common.{◌≡◌, ℕ, ◌+◌, ◌-◌, ◌<◌, ◌≤�
 use Rattle.std.proofs.lemmas.Bool.{and_parts, ne_eqb}
 use Rattle.std.proofs.lemmas.Grind.{common_steps}
 use Rattle.documents.specs.Tests.{every}
+use Rattle.documents.specs.Document.{Document}
+use Rattle.positions.specs.Position.{Position}
+use Rattle.positions.specs.Holds.{holds}
+use Rattle.goal_laws.proofs.Signs.{has-every, every-has}
 use Rattle.goals.specs.Signed as G
 use Rattle.goals.specs.Signed.{same_signed, comes_before, has, is_rising}
 use Rattle.goals.specs.Goal.{contains}
@@ -97,3 +101,14 @@ keeps_end answer (x ∷ B) R e k = absurd (omega (arith, e))
 pub after_first : (xs : List Signed) → take (length xs - 1) (drop 1 xs) ≡ drop 1 xs
 after_first [] = refl
 after_first (x ∷ xs) = grind (arith, common_steps)
+
+pub keeps_none : (answer : Bool) (B R : List Signed) → length R ≡ 0 → Keeps answer B R → true ≡ answer
+keeps_none answer B [] e k = k.decides
+keeps_none answer B (y ∷ R) e k = absurd (omega (arith, e))
+
+-- the greater goal asks for more
+pub contained-met : (big small : List G.Signed) (r : Bool) → r ≡ contains big small
+    → (T : List Position) (J : Document) → r ≡ true → G.meets T big J ≡ true → G.meets T small J ≡ true
+contained-met big small r e T J h m =
+    let test = G.met (λ p. holds T p J) in
+    has-every test small (λ x i. every-has test big x m (every-has (λ y. has y big) small x (sym e ∙ h) i))

@@ -11,12 +11,16 @@ ghost use Rattle.goals.specs.Signed.{meets};
 ghost use Rattle.goal_laws.specs.Formed.{meets_goal};
 ghost use Rattle.js_algebra.specs.View.{signed_view, is_in_table, are_in_table};
 ghost use Rattle.js_algebra.specs.Close.{clashes_nearby, begins_with};
+ghost use Rattle.js_algebra.specs.Equality.{same_goal, same_goal_equiv, goal_writes, goals_Alike};
+ghost use Rattle.positions.specs.Position.{Position};
+ghost use Rattle.std.specs.Cmp.{partial_equiv_from_equiv};
 
 use crate::node::Node;
 use crate::signed::Signed;
 use crate::table::Core;
 use js_doc::Memory;
-use std::alloc::Global;
+use std::alloc::{AllocError, Global};
+use std::hash::{Hash, Hasher};
 use std::marker::Model;
 
 /// A set of signed positions, strictly rising by position with plus before minus.
@@ -47,6 +51,40 @@ impl Goal {
     }
 }
 
+impl Clone for Goal {
+    ghost is_clone = { λ g h. h ≡ g };
+
+    fn clone(&self) -> Result<Goal, AllocError> {
+        let items = self.items.clone()?;
+        Ok(Goal { items })
+    }
+}
+
+/// Goals are equal where their lists are.
+impl PartialEq for Goal {
+    ghost eq = { same_goal };
+
+    ghost laws = { partial_equiv_from_equiv same_goal_equiv };
+
+    fn eq(&self, other: &Goal) -> bool {
+        self.items == other.items
+    }
+}
+
+impl Eq for Goal {
+    ghost laws = { same_goal_equiv };
+}
+
+impl Hash for Goal {
+    ghost hash_input = { goal_writes };
+
+    ghost respects_eq = { goals_Alike.fed };
+
+    fn hash<H: Hasher>(&self, state: &mut H) {
+        self.items.as_slice().hash(state);
+    }
+}
+
 /// The goal of a list: each signed position followed along its references, sorted, without repeats and without what
 /// every document meets. None exactly where no document meets one of them, or two are opposite.
 pub fn form(alloc: Global, core: &Core, list: &[Signed]) -> Result<Option<Goal>, Memory>
@@ -69,7 +107,7 @@ pub fn form(alloc: Global, core: &Core, list: &[Signed]) -> Result<Option<Goal>,
 }
 
 /// The list in rising order, each signed position once.
-fn sorted(mut items: Vec<Signed>) -> Vec<Signed>
+pub(crate) fn sorted(mut items: Vec<Signed>) -> Vec<Signed>
     ensures { map signed_view result.items ≡ add_all (map signed_view items.items) [] }
 {
     items.sort_unstable_by_key(|x| x.order());
@@ -167,7 +205,11 @@ fn begins_with(items: &[Signed], x: Signed) -> bool
 
 /// Whether each signed position of the small goal is one of the big goal: one pass over both, without memory.
 pub fn contains(big: &Goal, small: &Goal) -> bool
-    ensures { result ≡ G.contains big.now small.now }
+    ensures value { result ≡ G.contains big.now small.now }
+
+    // A document that meets the big goal meets a small one that it contains.
+    ensures meaning { (T : List Position) (J : Document) → result ≡ true → meets T big.now J ≡ true
+        → meets T small.now J ≡ true }
 {
     let mut left = small.as_slice();
     let all = big.as_slice();

@@ -9,11 +9,14 @@ mod branch;
 mod choice;
 mod copies;
 mod goal;
+mod keys;
+mod kinds;
 mod lists;
 mod names;
 mod node;
 mod rules;
 mod signed;
+mod signed_set;
 mod table;
 
 pub use branch::BranchId;
@@ -24,6 +27,7 @@ pub use names::{NameFormula, NameList, NameSet, Pattern};
 pub use node::{JsonKind, Node, Pos};
 pub use rules::rule_choices;
 pub use signed::Signed;
+pub use signed_set::SignedSet;
 pub use table::Core;
 
 #[cfg(test)]

@@ -7,11 +7,11 @@ use crate::names::{NameSet, Pattern};
 use js_doc::{NumList, Str, StrList};
 
 /// A place in a core table.
-#[derive(Clone, Copy, PartialEq, Eq, Debug)]
+#[derive(Clone, Copy, PartialEq, Eq, Hash, Debug)]
 pub struct Pos(pub u32);
 
 /// The kinds of document, in the order in which they are always taken.
-#[derive(Clone, Copy, PartialEq, Eq, Debug)]
+#[derive(Clone, Copy, PartialEq, Eq, Hash, Debug)]
 pub enum JsonKind {
     Null,
     Boolean,

@@ -5,7 +5,7 @@ ghost use Rattle.std.specs.Prelude.{◌≡◌, ◌<◌, ◌^◌};
 use crate::node::Pos;
 
 /// A position that is to hold (`plus`), or not to hold.
-#[derive(Clone, Copy, PartialEq, Eq, Debug)]
+#[derive(Clone, Copy, PartialEq, Eq, Hash, Debug)]
 pub struct Signed {
     pub pos: Pos,
     pub plus: bool,
@@ -15,6 +15,7 @@ impl Signed {
     ghost use Rattle.goals.specs.Signed as S;
     ghost use Rattle.js_algebra.specs.View.{signed_view};
     ghost use Rattle.js_algebra.specs.Order.{order_of};
+    ghost use Rattle.js_algebra.specs.Numbers.{signed_at};
 
     pub fn plus(pos: Pos) -> Signed
         ensures { signed_view result ≡ S.Plus pos.0 }
@@ -43,5 +44,16 @@ impl Signed {
         ensures bound { result < 2 ^ 33 }
     {
         2 * u64::from(self.pos.0) + u64::from(!self.plus)
+    }
+
+    /// The signed position of that number.
+    pub fn from_order(number: u64) -> Signed
+        requires { number < 2 ^ 33 }
+        ensures { signed_view result ≡ signed_at number }
+    {
+        Signed {
+            pos: Pos((number / 2) as u32),
+            plus: number % 2 == 0,
+        }
     }
 }

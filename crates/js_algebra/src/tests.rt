@@ -3,11 +3,13 @@
 ghost use Rattle.std.specs.Prelude.{◌≡◌, IfOk, length};
 
 use crate::{
-    Core, JsonKind, KindList, Node, NodeList, Pos, PosList, RankList, Signed, contains, form,
-    rule_choices,
+    Core, Goal, JsonKind, KindList, Node, NodeList, Pos, PosList, RankList, Signed, SignedSet,
+    contains, form, rule_choices,
 };
+use indexmap::IndexSet;
 use js_doc::Str;
 use std::alloc::Global;
+use std::hash::{DefaultHasher, Hash, Hasher};
 use std::test::Fail;
 
 /// `{"not": {"type": "null"}}`.
@@ -110,5 +112,72 @@ fn typed_literals_are_wrong_elsewhere(rt: HostRuntime) -> Result<(), Fail> {
     let core = wide_table(rt.alloc())?;
     assert!(rt; core.is_wrong(Signed::minus(Pos(3)), JsonKind::Number));
     assert!(rt; !core.is_wrong(Signed::plus(Pos(3)), JsonKind::Number));
+    Ok(())
+}
+
+fn hash_of<T: Hash>(x: &T) -> u64 {
+    let mut state = DefaultHasher::new();
+    x.hash(&mut state);
+    state.finish()
+}
+
+fn same_key<T: Hash + Eq>(a: &T, b: &T) -> bool {
+    a == b && hash_of(a) == hash_of(b)
+}
+
+fn shared<T: Send + Sync>(x: &T) -> &T {
+    x
+}
+
+#[test]
+fn goals_are_keys(rt: HostRuntime) -> Result<(), Fail> {
+    let core = wide_table(rt.alloc())?;
+    let plus = form(rt.alloc(), &core, &[Signed::plus(Pos(0))])?.ok_or("a clash")?;
+    let minus = form(rt.alloc(), &core, &[Signed::minus(Pos(1))])?.ok_or("a clash")?;
+    let followed: Goal = shared(&plus).clone()?;
+    assert!(rt; same_key(&plus, &followed));
+    assert!(rt; !same_key(&plus, &minus));
+    Ok(())
+}
+
+#[test]
+fn goals_have_numbers(rt: HostRuntime) -> Result<(), Fail> {
+    let core = wide_table(rt.alloc())?;
+    let plus = form(rt.alloc(), &core, &[Signed::plus(Pos(0))])?.ok_or("a clash")?;
+    let same = form(rt.alloc(), &core, &[Signed::plus(Pos(1))])?.ok_or("a clash")?;
+    let minus = form(rt.alloc(), &core, &[Signed::minus(Pos(1))])?.ok_or("a clash")?;
+    let mut goals: IndexSet<Goal> = IndexSet::new(rt.alloc());
+    assert_eq!(rt; goals.insert_full(plus)?, (0, true));
+    assert_eq!(rt; goals.insert_full(minus)?, (1, true));
+    assert_eq!(rt; goals.insert_full(same)?, (0, false));
+    Ok(())
+}
+
+#[test]
+fn kinds_have_words(rt: HostRuntime) -> Result<(), Fail> {
+    let mut words = String::new(rt.alloc());
+    for kind in JsonKind::ALL {
+        words.push_str(kind.as_word())?;
+        words.push(' ')?;
+    }
+    assert_eq!(rt; words.as_str(), "null boolean number string array object ");
+    Ok(())
+}
+
+#[test]
+fn a_set_grows_and_goes_back(rt: HostRuntime) -> Result<(), Fail> {
+    let list = [
+        Signed::minus(Pos(4)),
+        Signed::plus(Pos(4)),
+        Signed::plus(Pos(1)),
+    ];
+    let mut set = SignedSet::new(rt.alloc());
+    set.add_all(&list)?;
+    set.add(list[0])?;
+    assert_eq!(rt; set.len(), 3);
+    let rising = [list[2], list[1], list[0]];
+    assert_eq!(rt; set.to_list(rt.alloc())?.as_slice(), rising.as_slice());
+    set.go_back(1);
+    assert!(rt; set.has(list[0]) && !set.has(list[1]) && !set.has(list[2]));
     Ok(())
 }

@@ -7,8 +7,8 @@ use Rattle.std.specs.List.{list_any}
 use Rattle.std.proofs.lemmas.Bool.Decides.{nat_tests}
 use Rattle.std.proofs.lemmas.Bool.{eqb-true}
 use Rattle.patterns.specs.CharSet.{has}
-use Rattle.words.specs.Position.{times, copies}
-use Rattle.words.specs.Classes.{are_alike}
+use Rattle.word_states.specs.Position.{times, copies}
+use Rattle.word_states.specs.Classes.{are_alike}
 use Rattle.js_automaton.specs.Letters.{is_letter}
 
 pub and_assoc : (a b c : Bool) → ((a && b) && c) ≡ (a && (b && c))

@@ -7,7 +7,7 @@ use Rattle.std.proofs.lemmas.Bool.{and_parts, or_left, cases_Bool, cases_lt}
 use Rattle.std.proofs.lemmas.List.Folds.{list_any-append}
 use Rattle.std.proofs.lemmas.Map.Keys.{IsDistinct-push}
 use Rattle.patterns.specs.CharSet.{has, is_scalar, comes_no_later}
-use Rattle.words.specs.Classes.{are_alike, characters, firsts_among}
+use Rattle.word_states.specs.Classes.{are_alike, characters, firsts_among}
 use Rattle.word_laws.proofs.Lists.{IsIn, in_left, in_right, in_append, get_left, get_end}
 use Rattle.word_laws.proofs.Mentions as M
 use Rattle.word_laws.proofs.Classes.{alike_laws}

@@ -2,9 +2,9 @@
 use Rattle.std.proofs.Common.{◌≡◌, ℕ, ◌+◌, ◌<◌, Bool, true, false, ◌&&◌, ◌||◌, not, nat_eq, if◌then◌else◌, List, [], ◌∷◌, ◌++◌, map, flat_map, drop, length, get_or, refl, sym, ◌∙◌, ap, ap₂, add-one}
 use Rattle.std.proofs.Math.Seq.{drop-cons}
 use Rattle.patterns.specs.CharSet.{has}
-use Rattle.words.specs.Atom.{Atom, Match, Words, LengthMin}
-use Rattle.words.specs.Position.{sets_of}
-use Rattle.words.specs.Classes.{are_alike, dividers}
+use Rattle.word_states.specs.Atom.{Atom, Match, Words, LengthMin}
+use Rattle.word_states.specs.Position.{sets_of}
+use Rattle.word_states.specs.Classes.{are_alike, dividers}
 use Rattle.js_nfa.specs.declared.atom.Atom.{Atom as CodeAtom}
 use Rattle.js_nfa.specs.AtomView.{atom_view}
 use Rattle.js_automaton.specs.Letters.{is_letter, letters_of, tree_sets}

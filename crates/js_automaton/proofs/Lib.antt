@@ -1,6 +1,9 @@
 pub mod AlikeLemmas
 pub mod ClassSteps
-pub mod BegunLemmas
+pub mod TrieLemmas
+pub mod NodeLemmas
+pub mod PartLemmas
+pub mod EndLemmas
 pub mod TupleLemmas
 mod KeyLemmas
 mod RowsLemmas

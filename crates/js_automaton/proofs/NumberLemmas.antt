@@ -9,7 +9,7 @@ use Rattle.std.proofs.lemmas.Bool.{eqb-true, and_parts, cases_lt}
 use Rattle.std.proofs.lemmas.Map.Keys.{apart_from_distinct}
 use Rattle.word_laws.proofs.Lists.{get_left, get_end}
 use Rattle.patterns.specs.CharSet.{has, is_within}
-use Rattle.words.specs.Classes.{are_alike}
+use Rattle.word_states.specs.Classes.{are_alike}
 use Rattle.js_automaton.specs.Pieces.{AreRising, AreNumbers, AreSides, are_same_letter, are_like}
 use Rattle.js_automaton.proofs.PieceLemmas.{has_rest, has_none, alike_rest, alike_none}
 

@@ -12,7 +12,7 @@ use Rattle.std.proofs.lemmas.List.Elements.{Contains-push, Contains-append_left}
 use Rattle.std.proofs.lemmas.Bool.Decides.{nat_tests}
 use Rattle.std.proofs.lemmas.Bool.{cases_lt}
 use Rattle.patterns.specs.CharSet.{has, is_within}
-use Rattle.words.specs.Classes.{are_alike}
+use Rattle.word_states.specs.Classes.{are_alike}
 use Rattle.js_automaton.specs.Pieces.{AreTogether, are_like, AreKept, HasEnds, HasEach, AreRising, ArePlaces}
 
 pub kept-together : (old new : List ℕ) (c d : ℕ) → AreKept old new → AreTogether new c d → AreTogether old c d

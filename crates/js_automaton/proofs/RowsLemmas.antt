@@ -8,11 +8,11 @@ use Rattle.std.proofs.lemmas.List.Sums.{position_or_len_is}
 use Rattle.std.proofs.lemmas.Map.Keys.{apart_from_distinct}
 use Rattle.std.proofs.lemmas.Option.{get_or_from_slice_get}
 use Rattle.patterns.specs.CharSet.{is_scalar}
-use Rattle.words.specs.Atom.{Atom, LengthMin, is_true}
-use Rattle.words.specs.Classes.{are_alike, dividers, class_firsts, class_count, class_of, is_in_class}
-use Rattle.words.specs.Mention.{mention, mention_all}
-use Rattle.words.specs.WordState.{have_same_state}
-use Rattle.words.specs.Rows.{HaveStates, row_of, targets_of, signature_of}
+use Rattle.word_states.specs.Atom.{Atom, LengthMin, is_true}
+use Rattle.word_states.specs.Classes.{are_alike, dividers, class_firsts, class_count, class_of, is_in_class}
+use Rattle.word_states.specs.Mention.{mention, mention_all}
+use Rattle.word_states.specs.WordState.{have_same_state}
+use Rattle.word_states.specs.Rows.{HaveStates, row_of, targets_of, signature_of}
 use Rattle.word_laws.proofs.Mentions as M
 use Rattle.word_laws.proofs.Rows as R
 use Rattle.word_laws.proofs.RowLaws.{rows_bound, rows_words, rows_apart, row_below, row_truth, row_next}

@@ -1,95 +1,38 @@
 -- States of words for lists of atoms.
-use Rattle.std.proofs.Common.{Some, ◌≡◌, ℕ, zero, suc, ◌+◌, ◌<◌, ◌≤◌, inl, inr, min, Bool, true, false, if◌then◌else◌, List, [], ◌∷◌, ◌++◌, map, filter, length, take, get_or, refl, sym, ◌∙◌, ap, ap₂, subst, arith, length-append}
-use Rattle.patterns.specs.Decision.{is_empty}
-use Rattle.words.specs.Atom.{Atom, Match, Words, LengthMin, is_true}
-use Rattle.words.specs.PatternState.{numbers_from, pattern_state}
+use Rattle.std.proofs.Common.{◌≡◌, ℕ, zero, suc, ◌+◌, ◌<◌, ◌≤◌, inl, inr, ◌||◌, min, Bool, true, false, List, [], ◌∷◌, ◌++◌, Option, Some, None, map, length, take, get_or, nat_le, refl, sym, ◌∙◌, ap, ap₂, subst, arith, length-append}
+use Rattle.std.specs.List.{list_any}
+use Rattle.std.specs.Option.{option_map_or}
 use Rattle.std.proofs.lemmas.List.{take_more, take_all, map-append, get_or-map, length-map}
 use Rattle.std.proofs.lemmas.Bool.{and_parts}
-use Rattle.std.specs.Prelude.{IsTrue, ◌↔◌}
 use Rattle.patterns.specs.CharSet.{is_scalar}
-use Rattle.words.specs.Classes.{are_alike, dividers, class_firsts, class_count, is_in_class}
-use Rattle.js_automaton.specs.declared.classes.Class.{Class}
-use Rattle.js_automaton.specs.ClassView.{first_of}
-use Rattle.words.specs.WordState.{is_prefix, begun, beginning, atom_state, least_length, greatest_least, word_state}
+use Rattle.patterns.specs.Decision.{is_empty}
+use Rattle.patterns.specs.Tree.{empty}
+use Rattle.word_states.specs.Atom.{Atom, Match, Words, LengthMin, same_word, is_true}
+use Rattle.word_states.specs.Classes.{are_alike, dividers, class_firsts, class_count, is_in_class}
+use Rattle.word_states.specs.PatternState.{pattern_state}
+use Rattle.word_states.specs.WordState.{atom_state, least_length, greatest_least, word_state}
 use Rattle.state_laws.specs.Flow.{next_state, is_accepted}
 use Rattle.state_laws.proofs.States.{state_goes_on, state_decides}
-use Rattle.word_laws.proofs.StateSteps.{begun_cases, state_next}
+use Rattle.word_laws.proofs.Lists.{IsIn, in_get}
+use Rattle.word_laws.proofs.StateSteps.{state_next, whole_prefix}
 use Rattle.js_nfa.specs.declared.nfa.Nfa.{Nfa}
-use Rattle.js_nfa.specs.declared.state.PatternState.{PatternState}
+use Rattle.js_nfa.specs.declared.state.PatternState as kept
 use Rattle.js_nfa.specs.View.{tree_of, state_view}
-use Rattle.js_automaton.specs.declared.part.Part.{Part}
-use Rattle.js_automaton.specs.declared.part.Part.TheVariants as P
-use Rattle.js_automaton.specs.declared.part.PartState.{PartState}
-use Rattle.js_automaton.specs.declared.part.PartState.TheVariants as S
-use Rattle.js_automaton.specs.declared.begun.Begun.{Begun}
-use Rattle.js_automaton.specs.declared.state.TupleState.{TupleState}
-use Rattle.js_automaton.specs.Begun.{IsBegun, length_kept}
 use Rattle.js_nfa.specs.declared.atom.Atom as C
 use Rattle.js_nfa.specs.AtomView.{atom_view}
-use Rattle.js_automaton.specs.Tuple.{part_view, positions_of, IsPart, AreParts, IsStateOf}
-
-pub next-match : (part : Part) (state : PartState) (nfa : Nfa) (old new : PatternState) (first : Bool) (c : ℕ)
-    → part ≡ P.Match nfa → state ≡ S.Matching old
-    → state_view new ≡ next_state (tree_of nfa) first c (state_view old)
-    → (w : List ℕ) → first ≡ is_empty w → IsPart (part_view part) state w
-    → IsPart (part_view part) (S.Matching new) (w ++ c ∷ [])
-next-match part state nfa old new first c p s e w f h =
-    let was : state_view old ≡ pattern_state (tree_of nfa) w =
-    subst (λ x. IsPart (Match (tree_of nfa)) x w) s (subst (λ x. IsPart (part_view x) state w) p h) in
-    subst (λ x. IsPart (part_view x) (S.Matching new) (w ++ c ∷ [])) (sym p)
-    (e ∙ ap₂ (λ x y. next_state (tree_of nfa) x c y) f was ∙ sym (state_goes_on (tree_of nfa) w c))
-
-pub truth-match : (part : Part) (state : PartState) (nfa : Nfa) (old : PatternState) (empty result : Bool)
-    → part ≡ P.Match nfa → state ≡ S.Matching old → result ≡ is_accepted (tree_of nfa) empty (state_view old)
-    → (w : List ℕ) → empty ≡ is_empty w → IsPart (part_view part) state w → result ≡ is_true (part_view part) w
-truth-match part state nfa old empty result p s e w f h =
-    let was : state_view old ≡ pattern_state (tree_of nfa) w =
-    subst (λ x. IsPart (Match (tree_of nfa)) x w) s (subst (λ x. IsPart (part_view x) state w) p h) in
-    e ∙ ap₂ (is_accepted (tree_of nfa)) f was ∙ sym (state_decides (tree_of nfa) w)
-    ∙ sym (ap (λ x. is_true (part_view x) w) p)
-
--- ---- lists of parts
-pub parts-length : (atoms : List Atom) (states : List PartState) (w : List ℕ) → AreParts atoms states w
-    → length states ≡ length atoms
-parts-length [] [] w h = refl
-parts-length [] (s ∷ states) w h = absurd h
-parts-length (a ∷ atoms) [] w h = absurd h
-parts-length (a ∷ atoms) (s ∷ states) w (i, h) = ap suc (parts-length atoms states w h)
-
-pub parts-at : (atoms : List Atom) (states : List PartState) (w : List ℕ) (k : ℕ) (a : Atom) (s : PartState)
-    → AreParts atoms states w → k < length atoms → IsPart (get_or atoms k a) (get_or states k s) w
-parts-at [] states w k a s h l = absurd (omega (arith, l))
-parts-at (b ∷ atoms) [] w k a s h l = absurd h
-parts-at (b ∷ atoms) (t ∷ states) w zero a s (i, h) l = i
-parts-at (b ∷ atoms) (t ∷ states) w (suc k) a s (i, h) l = parts-at atoms states w k a s h (omega (arith, l))
-
-pub parts-push : (atoms : List Atom) (states : List PartState) (w : List ℕ) (a : Atom) (s : PartState)
-    → AreParts atoms states w → IsPart a s w → AreParts (atoms ++ a ∷ []) (states ++ s ∷ []) w
-parts-push [] [] w a s h i = (i, tt)
-parts-push [] (t ∷ states) w a s h i = absurd h
-parts-push (b ∷ atoms) [] w a s h i = absurd h
-parts-push (b ∷ atoms) (t ∷ states) w a s (j, h) i = (j, parts-push atoms states w a s h i)
-
--- ---- words of one state
-none_begun : (k : ℕ) (test : List ℕ → Bool) (ws : List (List ℕ)) → filter test ws ≡ [] → numbers_from k (map test ws) ≡ []
-none_begun k test [] e = refl
-none_begun k test (v ∷ ws) e = by (test v) e (none_begun (suc k) test ws) where
-  by : (b : Bool) → (if b then v ∷ filter test ws else filter test ws) ≡ []
-      → (filter test ws ≡ [] → numbers_from (suc k) (map test ws) ≡ [])
-      → (if b then k ∷ numbers_from (suc k) (map test ws) else numbers_from (suc k) (map test ws)) ≡ []
-  by true f h = absurd (cc f)
-  by false f h = h f
-
-begun-same : (ws : List (List ℕ)) (b : Begun) (v w : List ℕ) → atom_state v (Words ws) ≡ atom_state w (Words ws)
-    → IsBegun ws b v → IsBegun ws b w
-begun-same ws b v w e (is, kept) = elim (begun_cases ws v w e) [
-  | inl none ↦
-      let nil : b.words.items ≡ [] = is ∙ none_begun 0 (is_prefix v) ws none.0 in (
-        nil ∙ sym (none_begun 0 (is_prefix w) ws none.1),
-        kept ∙ ap (λ ns. length_kept ns v) nil ∙ sym (ap (λ ns. length_kept ns w) nil),
-      )
-  | inr q ↦ subst (λ x. IsBegun ws b x) q (is, kept)
-]
+use Rattle.js_automaton.specs.declared.classes.Class.{Class}
+use Rattle.js_automaton.specs.declared.part.Part.{Part}
+use Rattle.js_automaton.specs.declared.part.Part.TheVariants as P
+use Rattle.js_automaton.specs.declared.state.TupleState.{TupleState}
+use Rattle.js_automaton.specs.ClassView.{first_of}
+use Rattle.js_automaton.specs.Letters.{letters_of}
+use Rattle.js_automaton.specs.Parts.{part_view, atoms_made, are_placed}
+use Rattle.js_automaton.specs.Trie.{same_edge, same_node, child_of, edges_of, node_of, listed, ends_at, AreEnds}
+use Rattle.js_automaton.specs.Tuple.{pattern_states, IsStateOf}
+use Rattle.word_states.specs.AtomPositions.{positions_of}
+use Rattle.js_automaton.proofs.TrieLemmas.{walk-append, prefix-has}
+use Rattle.js_automaton.proofs.NodeLemmas.{state-node, atom-listed, node-any}
+use Rattle.js_automaton.proofs.PartLemmas.{patterns-made}
 
 positions-cons : (a : Atom) (atoms : List Atom)
     → positions_of (a ∷ atoms) ≡ positions_of (a ∷ []) + positions_of atoms
@@ -108,87 +51,177 @@ positions-one (y ∷ atoms) (suc i) x l e =
     let f = positions-one atoms i x (omega (arith, l)) e in
     let g = positions-cons (atom_view y) (map atom_view atoms) in omega (arith, f, g)
 
--- ---- one more part
-pub parts-step : (parts : List Part) (states : List PartState) (w : List ℕ) (i : ℕ) (x : Part) (s : PartState)
-    → i < length parts → x ≡ get_or parts i x → AreParts (map part_view (take i parts)) states w
-    → IsPart (part_view x) s w → AreParts (map part_view (take (i + 1) parts)) (states ++ s ∷ []) w
-parts-step parts states w i x s within at h p =
-    let more : map part_view (take (i + 1) parts) ≡ map part_view (take i parts) ++ part_view x ∷ [] =
-    ap (map part_view) (take_more parts i x within ∙ ap (λ y. take i parts ++ y ∷ []) (sym at))
-    ∙ map-append part_view (take i parts) (x ∷ []) in
-    subst (λ bs. AreParts bs (states ++ s ∷ []) w) (sym more)
-    (parts-push (map part_view (take i parts)) states w (part_view x) s h p)
+pub atoms-next : (atoms : List C.Atom) (made : List Atom) (i : ℕ) (x : C.Atom) → i < length atoms → x ≡ get_or atoms i x
+    → made ≡ map atom_view (take i atoms)
+    → made ++ atom_view x ∷ [] ≡ map atom_view (take (i + 1) atoms)
+atoms-next atoms made i x l at e =
+    ap (λ xs. xs ++ atom_view x ∷ []) e
+    ∙ sym (ap (map atom_view) (take_more atoms i x l ∙ ap (λ y. take i atoms ++ y ∷ []) (sym at))
+    ∙ map-append atom_view (take i atoms) (x ∷ []))
 
-pub parts-all : (parts : List Part) (states : List PartState) (w : List ℕ) (i : ℕ) → length parts ≤ i
-    → AreParts (map part_view (take i parts)) states w → AreParts (map part_view parts) states w
-parts-all parts states w i past h =
-    subst (λ ps. AreParts (map part_view ps) states w) (take_all i parts past) h
+pub atoms-all : (atoms : List C.Atom) (made : List Atom) (i : ℕ) → length atoms ≤ i
+    → made ≡ map atom_view (take i atoms) → made ≡ map atom_view atoms
+atoms-all atoms made i l e = e ∙ ap (map atom_view) (take_all i atoms l)
 
-part-same : (a : Atom) (s : PartState) (v w : List ℕ) → atom_state v a ≡ atom_state w a → IsPart a s v → IsPart a s w
-part-same (Match t) (S.Matching s) v w e h = let q : pattern_state t v ≡ pattern_state t w = cc e in h ∙ q
-part-same (Match t) (S.Beginning b) v w e h = absurd h
-part-same (Match t) S.Counting v w e h = absurd h
-part-same (Words ws) (S.Matching s) v w e h = absurd h
-part-same (Words ws) (S.Beginning b) v w e h = begun-same ws b v w e h
-part-same (Words ws) S.Counting v w e h = absurd h
-part-same (LengthMin n) (S.Matching s) v w e h = absurd h
-part-same (LengthMin n) (S.Beginning b) v w e h = absurd h
-part-same (LengthMin n) S.Counting v w e h = tt
+-- ---- states of patterns
+-- the states of the first i patterns
+abbrev pub AreStates : List Nfa → List kept.PatternState → List ℕ → ℕ → Type 0
+AreStates ns states w i = map state_view states ≡ map (λ n. pattern_state (tree_of n) w) (take i ns)
 
-parts-same : (atoms : List Atom) (states : List PartState) (v w : List ℕ)
-    → map (atom_state v) atoms ≡ map (atom_state w) atoms → AreParts atoms states v → AreParts atoms states w
-parts-same [] [] v w e h = tt
-parts-same [] (s ∷ states) v w e h = absurd h
-parts-same (a ∷ atoms) [] v w e h = absurd h
-parts-same (a ∷ atoms) (s ∷ states) v w e (i, h) =
-    let q : atom_state v a ≡ atom_state w a = cc e in
-    let r : map (atom_state v) atoms ≡ map (atom_state w) atoms = cc e in
-    (part-same a s v w q i, parts-same atoms states v w r h)
+pub states-step : (ns : List Nfa) (states : List kept.PatternState) (w : List ℕ) (i : ℕ) (n : Nfa)
+    (s : kept.PatternState)
+    → i < length ns → n ≡ get_or ns i n → state_view s ≡ pattern_state (tree_of n) w → AreStates ns states w i
+    → AreStates ns (states ++ s ∷ []) w (i + 1)
+states-step ns states w i n s l at e h =
+    map-append state_view states (s ∷ []) ∙ ap₂ (λ xs x. xs ++ x ∷ []) h e
+    ∙ sym (ap (map (λ n. pattern_state (tree_of n) w)) (take_more ns i n l ∙ ap (λ y. take i ns ++ y ∷ []) (sym at))
+    ∙ map-append (λ n. pattern_state (tree_of n) w) (take i ns) (n ∷ []))
+
+module _ (ns : List Nfa) (ps : List Part) (placed : are_placed 0 ps (length ns) ≡ true) where
+  abbrev atoms : List Atom
+  atoms = atoms_made ns ps
+
+  pub states-all : (states : List kept.PatternState) (w : List ℕ) (i : ℕ) → length ns ≤ i → AreStates ns states w i
+      → map state_view states ≡ pattern_states atoms w
+  states-all states w i l h =
+      h ∙ ap (map (λ n. pattern_state (tree_of n) w)) (take_all i ns l) ∙ sym (patterns-made ns ps w placed)
+
+  states-of : (s : TupleState) (w : List ℕ) → IsStateOf atoms s w
+      → map state_view s.patterns.items ≡ map (λ n. pattern_state (tree_of n) w) ns
+  states-of s w h = h.patterns ∙ patterns-made ns ps w placed
+
+  pub states-length : (s : TupleState) (w : List ℕ) → IsStateOf atoms s w → length s.patterns.items ≡ length ns
+  states-length s w h =
+      sym (length-map s.patterns.items state_view) ∙ ap length (states-of s w h)
+      ∙ length-map ns (λ n. pattern_state (tree_of n) w)
+
+  pub states-at : (s : TupleState) (w : List ℕ) (i : ℕ) (n : Nfa) (x : kept.PatternState) → IsStateOf atoms s w
+      → i < length ns → n ≡ get_or ns i n → x ≡ get_or s.patterns.items i x
+      → state_view x ≡ pattern_state (tree_of n) w
+  states-at s w i n x h l at found =
+      let long = states-length s w h in
+      let d = pattern_state (tree_of n) w in
+      ap state_view found ∙ sym (get_or-map state_view s.patterns.items i x d (omega (arith, l, long)))
+      ∙ ap (λ xs. get_or xs i d) (states-of s w h)
+      ∙ get_or-map (λ n. pattern_state (tree_of n) w) ns i n d l
+      ∙ ap (λ m. pattern_state (tree_of m) w) (sym at)
+
+  pub states-next : (s : TupleState) (w : List ℕ) (i : ℕ) (n : Nfa) (x new : kept.PatternState) (first : Bool) (c : ℕ)
+      → IsStateOf atoms s w → i < length ns → n ≡ get_or ns i n → x ≡ get_or s.patterns.items i x
+      → first ≡ s.is_empty → state_view new ≡ next_state (tree_of n) first c (state_view x)
+      → state_view new ≡ pattern_state (tree_of n) (w ++ c ∷ [])
+  states-next s w i n x new first c h l at found f e =
+      e ∙ ap₂ (λ a b. next_state (tree_of n) a c b) (f ∙ h.empty) (states-at s w i n x h l at found)
+      ∙ sym (state_goes_on (tree_of n) w c)
+
+  -- ---- the truth of an atom
+  atom-at : (k : ℕ) (p : Part) → k < length ps → p ≡ get_or ps k p
+      → get_or atoms k (LengthMin 0) ≡ part_view (map tree_of ns) p
+  atom-at k p l at =
+      get_or-map (part_view (map tree_of ns)) ps k p (LengthMin 0) l ∙ ap (part_view (map tree_of ns)) (sym at)
+
+  pub truth-match : (s : TupleState) (w : List ℕ) (k i : ℕ) (p : Part) (n : Nfa) (x : kept.PatternState) (b : Bool)
+      → IsStateOf atoms s w → k < length ps → p ≡ get_or ps k p → p ≡ P.Match i → i < length ns
+      → n ≡ get_or ns i n → x ≡ get_or s.patterns.items i x
+      → b ≡ is_accepted (tree_of n) s.is_empty (state_view x) → b ≡ is_true (get_or atoms k (LengthMin 0)) w
+  truth-match s w k i p n x b h l at q m found is e =
+      let tree : get_or (map tree_of ns) i empty ≡ tree_of n =
+      get_or-map tree_of ns i n empty m ∙ ap tree_of (sym found) in
+      e ∙ ap₂ (is_accepted (tree_of n)) h.empty (states-at s w i n x h m found is) ∙ sym (state_decides (tree_of n) w)
+      ∙ sym (ap (λ t. is_true (Match t) w) tree)
+      ∙ sym (ap (λ a. is_true a w) (atom-at k p l at ∙ ap (part_view (map tree_of ns)) q))
+
+  pub truth-length : (s : TupleState) (w : List ℕ) (k n : ℕ) (p : Part) (b : Bool) → IsStateOf atoms s w
+      → k < length ps → p ≡ get_or ps k p → p ≡ P.Length n → b ≡ nat_le n s.length
+      → b ≡ is_true (get_or atoms k (LengthMin 0)) w
+  truth-length s w k n p b h l at q e =
+      let a : get_or atoms k (LengthMin 0) ≡ LengthMin n = atom-at k p l at ∙ ap (part_view (map tree_of ns)) q in
+      let g : least_length (get_or atoms k (LengthMin 0)) ≤ greatest_least atoms =
+      least-within atoms k (LengthMin 0) (omega (arith, l, length-map ps (part_view (map tree_of ns)))) in
+      e ∙ ap (nat_le n) h.length
+      ∙ cut n (length w) (greatest_least atoms) (subst (λ z. least_length z ≤ greatest_least atoms) a g)
+      ∙ sym (ap (λ a. is_true a w) a) where
+        cut : (n m g : ℕ) → n ≤ g → nat_le n (min m g) ≡ nat_le n m
+        cut n m g l = grind (arith, l)
+
+        least-within : (atoms : List Atom) (k : ℕ) (a : Atom) → k < length atoms
+            → least_length (get_or atoms k a) ≤ greatest_least atoms
+        least-within [] k a l = absurd (omega (arith, l))
+        least-within (b ∷ atoms) zero a l = omega arith
+        least-within (b ∷ atoms) (suc k) a l =
+            let less = least-within atoms k a (omega (arith, l)) in omega (arith, less)
+
+  pub truth-words : (s : TupleState) (w : List ℕ) (k : ℕ) (ws : List (List ℕ)) (p : Part) (ends : List (ℕ × ℕ))
+      (b : Bool)
+      → IsStateOf atoms s w → k < length ps → p ≡ get_or ps k p → p ≡ P.Words ws → AreEnds atoms ends
+      → b ≡ option_map_or (λ n. list_any (same_edge (n, k)) ends) s.node false
+      → b ≡ is_true (get_or atoms k (LengthMin 0)) w
+  truth-words s w k ws p ends b h l at q found e =
+      let a : get_or atoms k (LengthMin 0) ≡ Words ws = atom-at k p l at ∙ ap (part_view (map tree_of ns)) q in
+      let inside : (u : List ℕ) → IsIn u ws → IsIn u (listed atoms) =
+      λ u i. atom-listed atoms (Words ws) u
+      (subst (λ z. IsIn z atoms) a
+      (in_get atoms k (LengthMin 0) (omega (arith, l, length-map ps (part_view (map tree_of ns)))))) i in
+      e ∙ ap (λ o. option_map_or (λ n. list_any (same_edge (n, k)) ends) o false) h.node
+      ∙ by (node_of (listed atoms) w) refl a inside ∙ sym (ap (λ a. is_true a w) a) where
+        by : (o : Option ℕ) → node_of (listed atoms) w ≡ o → get_or atoms k (LengthMin 0) ≡ Words ws
+            → ((u : List ℕ) → IsIn u ws → IsIn u (listed atoms))
+            → option_map_or (λ n. list_any (same_edge (n, k)) ends) o false ≡ list_any (same_word w) ws
+        by None f a inside = none ws inside where
+          none : (ws : List (List ℕ)) → ((u : List ℕ) → IsIn u ws → IsIn u (listed atoms))
+              → false ≡ list_any (same_word w) ws
+          none ws inside = never ws (λ u i. prefix-has (listed atoms) u u (inside u i) (whole_prefix u))
+              ∙ ap (λ o. list_any (λ u. same_node (node_of (listed atoms) u) o) ws) (sym f)
+              ∙ node-any (listed atoms) ws w inside where
+                never : (ws : List (List ℕ))
+                    → ((u : List ℕ) → IsIn u ws → (m : ℕ) × (node_of (listed atoms) u ≡ Some m))
+                    → false ≡ list_any (λ u. same_node (node_of (listed atoms) u) None) ws
+                never [] h = refl
+                never (u ∷ ws) h =
+                    let (m, e) = h u (inl refl) in
+                    never ws (λ v i. h v (inr i))
+                    ∙ ap (λ o. same_node o None || list_any (λ u. same_node (node_of (listed atoms) u) None) ws) (sym e)
+        by (Some n) f a inside =
+            found n k ∙ ap (λ x. ends_at (listed atoms) (letters_of x) n) a
+            ∙ ap (λ o. list_any (λ u. same_node (node_of (listed atoms) u) o) ws) (sym f)
+            ∙ node-any (listed atoms) ws w inside
+
+-- ---- words of one state
+patterns-same : (atoms : List Atom) (v w : List ℕ) → map (atom_state v) atoms ≡ map (atom_state w) atoms
+    → pattern_states atoms v ≡ pattern_states atoms w
+patterns-same [] v w e = refl
+patterns-same (Match t ∷ atoms) v w e =
+    let q : pattern_state t v ≡ pattern_state t w = cc e in
+    ap₂ (λ x xs. x ∷ xs) q (patterns-same atoms v w (cc e))
+patterns-same (Words ws ∷ atoms) v w e = patterns-same atoms v w (cc e)
+patterns-same (LengthMin n ∷ atoms) v w e = patterns-same atoms v w (cc e)
 
 pub state-same : (atoms : List Atom) (s : TupleState) (v w : List ℕ) → word_state atoms v ≡ word_state atoms w
     → IsStateOf atoms s v → IsStateOf atoms s w
 state-same atoms s v w e h = record {
   empty = h.empty ∙ ap (λ x. x.is_empty) e;
-  parts = parts-same atoms s.parts.items v w (ap (λ x. x.parts) e) h.parts;
+  patterns = h.patterns ∙ patterns-same atoms v w (ap (λ x. x.parts) e);
+  node = h.node ∙ state-node atoms v w (ap (λ x. x.is_empty) e) (ap (λ x. x.parts) e);
   length = h.length ∙ ap (λ x. x.length) e;
 }
 
 pub step-done : (atoms : List Atom) (s made : TupleState) (first c : ℕ) (w : List ℕ) → IsStateOf atoms s w
-    → false ≡ made.is_empty → AreParts atoms made.parts.items (w ++ first ∷ [])
+    → false ≡ made.is_empty → map state_view made.patterns.items ≡ pattern_states atoms (w ++ first ∷ [])
+    → made.node ≡ child_of (edges_of (listed atoms)) s.node first
     → made.length ≡ min (s.length + 1) (greatest_least atoms) → are_alike (dividers atoms) first c ≡ true
     → IsStateOf atoms made (w ++ c ∷ [])
-step-done atoms s made first c w h e p l a =
+step-done atoms s made first c w h e p n l a =
     state-same atoms made (w ++ first ∷ []) (w ++ c ∷ []) (state_next atoms w w first c refl a) (record {
       empty = sym e ∙ sym (not_empty w first);
-      parts = p;
+      patterns = p;
+      node =
+          n ∙ ap (λ o. child_of (edges_of (listed atoms)) o first) h.node
+          ∙ sym (walk-append (edges_of (listed atoms)) (Some 0) w (first ∷ []));
       length = omega (arith, l, h.length, length-append w (first ∷ []));
     }) where
       not_empty : (w : List ℕ) (c : ℕ) → is_empty (w ++ c ∷ []) ≡ false
       not_empty [] c = refl
       not_empty (d ∷ w) c = refl
-
-pub least-within : (atoms : List Atom) (k : ℕ) (a : Atom) → k < length atoms
-    → least_length (get_or atoms k a) ≤ greatest_least atoms
-least-within [] k a l = absurd (omega (arith, l))
-least-within (b ∷ atoms) zero a l = omega arith
-least-within (b ∷ atoms) (suc k) a l = let less = least-within atoms k a (omega (arith, l)) in omega (arith, less)
-
--- the part of an atom
-pub part-at : (parts : List Part) (states : List PartState) (w : List ℕ) (k : ℕ) (x : Part) (y : PartState)
-    → k < length parts → x ≡ get_or parts k x → y ≡ get_or states k y
-    → AreParts (map part_view parts) states w
-    → (part_view x ≡ get_or (map part_view parts) k (LengthMin 0)) × IsPart (part_view x) y w
-    × (least_length (part_view x) ≤ greatest_least (map part_view parts))
-part-at parts states w k x y within at found h =
-    let one : part_view x ≡ get_or (map part_view parts) k (LengthMin 0) =
-    ap part_view at ∙ sym (get_or-map part_view parts k x (LengthMin 0) within) in
-    let inside : k < length (map part_view parts) = omega (arith, within, length-map parts part_view) in
-    let p = parts-at (map part_view parts) states w k (LengthMin 0) y h inside in
-    let q = least-within (map part_view parts) k (LengthMin 0) inside in (
-      one,
-      subst (λ a. IsPart a y w) (sym one) (subst (λ z. IsPart (get_or (map part_view parts) k (LengthMin 0)) z w) (sym found) p),
-      subst (λ a. least_length a ≤ greatest_least (map part_view parts)) (sym one) q,
-    )
 
 -- the first character of a class is like each of it
 pub first-alike : (atoms : List Atom) (classes : List Class) (k : ℕ) (x : Class) (d : ℕ)
@@ -200,97 +233,3 @@ first-alike atoms classes k x d firsts within at member =
     ap first_of at ∙ sym (get_or-map first_of classes k x 0 inside) ∙ ap (λ (l : List ℕ). get_or l k 0) firsts in
     ap (λ n. are_alike (dividers atoms) n d) first
     ∙ (and_parts (is_scalar d) (are_alike (dividers atoms) (get_or (class_firsts atoms) k 0) d) member).1
-
--- ---- the same state
--- the places of words tell which words they are
-numbers-apart : (k j : ℕ) (bs : List Bool) → k < j → (rest : List ℕ) → numbers_from j bs ≡ k ∷ rest → ⊥
-numbers-apart k j [] l rest e = cc e
-numbers-apart k j (true ∷ bs) l rest e = let q : j ≡ k = cc e in omega (arith, q, l)
-numbers-apart k j (false ∷ bs) l rest e = numbers-apart k (suc j) bs (omega (arith, l)) rest e
-
-filter-same : (k : ℕ) (p q : List ℕ → Bool) (ws : List (List ℕ)) → numbers_from k (map p ws) ≡ numbers_from k (map q ws)
-    → filter p ws ≡ filter q ws
-filter-same k p q [] e = refl
-filter-same k p q (v ∷ ws) e = by (p v) (q v) e (filter-same (suc k) p q ws) where
-  by : (a b : Bool)
-      → (if a then k ∷ numbers_from (suc k) (map p ws) else numbers_from (suc k) (map p ws))
-      ≡ (if b then k ∷ numbers_from (suc k) (map q ws) else numbers_from (suc k) (map q ws))
-      → (numbers_from (suc k) (map p ws) ≡ numbers_from (suc k) (map q ws) → filter p ws ≡ filter q ws)
-      → (if a then v ∷ filter p ws else filter p ws) ≡ (if b then v ∷ filter q ws else filter q ws)
-  by true true f h = let g : numbers_from (suc k) (map p ws) ≡ numbers_from (suc k) (map q ws) = cc f in ap (λ us. v ∷ us) (h g)
-  by true false f h = absurd (numbers-apart k (suc k) (map q ws) (omega arith) (numbers_from (suc k) (map p ws)) (sym f))
-  by false true f h = absurd (numbers-apart k (suc k) (map p ws) (omega arith) (numbers_from (suc k) (map q ws)) f)
-  by false false f h = h f
-
-some_begun : (k : ℕ) (p : List ℕ → Bool) (ws : List (List ℕ)) (x : List ℕ) (xs : List (List ℕ)) → filter p ws ≡ x ∷ xs
-    → numbers_from k (map p ws) ≡ [] → ⊥
-some_begun k p [] x xs e f = cc e
-some_begun k p (v ∷ ws) x xs e f = by (p v) e f (some_begun (suc k) p ws x xs) where
-  by : (b : Bool) → (if b then v ∷ filter p ws else filter p ws) ≡ x ∷ xs
-      → (if b then k ∷ numbers_from (suc k) (map p ws) else numbers_from (suc k) (map p ws)) ≡ []
-      → (filter p ws ≡ x ∷ xs → numbers_from (suc k) (map p ws) ≡ [] → ⊥) → ⊥
-  by true g h r = cc h
-  by false g h r = r g h
-
-pub words-same : (ws : List (List ℕ)) (a b : Begun) (v w : List ℕ) → IsBegun ws a v → IsBegun ws b w
-    → a.words.items ≡ b.words.items → a.length ≡ b.length → atom_state v (Words ws) ≡ atom_state w (Words ws)
-words-same ws a b v w (is, kept) (js, held) e l =
-    let f : filter (is_prefix v) ws ≡ filter (is_prefix w) ws =
-    filter-same 0 (is_prefix v) (is_prefix w) ws (sym is ∙ e ∙ js) in
-    ap (λ us. begun us v) f ∙ lengths (filter (is_prefix w) ws) refl where
-      kept_some : (ns : List ℕ) (u : List ℕ) → (ns ≡ [] → ⊥) → length_kept ns u ≡ length u
-      kept_some [] u h = absurd (h refl)
-      kept_some (n ∷ ns) u h = refl
-
-      lengths : (us : List (List ℕ)) → filter (is_prefix w) ws ≡ us → begun us v ≡ begun us w
-      lengths [] g = refl
-      lengths (x ∷ us) g =
-          let some : b.words.items ≡ [] → ⊥ = λ h. some_begun 0 (is_prefix w) ws x us g (sym js ∙ h) in
-          let some_a : a.words.items ≡ [] → ⊥ = λ h. some (sym e ∙ h) in
-          let q : length v ≡ length w =
-          sym (kept_some a.words.items v some_a) ∙ sym kept ∙ l ∙ held ∙ kept_some b.words.items w some in
-          ap (λ n. beginning (x ∷ us) (Some n)) q
-
-pub words-apart : (ws : List (List ℕ)) (a b : Begun) (v w : List ℕ) → IsBegun ws a v → IsBegun ws b w
-    → atom_state v (Words ws) ≡ atom_state w (Words ws) → (a.words.items ≡ b.words.items) × (a.length ≡ b.length)
-words-apart ws a b v w ia ib e =
-    let (is, kept) = begun-same ws a v w e ia in
-    let (js, held) = ib in
-    let q : a.words.items ≡ b.words.items = is ∙ sym js in
-    (q, kept ∙ ap (λ ns. length_kept ns w) q ∙ sym held)
-
-pub same-beginning : (p q : PartState) (x y : Begun) (r : Bool) → p ≡ S.Beginning x → q ≡ S.Beginning y
-    → IsTrue r ↔ ((x.words.items ≡ y.words.items) × (x.length ≡ y.length))
-    → (a : Atom) (v w : List ℕ) → IsPart a p v → IsPart a q w → IsTrue r ↔ (atom_state v a ≡ atom_state w a)
-same-beginning p q x y r ep eq d a v w i j =
-    by a (subst (λ s. IsPart a s v) ep i) (subst (λ s. IsPart a s w) eq j) where
-      by : (a : Atom) → IsPart a (S.Beginning x) v → IsPart a (S.Beginning y) w
-          → IsTrue r ↔ (atom_state v a ≡ atom_state w a)
-      by (Match t) h k = absurd h
-      by (Words ws) h k = (
-        (λ t. words-same ws x y v w h k (d.0 t).0 (d.0 t).1),
-        (λ e. d.1 (words-apart ws x y v w h k e)),
-      )
-      by (LengthMin n) h k = absurd h
-
-pub maps-next : {A B : Type 0} (f g : A → B) (xs : List A) (i : ℕ) (d : A) → i < length xs
-    → map f (take i xs) ≡ map g (take i xs) → f (get_or xs i d) ≡ g (get_or xs i d)
-    → map f (take (i + 1) xs) ≡ map g (take (i + 1) xs)
-maps-next f g xs i d within e h =
-    ap (map f) (take_more xs i d within) ∙ map-append f (take i xs) (get_or xs i d ∷ [])
-    ∙ ap₂ (λ ys y. ys ++ y ∷ []) e h
-    ∙ sym (ap (map g) (take_more xs i d within) ∙ map-append g (take i xs) (get_or xs i d ∷ []))
-
-pub maps-at : {A B : Type 0} (f g : A → B) (xs : List A) (i : ℕ) (d : A) → i < length xs
-    → map f xs ≡ map g xs → f (get_or xs i d) ≡ g (get_or xs i d)
-maps-at f g xs i d within e =
-    sym (get_or-map f xs i d (f d) within) ∙ ap (λ ys. get_or ys i (f d)) e ∙ get_or-map g xs i d (f d) within
-
-pub maps-all : {A B : Type 0} (f g : A → B) (xs : List A) (i : ℕ) → length xs ≤ i
-    → map f (take i xs) ≡ map g (take i xs) → map f xs ≡ map g xs
-maps-all f g xs i past e = subst (λ ys. map f ys ≡ map g ys) (take_all i xs past) e
-
-pub part-of : (atoms : List Atom) (states : List PartState) (v : List ℕ) (i : ℕ) (s : PartState) → i < length atoms
-    → s ≡ get_or states i s → AreParts atoms states v → IsPart (get_or atoms i (LengthMin 0)) s v
-part-of atoms states v i s within at h =
-    subst (λ z. IsPart (get_or atoms i (LengthMin 0)) z v) (sym at) (parts-at atoms states v i (LengthMin 0) s h within)

@@ -1,6 +1,6 @@
 -- What a contract sees of an automaton.
 use Rattle.std.specs.Prelude.{ℕ, List}
-use Rattle.words.specs.Atom.{Atom}
+use Rattle.word_states.specs.Atom.{Atom}
 use Rattle.js_automaton.specs.declared.automaton.Automaton.{Automaton}
 use Rattle.js_automaton.specs.TuplesView as tuples
 

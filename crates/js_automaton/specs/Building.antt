@@ -2,11 +2,11 @@
 use Rattle.std.specs.Prelude.{◌≡◌, ◌<◌, ◌≤◌, ℕ, List, [], ◌∷◌, ◌++◌, true, map, flat_map, take, length, get_or}
 use Rattle.std.specs.List.{list_all}
 use Rattle.patterns.specs.CharSet.{is_scalar}
-use Rattle.words.specs.Atom.{Atom}
-use Rattle.words.specs.Classes.{class_firsts}
-use Rattle.words.specs.Mention.{mention_all}
-use Rattle.words.specs.WordState.{have_same_state}
-use Rattle.words.specs.Rows.{AreRows, row_of, targets_of}
+use Rattle.word_states.specs.Atom.{Atom}
+use Rattle.word_states.specs.Classes.{class_firsts}
+use Rattle.word_states.specs.Mention.{mention_all}
+use Rattle.word_states.specs.WordState.{have_same_state}
+use Rattle.word_states.specs.Rows.{AreRows, row_of, targets_of}
 use Rattle.js_automaton.specs.declared.state.TupleState.{TupleState}
 use Rattle.js_automaton.specs.Tuple.{IsStateOf}
 

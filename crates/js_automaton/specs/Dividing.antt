@@ -1,7 +1,7 @@
 -- What is kept while the classes of characters are found, the one with the first character first.
 use Rattle.std.specs.Prelude.{◌≡◌, ℕ, List, ◌&&◌}
 use Rattle.patterns.specs.CharSet.{has, is_scalar}
-use Rattle.words.specs.Classes.{are_alike}
+use Rattle.word_states.specs.Classes.{are_alike}
 
 -- the set has the characters that no divider tells from this one
 abbrev pub IsClass : List (List (ℕ × ℕ)) → List (ℕ × ℕ) → ℕ → Type 0

@@ -1,8 +1,8 @@
 -- The letters of lists of words, as sets.
 use Rattle.std.specs.Prelude.{ℕ, List, [], Bool, nat_eq}
 use Rattle.std.specs.List.{list_any}
-use Rattle.words.specs.Atom.{Atom, Match, Words, LengthMin}
-use Rattle.words.specs.Position.{sets_of}
+use Rattle.word_states.specs.Atom.{Atom, Match, Words, LengthMin}
+use Rattle.word_states.specs.Position.{sets_of}
 
 -- the character stands in one of the words
 abbrev pub is_letter : List (List ℕ) → ℕ → Bool

@@ -4,15 +4,16 @@ pub mod Letters
 pub mod Dividing
 pub mod ClassView
 pub mod Pieces
--- Which listed words a word begins.
-pub mod Begun
+-- The beginnings of listed words, numbered.
+pub mod Trie
+-- Atoms as they are kept.
+pub mod Parts
 -- The state of a word for a list of atoms.
 pub mod Tuple
 pub mod Faults
 pub mod TuplesView
 -- States as keys of a table.
 pub mod Keys
-pub mod KeyLaws
 -- Rows and their numbers.
 pub mod Building
 pub mod RowsProp

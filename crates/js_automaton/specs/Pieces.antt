@@ -3,7 +3,7 @@ use Rattle.std.specs.Prelude.{◌≡◌, ◌<◌, ◌≤◌, ◌+◌, ℕ, List,
 use Rattle.std.specs.List.{Contains}
 use Rattle.std.specs.Cmp.{IsEquivalence}
 use Rattle.patterns.specs.CharSet.{has, is_scalar, is_range}
-use Rattle.words.specs.Classes.{are_alike}
+use Rattle.word_states.specs.Classes.{are_alike}
 
 -- no place lies between the characters, or at the later one
 abbrev pub AreTogether : List ℕ → ℕ → ℕ → Type 0

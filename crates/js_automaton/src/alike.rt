@@ -4,7 +4,7 @@
 
 ghost use Rattle.std.specs.Prelude.{◌≡◌, ◌&&◌, ℕ, map, IfOk};
 ghost use Rattle.patterns.specs.CharSet.{has, is_scalar};
-ghost use Rattle.words.specs.Classes.{are_alike, dividers};
+ghost use Rattle.word_states.specs.Classes.{are_alike, dividers};
 ghost use Rattle.js_nfa.specs.AtomView.{atom_view};
 ghost use Rattle.js_automaton.specs.Pieces.{AreNumbered};
 

@@ -22,9 +22,9 @@ pub struct Automaton {
 impl Automaton {
     ghost use Rattle.std.specs.Prelude.{◌≡◌, ◌<◌, ◌≤◌, ◌++◌, ◌∷◌, [], ℕ, List, length, get_or, true, false};
     ghost use Rattle.patterns.specs.CharSet.{has, is_scalar};
-    ghost use Rattle.words.specs.Atom.{LengthMin, is_true};
-    ghost use Rattle.words.specs.Classes.{class_count, class_of, is_in_class};
-    ghost use Rattle.words.specs.Rows.{AreRows, row_of, signature_of, targets_of};
+    ghost use Rattle.word_states.specs.Atom.{LengthMin, is_true};
+    ghost use Rattle.word_states.specs.Classes.{class_count, class_of, is_in_class};
+    ghost use Rattle.word_states.specs.Rows.{AreRows, row_of, signature_of, targets_of};
     ghost use Rattle.word_laws.specs.Laws.{IsWord};
     ghost use Rattle.js_automaton.specs.AutomatonView.{atoms_of, rows_of};
 

@@ -4,7 +4,7 @@
 //! of their first characters. A class is made of the pieces that have one number, and costs a look at each piece.
 
 ghost use Rattle.std.specs.Prelude.{◌≡◌, ◌<◌, ◌≤◌, ◌⊎◌, length, map, IfOk, OnOk, IfErr};
-ghost use Rattle.words.specs.Classes.{dividers, class_firsts, class_count};
+ghost use Rattle.word_states.specs.Classes.{dividers, class_firsts, class_count};
 ghost use Rattle.js_nfa.specs.AtomView.{atom_view};
 ghost use Rattle.js_automaton.specs.ClassView.{AreClasses, first_of};
 

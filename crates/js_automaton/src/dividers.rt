@@ -2,8 +2,8 @@
 
 ghost use Rattle.std.specs.Prelude.{◌≡◌, ◌<◌, ◌&&◌, ℕ, map, flat_map, IfOk, OnOk, IsTrue, ◌↔◌};
 ghost use Rattle.patterns.specs.CharSet.{has};
-ghost use Rattle.words.specs.Classes.{are_alike, dividers};
-ghost use Rattle.words.specs.Position.{copies, sets_of, sets_in};
+ghost use Rattle.word_states.specs.Classes.{are_alike, dividers};
+ghost use Rattle.word_states.specs.Position.{copies, sets_of, sets_in};
 ghost use Rattle.js_pattern.specs.View.{view, list_view};
 ghost use Rattle.js_nfa.specs.AtomView.{atom_view};
 ghost use Rattle.js_automaton.specs.Letters.{tree_sets};

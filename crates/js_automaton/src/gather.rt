@@ -1,14 +1,11 @@
 //! What lists of atoms have together.
 
-ghost use Rattle.std.specs.Prelude.{◌≡◌, ◌+◌, ◌<◌, ◌⊎◌, [], ◌∷◌, min, map, IfOk, IfErr};
-ghost use Rattle.words.specs.WordState.{greatest_least};
+ghost use Rattle.std.specs.Prelude.{◌≡◌, ◌+◌, [], ◌∷◌, min, map};
+ghost use Rattle.word_states.specs.WordState.{greatest_least};
 ghost use Rattle.js_nfa.specs.AtomView.{atom_view};
-ghost use Rattle.js_automaton.specs.Tuple.{part_view, positions_of};
+ghost use Rattle.word_states.specs.AtomPositions.{positions_of};
 
-use crate::fault::AutoFault;
-use crate::part::Part;
 use js_nfa::{Atom, count_positions};
-use std::alloc::Global;
 
 /// One more than the most positions that the patterns may have together.
 pub(crate) const PAST: u32 = 16385;
@@ -55,21 +52,4 @@ pub(crate) fn longer(length: u128, longest: u128) -> u128
     } else {
         longest
     }
-}
-
-/// The parts of the atoms.
-pub(crate) fn parts_of(alloc: Global, atoms: &[Atom]) -> Result<Vec<Part>, AutoFault>
-    ensures atoms { IfOk result (λ parts. map part_view parts.items ≡ map atom_view atoms.now) }
-    ensures limit { IfErr result (λ fault. fault ≡ AutoFault.LimitPositions
-        → 16384 < positions_of (map atom_view atoms.now)) }
-    ensures only { IfErr result (λ fault. (fault ≡ AutoFault.LimitPositions) ⊎ (fault ≡ AutoFault.Memory)) }
-{
-    let mut parts = Vec::with_capacity(alloc, atoms.len())?;
-    for atom in atoms {
-        match Part::of(alloc, atom) {
-            Ok(part) => parts.push(part)?,
-            Err(fault) => return Err(fault),
-        }
-    }
-    Ok(parts)
 }

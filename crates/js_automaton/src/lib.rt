@@ -8,7 +8,6 @@
 
 mod alike;
 mod automaton;
-mod begun;
 mod class_set;
 mod classes;
 mod dividers;
@@ -17,10 +16,13 @@ mod gather;
 mod letters;
 mod numbers;
 mod part;
+mod parts;
 mod pieces;
 mod rows;
 mod state;
+mod trie;
 mod tuples;
+mod word_list;
 
 pub use automaton::Automaton;
 pub use fault::AutoFault;

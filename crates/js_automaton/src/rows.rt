@@ -6,10 +6,10 @@
 ghost use Rattle.std.specs.Prelude.{◌≡◌, ◌<◌, ◌≤◌, ◌⊎◌, ℕ, map, length, IfOk, OnOk, IfErr};
 ghost use Rattle.std.specs.List.{position_or_len};
 ghost use Rattle.indexmap.specs.IndexSet.{insert_key};
-ghost use Rattle.words.specs.Classes.{class_count};
-ghost use Rattle.words.specs.Rows.{HaveStates};
+ghost use Rattle.word_states.specs.Classes.{class_count};
+ghost use Rattle.word_states.specs.Rows.{HaveStates};
 ghost use Rattle.js_nfa.specs.AtomView.{atom_view};
-ghost use Rattle.js_automaton.specs.Tuple.{positions_of};
+ghost use Rattle.word_states.specs.AtomPositions.{positions_of};
 ghost use Rattle.js_automaton.specs.Keys.{same_tuple};
 ghost use Rattle.js_automaton.specs.Building.{IsFound, HaveRows};
 ghost use Rattle.js_automaton.specs.TuplesView as tuples_view;

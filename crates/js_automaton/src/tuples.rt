@@ -1,18 +1,22 @@
 //! States of words for a list of atoms, taken on by classes of characters.
 
-ghost use Rattle.std.specs.Prelude.{◌≡◌, ◌≤◌, length, map};
-ghost use Rattle.words.specs.Classes.{class_firsts, dividers};
-ghost use Rattle.words.specs.WordState.{greatest_least};
-ghost use Rattle.js_automaton.specs.Tuple.{part_view};
+ghost use Rattle.std.specs.Prelude.{◌≡◌, ◌≤◌, true, length, map};
+ghost use Rattle.word_states.specs.Classes.{class_firsts, dividers};
+ghost use Rattle.word_states.specs.WordState.{greatest_least};
+ghost use Rattle.js_automaton.specs.Parts.{are_placed, atoms_made};
+ghost use Rattle.js_automaton.specs.Trie.{AreEnds, edges_of, listed};
 ghost use Rattle.js_automaton.specs.ClassView.{AreClasses, first_of};
 
 use crate::classes::{Class, classes};
 use crate::fault::AutoFault;
-use crate::gather::{PAST, count_all, longer, longest, parts_of};
+use crate::gather::{PAST, count_all, longer, longest};
 use crate::part::Part;
+use crate::parts::{ends_of, parts_of, trie_of};
 use crate::state::TupleState;
+use crate::trie::Trie;
+use indexmap::IndexSet;
 use js_doc::Memory;
-use js_nfa::Atom;
+use js_nfa::{Atom, Nfa};
 use js_pattern::CharSet;
 use std::alloc::Global;
 
@@ -20,22 +24,32 @@ use std::alloc::Global;
 #[derive(Drop)]
 pub struct Tuples {
     parts: Vec<Part>,
+    patterns: Vec<Nfa>,
+    trie: Trie,
+    ends: IndexSet<(usize, usize)>,
     classes: Vec<Class>,
     longest: u128,
-    ghost firsts: { map first_of classes.items ≡ class_firsts (map part_view parts.items) },
-    ghost sets: { AreClasses (dividers (map part_view parts.items)) classes.items },
+    ghost places: { are_placed 0 parts.items (length patterns.items) ≡ true },
+    ghost nodes: { trie.edges.keys ≡ edges_of (listed (atoms_made patterns.items parts.items)) },
+    ghost found: { AreEnds (atoms_made patterns.items parts.items) ends.keys },
+    ghost firsts: { map first_of classes.items ≡ class_firsts (atoms_made patterns.items parts.items) },
+    ghost sets: { AreClasses (dividers (atoms_made patterns.items parts.items)) classes.items },
     ghost few: { length classes.items ≤ 1024 },
-    ghost greatest: { longest ≡ greatest_least (map part_view parts.items) },
+    ghost greatest: { longest ≡ greatest_least (atoms_made patterns.items parts.items) },
 }
 
 impl Tuples {
-    ghost use Rattle.std.specs.Prelude.{◌<◌, ◌⊎◌, [], ◌∷◌, ◌++◌, ℕ, List, true, get_or, IfOk, IfErr, OnOk, IsTrue, ◌↔◌};
-    ghost use Rattle.words.specs.WordState.{atom_state, word_state};
+    ghost use Rattle.std.specs.Prelude.{◌<◌, ◌⊎◌, [], ◌∷◌, ◌++◌, ℕ, List, true, false, get_or, IfOk, IfErr, OnOk, IsTrue, ◌↔◌};
+    ghost use Rattle.std.specs.List.{list_any};
+    ghost use Rattle.std.specs.Option.{option_map_or};
+    ghost use Rattle.word_states.specs.WordState.{word_state};
     ghost use Rattle.patterns.specs.CharSet.{has};
-    ghost use Rattle.words.specs.Atom.{LengthMin, is_true};
-    ghost use Rattle.words.specs.Classes.{class_count, is_in_class};
+    ghost use Rattle.word_states.specs.Atom.{LengthMin, is_true};
+    ghost use Rattle.word_states.specs.Classes.{class_count, is_in_class};
     ghost use Rattle.js_nfa.specs.AtomView.{atom_view};
-    ghost use Rattle.js_automaton.specs.Tuple.{positions_of, IsStateOf};
+    ghost use Rattle.js_automaton.specs.Trie.{same_edge};
+    ghost use Rattle.js_automaton.specs.Tuple.{IsStateOf};
+    ghost use Rattle.word_states.specs.AtomPositions.{positions_of};
     ghost use Rattle.js_automaton.specs.TuplesView.{atoms_of};
 
     /// The classes and states of these atoms. The limit on positions is looked at before that on classes.
@@ -54,10 +68,15 @@ impl Tuples {
             return Err(AutoFault::LimitPositions);
         }
         let classes = classes(alloc, atoms)?;
-        let parts = parts_of(alloc, atoms)?;
+        let (patterns, parts) = parts_of(alloc, atoms)?;
+        let trie = trie_of(alloc, &parts)?;
+        let ends = ends_of(alloc, &trie, &parts)?;
         let longest = longest(atoms);
         Ok(Tuples {
             parts,
+            patterns,
+            trie,
+            ends,
             classes,
             longest,
         })
@@ -82,13 +101,14 @@ impl Tuples {
     pub fn start(&self, alloc: Global) -> Result<TupleState, Memory>
         ensures { IfOk result (λ s. IsStateOf (atoms_of self.now) s []) }
     {
-        let mut parts = Vec::with_capacity(alloc, self.parts.len())?;
-        for part in &self.parts {
-            parts.push(part.start(alloc)?)?;
+        let mut patterns = Vec::with_capacity(alloc, self.patterns.len())?;
+        for nfa in &self.patterns {
+            patterns.push(nfa.first_state(alloc)?)?;
         }
         Ok(TupleState {
             is_empty: true,
-            parts,
+            patterns,
+            node: Some(0),
             length: 0,
         })
     }
@@ -101,14 +121,16 @@ impl Tuples {
             → is_in_class (atoms_of self.now) class c ≡ true → IsStateOf (atoms_of self.now) s (w ++ c ∷ [])) }
     {
         let c = self.classes[class as usize].first;
-        let mut parts = Vec::with_capacity(alloc, self.parts.len())?;
-        for (i, part) in self.parts.iter().enumerate() {
-            parts.push(part.next(alloc, &state.parts[i], state.is_empty, c)?)?;
+        let mut patterns = Vec::with_capacity(alloc, self.patterns.len())?;
+        for (i, nfa) in self.patterns.iter().enumerate() {
+            patterns.push(nfa.next_state(alloc, &state.patterns[i], state.is_empty, c)?)?;
         }
+        let node = self.trie.child_of(state.node, c);
         let length = longer(state.length, self.longest);
         Ok(TupleState {
             is_empty: false,
-            parts,
+            patterns,
+            node,
             length,
         })
     }
@@ -120,7 +142,23 @@ impl Tuples {
         ensures { (w : List ℕ) → IsStateOf (atoms_of self.now) state.now w
             → result ≡ is_true (get_or (atoms_of self.now) atom (LengthMin 0)) w }
     {
-        self.parts[atom].truth(&state.parts[atom], state.is_empty, state.length)
+        match &self.parts[atom] {
+            Part::Match(place) => {
+                self.patterns[*place].is_accepted(&state.patterns[*place], state.is_empty)
+            }
+            Part::Words(_) => self.leads_to(state.node, atom),
+            Part::Length(least) => *least <= state.length,
+        }
+    }
+
+    /// Whether a word of that atom leads to the node.
+    fn leads_to(&self, node: Option<usize>, atom: usize) -> bool
+        ensures { result ≡ option_map_or (λ n. list_any (same_edge (n, atom)) self.now.ends.keys) node false }
+    {
+        match node {
+            Some(node) => self.ends.contains(&(node, atom)),
+            None => false,
+        }
     }
 
     /// Whether two states are the same. It costs a look at each of their parts.

@@ -1,4 +1,2 @@
-pub mod PieceLaws
-pub mod NumberLaws
 pub mod LineLaws
 pub mod TextLaws

@@ -7,11 +7,13 @@ use Rattle.std.proofs.lemmas.Bool.{and_parts, and_from, eqb-true, eqb-false}
 use Rattle.std.specs.Option.{IfNone}
 use Rattle.documents.specs.Tests.{every}
 use Rattle.certificates.specs.Line.{Line, IsText, is_line, is_short, words_text, lines_text}
-use Rattle.js_cert.specs.Pieces.{pieces}
-use Rattle.js_cert.specs.Reading.{read_all, short_line}
+use Rattle.certificate_lines.specs.Pieces.{pieces}
+use Rattle.certificate_lines.specs.Reading.{read_all}
+use Rattle.js_cert.specs.Reading.{short_line}
 use Rattle.js_cert.specs.Text.{HasNoLines}
-use Rattle.js_cert.proofs.PieceLaws.{pieces-ended, pieces-of_ended}
-use Rattle.js_cert.proofs.LineLaws.{short_line-text, short_line-of, words-lack, read_all-cons, read_all-map, lacks-map}
+use Rattle.line_laws.proofs.PieceLaws.{pieces-ended, pieces-of_ended}
+use Rattle.js_cert.proofs.LineLaws.{short_line-text, short_line-of, words-lack}
+use Rattle.line_laws.proofs.ReadLaws.{read_all-cons, read_all-map, lacks-map}
 
 record AllSpell (ps : List (List ℕ)) (ls : List Line) : Type 0 where
   small : every is_line ls ≡ true

@@ -3,5 +3,4 @@
 pub mod View
 pub mod Text
 -- How the reader of bytes comes to its answer; no public clause cites them.
-pub mod Pieces
 pub mod Reading

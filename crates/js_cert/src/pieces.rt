@@ -1,7 +1,7 @@
 //! A text cut at each place of one byte, in one pass.
 
 ghost use Rattle.std.specs.Prelude.{◌≡◌, map, IfOk, option_map};
-ghost use Rattle.js_cert.specs.Pieces.{pieces, after_word, is_at_end};
+ghost use Rattle.certificate_lines.specs.Pieces.{pieces, after_word, is_at_end};
 
 use js_doc::Memory;
 use std::alloc::Global;

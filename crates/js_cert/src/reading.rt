@@ -10,8 +10,8 @@ ghost use Rattle.js_cert.specs.Reading.{
   kind_line,
   goal_line,
   short_line,
-  read_all,
 };
+ghost use Rattle.certificate_lines.specs.Reading.{read_all};
 ghost use Rattle.js_cert.specs.Text.{HasNoLines};
 
 use crate::lines::{CertLine, CertLines, Version};

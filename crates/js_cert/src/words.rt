@@ -2,8 +2,16 @@
 
 ghost use Rattle.std.specs.Prelude.{◌≡◌, map, IfOk, option_map, option_and_then};
 ghost use Rattle.js_algebra.specs.View.{signed_view, kind_view};
-ghost use Rattle.js_cert.specs.Pieces.{after_word};
-ghost use Rattle.js_cert.specs.Reading.{is_plain, digits_from, number_of, signed_of, kind_of_word, list_of, read_all};
+ghost use Rattle.certificate_lines.specs.Pieces.{after_word};
+ghost use Rattle.certificate_lines.specs.Reading.{
+  is_plain,
+  digits_from,
+  number_of,
+  signed_of,
+  kind_of_word,
+  list_of,
+  read_all,
+};
 
 use crate::pieces::{after, is_word, pieces};
 use js_algebra::{JsonKind, Pos, Signed, SignedList};
@@ -96,7 +104,7 @@ pub fn kind(text: &[u8]) -> Option<JsonKind>
 
 /// Signed positions, each after a blank.
 pub fn signed_list(alloc: Global, text: &[u8]) -> Result<Option<SignedList>, Memory>
-    ensures { IfOk result (λ o. o ≡ list_of text.now) }
+    ensures { IfOk result (λ o. o ≡ list_of signed_of text.now) }
 {
     let parts = pieces(alloc, text, b' ')?;
     match parts.as_slice().split_first() {

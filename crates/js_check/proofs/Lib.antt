@@ -1,5 +1,3 @@
-pub mod Indexed
-pub mod GrowingLaws
 pub mod WalkLaws
 pub mod TreeLaws
 pub mod VerdictLaws

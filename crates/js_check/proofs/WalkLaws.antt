@@ -14,10 +14,10 @@ use Rattle.certificates.specs.Line.{Line, Rule, Clash, OfKind}
 use Rattle.certificates.specs.Good.{Duty, OfSet, after, by_rule, where_true}
 use Rattle.js_algebra.specs.View.{signed_view, is_in_table}
 use Rattle.js_algebra.specs.declared.signed.Signed.{Signed}
-use Rattle.js_check.specs.Growing.{set_of, with_members}
+use Rattle.js_algebra.specs.SignedSets.{set_of, with_members}
 use Rattle.js_check.specs.Walking.{choices_of, choice_at, choice_duties, duties_left, are_fine}
 use Rattle.js_check.specs.declared.walk.Pending.{Pending}
-use Rattle.js_check.proofs.GrowingLaws.{has-set_of, set-with_members, length-with_members, take-with_members}
+use Rattle.js_algebra.proofs.Grown.{has-set_of, set-with_members, length-with_members, take-with_members}
 
 reverse-push : {A : Type 0} (xs : List A) (x : A) → reverse (xs ++ x ∷ []) ≡ x ∷ reverse xs
 reverse-push xs x = reverse-append xs (x ∷ [])

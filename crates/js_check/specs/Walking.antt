@@ -1,5 +1,5 @@
 -- What a walk through the tree of a goal still has to show dead.
-use Rattle.std.specs.Prelude.{◌≡◌, ℕ, ◌*◌, List, [], ◌∷◌, ◌++◌, map, take, drop, length, get_or, reverse, Bool, true, ◌&&◌, cond, nat_le, Some, None, option_map}
+use Rattle.std.specs.Prelude.{◌≡◌, ℕ, List, [], ◌∷◌, ◌++◌, map, take, drop, length, get_or, reverse, Bool, true, ◌&&◌, cond, nat_le, Some, None, option_map}
 use Rattle.documents.specs.Kind.{Kind}
 use Rattle.positions.specs.Position.{Position}
 use Rattle.goals.specs.Signed as G
@@ -9,7 +9,7 @@ use Rattle.goals.specs.Tree.{choice_list}
 use Rattle.certificates.specs.Line.{Line}
 use Rattle.certificates.specs.Good.{Duty, OfSet, after}
 use Rattle.js_algebra.specs.View.{signed_view, is_in_table, are_in_table}
-use Rattle.js_check.specs.Growing.{set_of}
+use Rattle.js_algebra.specs.SignedSets.{set_of}
 use Rattle.js_check.specs.declared.walk.Pending.{Pending}
 use Rattle.js_check.specs.declared.walk.Walk.{Walk}
 
@@ -34,7 +34,7 @@ duties_left T t xs (e ∷ es) =
 
 -- the duties of a walk after its set at hand
 abbrev pub duties_after : List Position → Kind → Walk → List Duty
-duties_after T t w = duties_left T t w.set.members (reverse w.pending.items)
+duties_after T t w = duties_left T t w.set (reverse w.pending.items)
 
 -- each rule is of the table, and was met within the members of the rule after it
 abbrev pub are_fine : List Position → ℕ → List Pending → Bool
@@ -43,18 +43,17 @@ are_fine T n (e ∷ es) = (nat_le e.members n && is_in_table T (signed_view e.ru
 
 -- a walk over a table
 pub record IsReady (T : List Position) (w : Walk) : Type 0 where
-  pub room : w.set.room ≡ 2 * length T
-  pub in_table : are_in_table T w.set.members ≡ true
-  pub fine : are_fine T (length w.set.members) (reverse w.pending.items) ≡ true
+  pub in_table : are_in_table T w.set ≡ true
+  pub fine : are_fine T (length w.set) (reverse w.pending.items) ≡ true
 
 -- in place of the duty of the set at hand and of those of the old walk, a line leaves those of the new walk, or it
 -- breaks a rule
 abbrev pub Settles : List Position → Kind → Line → Walk → Walk → Bool → Type 0
 Settles T t l old new ok =
-    option_map (λ es. es ++ duties_after T t old) (after T (OfSet t (set_of old.set.members)) l)
+    option_map (λ es. es ++ duties_after T t old) (after T (OfSet t (set_of old.set)) l)
     ≡ cond ok (Some (duties_after T t new)) None
 
 -- the first duty that is left is that of the new set at hand, or none is left
 abbrev pub Advances : List Position → Kind → Walk → Walk → Bool → Type 0
 Advances T t old new more =
-    duties_after T t old ≡ cond more (OfSet t (set_of new.set.members) ∷ duties_after T t new) []
+    duties_after T t old ≡ cond more (OfSet t (set_of new.set) ∷ duties_after T t new) []

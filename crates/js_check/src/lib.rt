@@ -4,7 +4,6 @@
 //! choice, and every other line of a tree the same whatever the set's size. Nothing recurses.
 #![tactic(auto)]
 
-mod growing;
 mod trees;
 mod verdict;
 mod walk;

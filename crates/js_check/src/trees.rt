@@ -20,10 +20,8 @@ fn tree<'a>(
     lines: &'a [CertLine],
 ) -> Result<Option<&'a [CertLine]>, Memory>
     requires goal { are_in_table core.now.positions goal.now ≡ true }
-    requires room { walk.old.set.room ≡ 2 * length core.now.positions }
-    ensures does { IfOk result (λ o. Does core.now.positions (OfSet (kind_view kind) goal.now ∷ [])
+    ensures { IfOk result (λ o. Does core.now.positions (OfSet (kind_view kind) goal.now ∷ [])
         (map line_view lines.now) (option_map (λ rest. map line_view rest.now) o)) }
-    ensures room { OnOk result (walk.new.set.room ≡ walk.old.set.room) }
 {
     walk.begin(core, goal)?;
     for (i, line) in lines.iter().enumerate() {
@@ -55,10 +53,8 @@ fn kind_tree<'a>(
     lines: &'a [CertLine],
 ) -> Result<Option<&'a [CertLine]>, Memory>
     requires goal { are_in_table core.now.positions goal.now ≡ true }
-    requires room { walk.old.set.room ≡ 2 * length core.now.positions }
-    ensures does { IfOk result (λ o. Does core.now.positions (OfKindOf (kind_view kind) goal.now ∷ [])
+    ensures { IfOk result (λ o. Does core.now.positions (OfKindOf (kind_view kind) goal.now ∷ [])
         (map line_view lines.now) (option_map (λ rest. map line_view rest.now) o)) }
-    ensures room { OnOk result (walk.new.set.room ≡ walk.old.set.room) }
 {
     let Some((line, rest)) = lines.split_first() else {
         return Ok(None);
@@ -78,11 +74,9 @@ fn kind_trees<'a>(
     lines: &'a [CertLine],
 ) -> Result<Option<&'a [CertLine]>, Memory>
     requires goal { are_in_table core.now.positions goal.now ≡ true }
-    requires room { walk.old.set.room ≡ 2 * length core.now.positions }
-    ensures does { IfOk result (λ o. Does core.now.positions
+    ensures { IfOk result (λ o. Does core.now.positions
         (kind_duties goal.now (map kind_view kinds.now))
         (map line_view lines.now) (option_map (λ rest. map line_view rest.now) o)) }
-    ensures room { OnOk result (walk.new.set.room ≡ walk.old.set.room) }
 {
     let mut rest = lines;
     for kind in kinds {
@@ -112,10 +106,8 @@ fn goal_trees<'a>(
     lines: &'a [CertLine],
 ) -> Result<Option<&'a [CertLine]>, Memory>
     requires goal { are_in_table core.now.positions goal.now ≡ true }
-    requires room { walk.old.set.room ≡ 2 * length core.now.positions }
-    ensures does { IfOk result (λ o. Does core.now.positions (OfGoal number goal.now ∷ [])
+    ensures { IfOk result (λ o. Does core.now.positions (OfGoal number goal.now ∷ [])
         (map line_view lines.now) (option_map (λ rest. map line_view rest.now) o)) }
-    ensures room { OnOk result (walk.new.set.room ≡ walk.old.set.room) }
 {
     let Some((line, rest)) = lines.split_first() else {
         return Ok(None);
@@ -142,10 +134,8 @@ pub fn entries<'a>(
     lines: &'a [CertLine],
 ) -> Result<Option<&'a [CertLine]>, Memory>
     requires goals { sets_in_table core.now.positions goals.now ≡ true }
-    requires room { walk.old.set.room ≡ 2 * length core.now.positions }
-    ensures does { IfOk result (λ o. Does core.now.positions (entry_duties 0 goals.now)
+    ensures { IfOk result (λ o. Does core.now.positions (entry_duties 0 goals.now)
         (map line_view lines.now) (option_map (λ rest. map line_view rest.now) o)) }
-    ensures room { OnOk result (walk.new.set.room ≡ walk.old.set.room) }
 {
     let mut rest = lines;
     for (number, goal) in goals.iter().enumerate() {

@@ -61,7 +61,7 @@ fn judge_goals(
     if !root_is_listed(root, goals.as_slice()) {
         return Ok(false);
     }
-    let mut walk = Walk::new(alloc, core)?;
+    let mut walk = Walk::new(alloc);
     match entries(core, &mut walk, goals.as_slice(), rest)? {
         Some(last) => Ok(ends_alone(last)),
         None => Ok(false),

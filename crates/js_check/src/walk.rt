@@ -7,11 +7,10 @@ ghost use Rattle.goals.specs.Choices.{choices};
 ghost use Rattle.certificates.specs.Line as L;
 ghost use Rattle.js_algebra.specs.View.{signed_view, kind_view, is_in_table, are_in_table};
 ghost use Rattle.js_cert.specs.View.{line_view};
-ghost use Rattle.js_check.specs.Growing.{set_of, with_members};
+ghost use Rattle.js_algebra.specs.SignedSets.{set_of, with_members};
 ghost use Rattle.js_check.specs.Walking.{IsReady, Settles, Advances, choices_of, choice_at};
 
-use crate::growing::GrowingSet;
-use js_algebra::{Core, Goal, JsonKind, Signed};
+use js_algebra::{Core, Goal, JsonKind, Signed, SignedSet};
 use js_cert::CertLine;
 use js_doc::Memory;
 use std::alloc::Global;
@@ -27,27 +26,22 @@ pub struct Pending {
 /// The set at hand, and what is still to be shown dead after it, the next rule last.
 #[derive(Drop)]
 pub struct Walk {
-    pub set: GrowingSet,
+    pub set: SignedSet,
     pub pending: Vec<Pending>,
 }
 
 impl Walk {
-    /// A walk with room for the positions of a table.
-    pub fn new(alloc: Global, core: &Core) -> Result<Walk, Memory>
-        ensures { IfOk result (λ w. w.set.room ≡ 2 * length core.now.positions) }
-    {
-        let room = 2 * core.len() as usize;
-        Ok(Walk {
-            set: GrowingSet::new(alloc, room)?,
+    pub fn new(alloc: Global) -> Walk {
+        Walk {
+            set: SignedSet::new(alloc),
             pending: Vec::new(alloc),
-        })
+        }
     }
 
     /// Begins at the set of a goal, with nothing to be shown dead after it.
     pub fn begin(&mut self, core: &Core, goal: &Goal) -> Result<(), Memory>
         requires in_table { are_in_table core.now.positions goal.now ≡ true }
-        requires room { self.old.set.room ≡ 2 * length core.now.positions }
-        ensures set { OnOk result (set_of self.new.set.members ≡ goal.now) }
+        ensures set { OnOk result (set_of self.new.set ≡ goal.now) }
         ensures pending { OnOk result (self.new.pending.items ≡ []) }
         ensures ready { OnOk result (IsReady core.now.positions self.new) }
     {
@@ -121,13 +115,11 @@ impl Walk {
         index: u128,
     ) -> Result<(), Memory>
         requires in_table { is_in_table core.now.positions (signed_view rule) ≡ true }
-        requires room { self.old.set.room ≡ 2 * length core.now.positions }
         requires index { index < length (choices_of core.now.positions (kind_view kind) (signed_view rule)) }
-        ensures members { OnOk result (self.new.set.members ≡ with_members
-            (choice_at core.now.positions (kind_view kind) (signed_view rule) index) self.old.set.members) }
+        ensures members { OnOk result (self.new.set ≡ with_members
+            (choice_at core.now.positions (kind_view kind) (signed_view rule) index) self.old.set) }
         ensures in_table { are_in_table core.now.positions
             (choice_at core.now.positions (kind_view kind) (signed_view rule) index) ≡ true }
-        ensures room { self.new.set.room ≡ self.old.set.room }
         ensures pending { self.new.pending ≡ self.old.pending }
     {
         self.set.add_each(core.rule(rule, kind).choice(index))

@@ -1,9 +1,10 @@
 //! Reading two files and comparing their schemas.
 
-ghost use Rattle.std.specs.Prelude.{◌≡◌, true, IfOk, OnErr, codes, string_bytes};
+ghost use Rattle.std.specs.Prelude.{◌≡◌, [], ◌∷◌, true, IfOk, OnErr, codes, encode_utf8_all, string_bytes};
 ghost use Rattle.schemas.specs.Guarded.{edges, are_ranks};
 ghost use Rattle.js_refusal.specs.RefusalWords as R;
 ghost use Rattle.js_schema.specs.SchemaView.{schema_view};
+ghost use Rattle.js_input.specs.OrderOfFiles.{BeginsInOrder};
 ghost use Rattle.js_comparison.specs.Saying.{FilesSay, SchemasSay};
 
 use js_decide::Verdict;
@@ -45,6 +46,8 @@ pub fn compare_files<H: Shelf>(
     ensures says { IfOk result
         (FilesSay (H.told shelf.old) first.now second.now (H.faults shelf.old) (H.faults shelf.new)) }
     ensures memory { OnErr result (H.faults shelf.new ≡ H.faults shelf.old) }
+    ensures begun { BeginsInOrder (H.told shelf.old) (encode_utf8_all first.now ∷ encode_utf8_all second.now ∷ [])
+        (H.begun shelf.old) (H.begun shelf.new) }
 {
     let (a, a_ranks) = match load_schema(alloc, shelf, first)? {
         Some(SchemaInput::Read(schema, ranks)) => (schema, ranks),

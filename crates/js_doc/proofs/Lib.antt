@@ -1,6 +1,12 @@
+pub mod Containers
+pub mod JsonWellFormed
 pub mod Levels
 pub mod Lookups
+pub mod Mapped
+pub mod NumbersAbove
+pub mod PartTables
 pub mod Ranks
-pub mod Rising
+pub mod Scalars
 pub mod Search
+pub mod WellFormed
 pub mod WordOrder

@@ -1,15 +1,9 @@
--- Looking up a member, of a document or a JSON value, among those that are left.
-use Rattle.std.proofs.Common.{◌≡◌, ℕ, ◌+◌, ◌<◌, List, [], ◌∷◌, length, drop, drop-cons, add-one, map, get_or, Bool, true, false, cond, Some, chars, bytes_eq, IsUtf8, refl, sym, ap, ◌∙◌}
+-- Names are the same where their texts are.
+use Rattle.std.proofs.Common.{◌≡◌, ℕ, List, [], ◌∷◌, Bool, true, false, chars, bytes_eq, IsUtf8, refl, sym, ap, ◌∙◌}
 use Rattle.std.proofs.lemmas.Str.{encodes-chars}
 use Rattle.std.proofs.lemmas.Slice.Eq.{bytes_eq-Decides}
 use Rattle.std.specs.Str.{encode_utf8_all}
 use Rattle.documents.specs.Tests.{same_word}
-use Rattle.documents.specs.Document as D
-use Rattle.documents.specs.Json as J
-use Rattle.js_doc.specs.declared.document.Member.{Member}
-use Rattle.js_doc.specs.declared.json.JsonMember.{JsonMember}
-use Rattle.js_doc.specs.View as V
-use Rattle.js_doc.specs.JsonView as W
 
 -- the two tests of lists agree
 pub same_word-bytes_eq : (xs ys : List ℕ) → same_word xs ys ≡ bytes_eq xs ys
@@ -41,19 +35,3 @@ pub same_word-named : (name text key : List ℕ) (test : Bool) → IsUtf8 name �
     → same_word (chars name) key ≡ test
 same_word-named name text key test u v is e =
     ap (same_word (chars name)) (sym is) ∙ same_word-chars name text u v ∙ sym e
-
--- the member at a place is looked at before those after it
-pub lookup-drop : (word : List ℕ) (items : List Member) (i : ℕ) (member : Member) → i < length items
-    → member ≡ get_or items i member
-    → D.lookup word (D.members_of (map V.member_view (drop i items)))
-    ≡ cond (same_word word (V.member_view member).0) (Some (V.member_view member).1)
-    (D.lookup word (D.members_of (map V.member_view (drop (i + 1) items))))
-lookup-drop word items i member within is = rw (add-one, drop-cons items i member, ← is) refl
-
--- the same in a JSON value
-pub json_lookup-drop : (word : List ℕ) (items : List JsonMember) (i : ℕ) (member : JsonMember) → i < length items
-    → member ≡ get_or items i member
-    → J.lookup word (J.members_of (map W.member_view (drop i items)))
-    ≡ cond (same_word word (W.member_view member).0) (Some (W.member_view member).1)
-    (J.lookup word (J.members_of (map W.member_view (drop (i + 1) items))))
-json_lookup-drop word items i member within is = rw (add-one, drop-cons items i member, ← is) refl

@@ -1,5 +1,5 @@
 -- A binary search among names that rise, each before the next one.
-use Rattle.std.proofs.Common.{◌≡◌, ◌⊎◌, inl, inr, ℕ, ◌+◌, ◌<◌, ◌≤◌, zero, suc, List, [], ◌∷◌, map, length, get_or, Bool, true, false, ◌&&◌, cond, Option, Some, None, Less, Equal, Greater, nat_cmp, chars, IsUtf8, refl, sym, ap, ◌∙◌, arith, true≢false}
+use Rattle.std.proofs.Common.{◌≡◌, ◌⊎◌, inl, inr, ℕ, ◌+◌, ◌<◌, ◌≤◌, zero, suc, List, [], ◌∷◌, map, length, get_or, Bool, true, false, ◌&&◌, cond, Some, None, Less, Equal, Greater, nat_cmp, chars, IsUtf8, refl, sym, ap, ◌∙◌, arith, true≢false}
 use Rattle.std.proofs.lemmas.Bool.{and_parts, cases_lt}
 use Rattle.std.proofs.lemmas.Slice.Eq.{bytes_eq-Decides}
 use Rattle.std.proofs.Math.ListN.{length-map}
@@ -10,19 +10,14 @@ use Rattle.documents.specs.Json as J
 use Rattle.documents.specs.WellFormed as F
 use Rattle.documents.proofs.NameOrder.{comes_before-same, comes_before-trans}
 use Rattle.std.specs.Cmp.Lexicographic.{slice_cmp}
+use Rattle.js_doc.specs.declared.rising.Named.{Named}
+use Rattle.js_doc.specs.Names.{names_of, pairs_of}
+pub use Rattle.js_doc.specs.Names.{starts_after, rise, find_in}
 use Rattle.js_doc.proofs.Levels.{get_or-mapped}
 use Rattle.js_doc.proofs.Lookups.{same_word-bytes_eq}
 use Rattle.js_doc.proofs.WordOrder.{comes_before-chars, comes_after-chars, same_text}
 
 -- ---- names
-
-abbrev pub starts_after : List ℕ → List (List ℕ) → Bool
-starts_after k [] = true
-starts_after k (l ∷ ls) = comes_before k l
-
-abbrev pub rise : List (List ℕ) → Bool
-rise [] = true
-rise (k ∷ ks) = starts_after k ks && rise ks
 
 -- the first comes before all others
 before_all : (k : List ℕ) (ks : List (List ℕ)) → starts_after k ks ≡ true → rise ks ≡ true
@@ -62,10 +57,6 @@ all_after ks w i r within h k more inside = elim (cases_lt i k) [
 -- ---- members by their names, whatever they have
 
 module _ {A : Type 0} where
-  abbrev pub find_in : List ℕ → List (List ℕ × A) → Option A
-  find_in w [] = None
-  find_in w (m ∷ ms) = cond (same_word w m.0) (Some m.1) (find_in w ms)
-
   abbrev pub names : List (List ℕ × A) → List (List ℕ)
   names ms = map (λ m. m.0) ms
 
@@ -192,6 +183,11 @@ module _ {A B : Type 0} (f : B → List ℕ × A) (items : List B) (i : ℕ) (b 
   equal_found e =
       found_at (map f items) (chars name) i (f b) h.rises inside mapped
       (sym h.spelled ∙ ap chars (same_text text name (sym e)))
+
+-- the names of members are those of their pairs
+pub names-pairs_of : {T : Type 0} (ms : List (Named T)) → names (pairs_of ms) ≡ names_of ms
+names-pairs_of [] = refl
+names-pairs_of (m ∷ ms) = ap (λ l. m.name.text ∷ l) (names-pairs_of ms)
 
 -- every name comes before the one that is looked for, or after it
 module _ {A B : Type 0} (f : B → List ℕ × A) (items : List B) (name : List ℕ) (low high : ℕ) where

@@ -2,11 +2,9 @@
 use Rattle.std.specs.Prelude.{◌≡◌, ℕ, List, Bool, Option, Some, None, ℤ, int_lt, if◌then◌else◌}
 use Rattle.std.specs.List.{list_any, count_by}
 use Rattle.std.specs.List.Sorted.{IsSorted}
-use Rattle.std.specs.Ordering.{int_cmp, int_eq}
-
+use Rattle.std.specs.Ordering.{int_cmp}
 -- n is one of the values
-abbrev pub has : List ℤ → ℤ → Bool
-has values n = list_any (λ y. int_eq y n) values
+pub use Rattle.documents.specs.Numbers.{has}
 
 -- how many of the values are below n
 abbrev pub count_below : List ℤ → ℤ → ℕ

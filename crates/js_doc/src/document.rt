@@ -3,8 +3,9 @@
 ghost use Rattle.std.specs.Prelude.{◌≡◌, ◌<◌, true, map, length, get_or, option_map, chars};
 ghost use Rattle.documents.specs.Document.{items_of, members_of, elements, entries, lookup, names_rise};
 
+use crate::rising::{Named, Rising};
 use crate::text::Str;
-use std::cmp::Ordering;
+use crate::word::Word;
 
 /// A document. Numbers are whole and lie within 128 bits.
 #[cycle(document)]
@@ -13,7 +14,7 @@ pub enum Doc {
     Null,
     Bool(bool),
     Num(i128),
-    Text(Str),
+    Text(Word),
     List(DocList),
     Members(DocMap),
 }
@@ -26,18 +27,13 @@ pub struct DocList {
 }
 
 /// A member of an object.
-#[cycle(document)]
-#[derive(Drop)]
-pub struct Member {
-    name: Str,
-    value: Doc,
-}
+pub type Member = Named<Doc>;
 
 /// The members of an object, each name once, in ascending order of scalar values.
 #[cycle(document)]
 #[derive(Drop)]
 pub struct DocMap {
-    members: Vec<Member>,
+    members: Rising<Doc>,
 }
 
 impl DocList {
@@ -72,26 +68,27 @@ impl DocList {
     }
 }
 
-impl Member {
-    ghost use Rattle.js_doc.specs.declared.document.Member.{out-Member};
+impl Named<Doc> {
     ghost use Rattle.js_doc.specs.View.{view, member_view};
 
     pub fn new(name: Str, value: Doc) -> Member
         ensures { member_view result ≡ (name, view value) }
     {
-        Member { name, value }
+        Named {
+            name: Word::new(name),
+            value,
+        }
     }
 
     pub fn name(&self) -> &Str
         ensures view { result.now ≡ (member_view self.now).0 }
-        ensures held { result.now ≡ (out-Member self.now).name }
     {
-        &self.name
+        self.name.as_str()
     }
 
     pub fn value(&self) -> &Doc
         ensures view { view result.now ≡ (member_view self.now).1 }
-        ensures held { result.now ≡ (out-Member self.now).value }
+        ensures held { result.now ≡ self.now.value }
     {
         &self.value
     }
@@ -101,17 +98,20 @@ impl DocMap {
     ghost use Rattle.js_doc.specs.declared.document.DocMap.{out-DocMap};
     ghost use Rattle.js_doc.specs.View.{view, map_view, member_view};
 
-    /// The members must come in ascending order of their names; `is_document` of the view says so.
+    /// The members, which have to stand in ascending order of their names, each name once.
     pub fn from_vec(members: Vec<Member>) -> DocMap
+        requires { names_rise (members_of (map member_view members.items)) ≡ true }
         ensures { map_view result ≡ members_of (map member_view members.items) }
     {
-        DocMap { members }
+        DocMap {
+            members: Rising::from_vec(members),
+        }
     }
 
     /// The members. The clause `held` is for proofs that a recursion over them ends.
     pub fn as_slice(&self) -> &[Member]
         ensures view { members_of (map member_view result.now) ≡ map_view self.now }
-        ensures held { result.now ≡ (out-DocMap self.now).members.items }
+        ensures held { result.now ≡ (out-DocMap self.now).members.members.items }
     {
         self.members.as_slice()
     }
@@ -129,37 +129,10 @@ impl DocMap {
         &self.as_slice()[i]
     }
 
-    /// The value of the first member of that name, where there is one, for maps of which nothing is known. It looks
-    /// at one member after another; `find` is for maps whose names rise.
+    /// The value of the member of that name, where there is one. A binary search, logarithmic in the number of members.
     pub fn get(&self, name: &str) -> Option<&Doc>
         ensures { option_map (λ d. view d.now) result ≡ lookup (chars name.now) (map_view self.now) }
     {
-        for member in self.as_slice() {
-            if member.name().as_text() == name {
-                return Some(member.value());
-            }
-        }
-        None
-    }
-
-    /// The value of the member of that name, where there is one, by a binary search: for maps whose names are known
-    /// to rise, as those of a text and of a document do. Logarithmic in the number of members.
-    pub fn find(&self, name: &str) -> Option<&Doc>
-        requires { names_rise (map_view self.now) ≡ true }
-        ensures { option_map (λ d. view d.now) result ≡ lookup (chars name.now) (map_view self.now) }
-    {
-        let members = self.as_slice();
-        let mut low = 0;
-        let mut high = members.len();
-        while low < high {
-            let middle = low + (high - low) / 2;
-            let member = &members[middle];
-            match member.name().as_text().cmp(name) {
-                Ordering::Equal => return Some(member.value()),
-                Ordering::Less => low = middle + 1,
-                Ordering::Greater => high = middle,
-            }
-        }
-        None
+        self.members.get(name)
     }
 }

@@ -4,8 +4,9 @@ ghost use Rattle.std.specs.Prelude.{◌≡◌, ◌<◌, true, map, length, get_o
 ghost use Rattle.documents.specs.Json.{items_of, members_of, elements, entries, lookup};
 ghost use Rattle.documents.specs.WellFormed.{names_rise};
 
+use crate::rising::{Named, Rising};
 use crate::text::Str;
-use std::cmp::Ordering;
+use crate::word::Word;
 
 /// A JSON value. `NotWhole` stands for each number that is not held as a 64-bit integer.
 #[cycle(json)]
@@ -15,7 +16,7 @@ pub enum Json {
     Bool(bool),
     Num(i128),
     NotWhole,
-    Text(Str),
+    Text(Word),
     List(JsonList),
     Members(JsonMap),
 }
@@ -28,18 +29,13 @@ pub struct JsonList {
 }
 
 /// A member of an object.
-#[cycle(json)]
-#[derive(Drop)]
-pub struct JsonMember {
-    name: Str,
-    value: Json,
-}
+pub type JsonMember = Named<Json>;
 
 /// The members of an object, each name once, in ascending order of scalar values.
 #[cycle(json)]
 #[derive(Drop)]
 pub struct JsonMap {
-    members: Vec<JsonMember>,
+    members: Rising<Json>,
 }
 
 impl JsonList {
@@ -74,26 +70,27 @@ impl JsonList {
     }
 }
 
-impl JsonMember {
-    ghost use Rattle.js_doc.specs.declared.json.JsonMember.{out-JsonMember};
+impl Named<Json> {
     ghost use Rattle.js_doc.specs.JsonView.{view, member_view};
 
     pub fn new(name: Str, value: Json) -> JsonMember
         ensures { member_view result ≡ (name, view value) }
     {
-        JsonMember { name, value }
+        Named {
+            name: Word::new(name),
+            value,
+        }
     }
 
     pub fn name(&self) -> &Str
         ensures view { result.now ≡ (member_view self.now).0 }
-        ensures held { result.now ≡ (out-JsonMember self.now).name }
     {
-        &self.name
+        self.name.as_str()
     }
 
     pub fn value(&self) -> &Json
         ensures view { view result.now ≡ (member_view self.now).1 }
-        ensures held { result.now ≡ (out-JsonMember self.now).value }
+        ensures held { result.now ≡ self.now.value }
     {
         &self.value
     }
@@ -103,17 +100,20 @@ impl JsonMap {
     ghost use Rattle.js_doc.specs.declared.json.JsonMap.{out-JsonMap};
     ghost use Rattle.js_doc.specs.JsonView.{view, map_view, member_view};
 
-    /// The members must come in ascending order of their names.
+    /// The members, which have to stand in ascending order of their names, each name once.
     pub fn from_vec(members: Vec<JsonMember>) -> JsonMap
+        requires { names_rise (members_of (map member_view members.items)) ≡ true }
         ensures { map_view result ≡ members_of (map member_view members.items) }
     {
-        JsonMap { members }
+        JsonMap {
+            members: Rising::from_vec(members),
+        }
     }
 
     /// The members. The clause `held` is for proofs that a recursion over them ends.
     pub fn as_slice(&self) -> &[JsonMember]
         ensures view { members_of (map member_view result.now) ≡ map_view self.now }
-        ensures held { result.now ≡ (out-JsonMap self.now).members.items }
+        ensures held { result.now ≡ (out-JsonMap self.now).members.members.items }
     {
         self.members.as_slice()
     }
@@ -131,37 +131,10 @@ impl JsonMap {
         &self.as_slice()[i]
     }
 
-    /// The value of the first member of that name, where there is one, for maps of which nothing is known. It looks
-    /// at one member after another; `find` is for maps whose names rise.
+    /// The value of the member of that name, where there is one. A binary search, logarithmic in the number of members.
     pub fn get(&self, name: &str) -> Option<&Json>
         ensures { option_map (λ j. view j.now) result ≡ lookup (chars name.now) (map_view self.now) }
     {
-        for member in self.as_slice() {
-            if member.name().as_text() == name {
-                return Some(member.value());
-            }
-        }
-        None
-    }
-
-    /// The value of the member of that name, where there is one, by a binary search: for maps whose names are known
-    /// to rise, as those of a text and of a document do. Logarithmic in the number of members.
-    pub fn find(&self, name: &str) -> Option<&Json>
-        requires { names_rise (map_view self.now) ≡ true }
-        ensures { option_map (λ j. view j.now) result ≡ lookup (chars name.now) (map_view self.now) }
-    {
-        let members = self.as_slice();
-        let mut low = 0;
-        let mut high = members.len();
-        while low < high {
-            let middle = low + (high - low) / 2;
-            let member = &members[middle];
-            match member.name().as_text().cmp(name) {
-                Ordering::Equal => return Some(member.value()),
-                Ordering::Less => low = middle + 1,
-                Ordering::Greater => high = middle,
-            }
-        }
-        None
+        self.members.get(name)
     }
 }

@@ -1,8 +1,12 @@
 //! Owned texts, seen as their scalar values, and the fault of memory that was refused.
 
-ghost use Rattle.std.specs.Prelude.{◌≡◌, IfOk, chars, encode_utf8_all, string_bytes};
+ghost use Rattle.std.specs.Prelude.{◌≡◌, IfOk, chars, encode_utf8_all, nat_eq, string_bytes};
+ghost use Rattle.std.specs.Cmp.{partial_equiv_from_equiv};
+ghost use Rattle.std.specs.Cmp.Lexicographic.{bytes_decides, nat_list_eq_equiv, pointwise};
+ghost use Rattle.std.specs.Hash as fed;
 
 use std::alloc::{AllocError, AllocFailed, Global};
+use std::hash::{Hash, Hasher};
 use std::marker::Model;
 
 /// Memory was asked for and refused. No call says when: every other answer has a cause of its own.
@@ -64,5 +68,40 @@ impl Str {
         ensures { IfOk result (λ s. s ≡ self.now) }
     {
         Str::from_text(alloc, self.as_text())
+    }
+}
+
+impl Clone for Str {
+    ghost is_clone = { λ s t. t ≡ s };
+
+    fn clone(&self) -> Result<Str, AllocError> {
+        Ok(Str {
+            text: self.text.clone()?,
+        })
+    }
+}
+
+/// Texts are equal where their scalar values are.
+impl PartialEq for Str {
+    ghost eq = { pointwise nat_eq };
+
+    ghost laws = { partial_equiv_from_equiv nat_list_eq_equiv };
+
+    fn eq(&self, other: &Str) -> bool {
+        self.as_text() == other.as_text()
+    }
+}
+
+impl Eq for Str {
+    ghost laws = { nat_list_eq_equiv };
+}
+
+impl Hash for Str {
+    ghost hash_input = { λ s. fed.str (encode_utf8_all s) };
+
+    ghost respects_eq = { (fed.same_Alike (λ s. fed.str (encode_utf8_all s)) bytes_decides).fed };
+
+    fn hash<H: Hasher>(&self, state: &mut H) {
+        self.as_text().hash(state);
     }
 }

@@ -3,5 +3,7 @@
 pub mod SchemaReading
 pub mod DocumentReading
 pub mod ToldTwice
+-- In which order the files of a command are begun.
+pub mod OrderOfFiles
 -- What the calls answer, on bytes and on files of a shelf.
 pub mod Saying

@@ -3,8 +3,7 @@
 //! The length comes first, then the line `document`, which a file need not have, then the JSON text after it, and then
 //! the first number that isn't whole.
 
-ghost use Rattle.std.specs.Prelude.{◌≡◌, IfOk, true};
-ghost use Rattle.documents.specs.WellFormed.{is_json};
+ghost use Rattle.std.specs.Prelude.{◌≡◌, IfOk};
 ghost use Rattle.js_doc.specs.JsonView.{view};
 ghost use Rattle.js_input.specs.DocumentReading.{json_text};
 ghost use Rattle.js_input.specs.Saying.{DocumentSays, DocumentValueSays};
@@ -54,7 +53,6 @@ fn json_text(bytes: &[u8]) -> &[u8]
 }
 
 fn read_value(alloc: Global, json: &Json) -> Result<DocumentInput, Memory>
-    requires { is_json (view json.now) ≡ true }
     ensures { IfOk result (DocumentValueSays (view json.now)) }
 {
     match to_doc(alloc, json) {

@@ -1,6 +1,6 @@
 //! Files of a shelf as schemas and documents.
 
-ghost use Rattle.std.specs.Prelude.{◌≡◌, IfOk, OnErr};
+ghost use Rattle.std.specs.Prelude.{◌≡◌, [], ◌∷◌, ◌++◌, IfOk, OnErr, encode_utf8_all};
 ghost use Rattle.js_input.specs.Saying.{LoadsSchema, LoadsDocument};
 
 use crate::document::{DocumentInput, read_document_bytes};
@@ -19,6 +19,7 @@ pub fn load_schema<H: Shelf>(
     ensures told { H.told shelf.new ≡ H.told shelf.old }
     ensures says { IfOk result (LoadsSchema (H.told shelf.old) name.now (H.faults shelf.old) (H.faults shelf.new)) }
     ensures memory { OnErr result (H.faults shelf.new ≡ H.faults shelf.old) }
+    ensures begun { H.begun shelf.new ≡ H.begun shelf.old ++ encode_utf8_all name.now ∷ [] }
 {
     match read_file(alloc, shelf, name.as_text()) {
         Ok(bytes) => Ok(Some(read_schema_bytes(alloc, bytes.as_slice())?)),
@@ -40,6 +41,7 @@ pub fn load_document<H: Shelf>(
     ensures told { H.told shelf.new ≡ H.told shelf.old }
     ensures says { IfOk result (LoadsDocument (H.told shelf.old) name.now (H.faults shelf.old) (H.faults shelf.new)) }
     ensures memory { OnErr result (H.faults shelf.new ≡ H.faults shelf.old) }
+    ensures begun { H.begun shelf.new ≡ H.begun shelf.old ++ encode_utf8_all name.now ∷ [] }
 {
     match read_file(alloc, shelf, name.as_text()) {
         Ok(bytes) => Ok(Some(read_document_bytes(alloc, bytes.as_slice())?)),

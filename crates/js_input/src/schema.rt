@@ -3,8 +3,7 @@
 //! The length comes first, then the JSON text, then the first fault of the schema, and then the cycle of entries that
 //! are asked of the same document.
 
-ghost use Rattle.std.specs.Prelude.{◌≡◌, ℕ, ◌<◌, true, length, get_or, IfOk, string_bytes};
-ghost use Rattle.documents.specs.WellFormed.{is_json};
+ghost use Rattle.std.specs.Prelude.{◌≡◌, ℕ, ◌<◌, length, get_or, IfOk, string_bytes};
 ghost use Rattle.js_doc.specs.JsonView.{view};
 ghost use Rattle.js_schema.specs.SchemaView.{schema_view};
 ghost use Rattle.js_input.specs.SchemaReading.{cycle_words};
@@ -48,7 +47,6 @@ pub fn read_schema_bytes(alloc: Global, bytes: &[u8]) -> Result<SchemaInput, Mem
 }
 
 fn read_value(alloc: Global, json: &Json) -> Result<SchemaInput, Memory>
-    requires { is_json (view json.now) ≡ true }
     ensures { IfOk result (ValueSays (view json.now)) }
 {
     match read_schema(alloc, json) {

@@ -1,18 +1,15 @@
 -- Data whose texts are UTF-8, with members in order: what of_json gives of such JSON, and what its value is.
-use Rattle.std.proofs.Common.{◌≡◌, ℕ, List, [], ◌∷◌, Bool, true, false, ◌&&◌, ◌||◌, cond, nat_lt, Option, Some, None, option_map, option_and_then, Ordering, Less, Equal, Greater, nat_cmp, chars, IsUtf8, refl, ap, ◌∙◌}
-use Rattle.std.proofs.lemmas.Bool.{and_parts}
+use Rattle.std.proofs.Common.{◌≡◌, ℕ, List, Bool, true, ◌&&◌, Option, Some, None, option_map, option_and_then, Ordering, Less, Equal, Greater, nat_cmp, chars, IsUtf8, refl, ap, ◌∙◌}
 use Rattle.std.proofs.lemmas.Cmp.{nat_list_cmp_total}
-use Rattle.std.proofs.lemmas.Str.{scalars-chars}
 use Rattle.std.specs.Cmp.Lexicographic.{slice_cmp}
 use Rattle.std.specs.Ordering.{match_ordering, ordering_reverse}
-use Rattle.std.specs.Str.{all_scalars}
 use Rattle.json.specs.Json as T
 use Rattle.serde_json.specs.Data as Num
 use Rattle.serde_json.specs.Data.{Num as AnyNum, Data, null, boolean, number, string, array, object, Items, no_items, item, Members, no_members, member, put}
 use Rattle.serde_json.specs.Read.{number_of, of_json, of_items, of_members}
-use Rattle.documents.specs.Tests.{every, is_scalar}
 use Rattle.js_json.specs.Value.{json_of, json_items, json_members, json_number}
 use Rattle.documents.specs.WellFormed.{is_json, are_items, are_members, is_before}
+use Rattle.js_doc.proofs.Scalars.{every-chars}
 use Rattle.js_doc.proofs.WordOrder.{comes_before-chars}
 
 -- what there is, if anything, is so
@@ -139,20 +136,6 @@ mutual
 
 all : (a b : Bool) → a ≡ true → b ≡ true → (a && b) ≡ true
 all a b p q = rw (p, q) refl
-
-is_scalar-at : (low : Bool) (rest : Bool) → cond low true rest ≡ true → (low || rest) ≡ true
-is_scalar-at true rest h = refl
-is_scalar-at false rest h = h
-
-every-is_scalar : (cs : List ℕ) → all_scalars cs ≡ true → every is_scalar cs ≡ true
-every-is_scalar [] h = refl
-every-is_scalar (c ∷ cs) h =
-    let p = and_parts _ _ h in
-    all (is_scalar c) (every is_scalar cs)
-    (is_scalar-at (nat_lt c 55296) (nat_lt 57343 c && nat_lt c 1114112) p.0) (every-is_scalar cs p.1)
-
-every-chars : (s : List ℕ) → IsUtf8 s → every is_scalar (chars s) ≡ true
-every-chars s u = every-is_scalar (chars s) (scalars-chars s u)
 
 is_json-json_number : (n : AnyNum) → is_json (json_number n) ≡ true
 is_json-json_number (Num.unsigned n) = refl

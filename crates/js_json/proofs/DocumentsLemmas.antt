@@ -1,22 +1,20 @@
 -- Documents as JSON values, and the first place of a number that isn't whole, list by list.
-use Rattle.std.proofs.Common.{◌≡◌, ℕ, ◌+◌, ◌<◌, List, [], ◌∷◌, ◌++◌, map, reverse, length, take, drop, drop-cons, add-one, get_or, decimal, Some, true, Result, Ok, Err, IfOk, refl, sym, ap, ◌∙◌}
+use Rattle.std.proofs.Common.{◌≡◌, ℕ, ◌+◌, ◌<◌, List, [], ◌∷◌, ◌++◌, map, reverse, length, take, drop, drop-cons, add-one, get_or, decimal, Some, true, refl, sym, ap, ◌∙◌}
 use Rattle.std.specs.List.{slice_get}
 use Rattle.std.proofs.lemmas.List.{reverse-append, take_more, map_push}
 use Rattle.documents.specs.Document as D
 use Rattle.documents.specs.Json as J
 use Rattle.js_doc.specs.declared.document.Doc.{Doc}
-use Rattle.js_doc.specs.declared.document.Member.{Member}
+use Rattle.js_doc.specs.declared.rising.Named.{Named}
 use Rattle.js_doc.specs.declared.json.Json.{Json}
-use Rattle.js_doc.specs.declared.json.JsonMember.{JsonMember}
 use Rattle.js_doc.specs.View as V
 use Rattle.js_doc.specs.JsonView as W
 use Rattle.documents.specs.WellFormed as F
-use Rattle.js_json.specs.declared.fault.JsonFault.{JsonFault}
-use Rattle.js_json.specs.Making.{MakesOrTells}
+use Rattle.documents.proofs.Rising.{names_rise-document_members}
 use Rattle.js_json.specs.Documents.{json_of_document, json_of_items, json_of_members, unwhole_places, places_in_items, places_in_members}
 
 -- a document's member as a JSON value's
-abbrev pub json_of_member : Member → List ℕ × J.Json
+abbrev pub json_of_member : Named Doc → List ℕ × J.Json
 json_of_member m = ((V.member_view m).0, json_of_document (V.member_view m).1)
 
 pub json_of_items-items_of : (ds : List Doc)
@@ -24,7 +22,7 @@ pub json_of_items-items_of : (ds : List Doc)
 json_of_items-items_of [] = refl
 json_of_items-items_of (d ∷ ds) = ap (J.item (json_of_document (V.view d))) (json_of_items-items_of ds)
 
-pub json_of_members-members_of : (ms : List Member)
+pub json_of_members-members_of : (ms : List (Named Doc))
     → json_of_members (D.members_of (map V.member_view ms)) ≡ J.members_of (map json_of_member ms)
 json_of_members-members_of [] = refl
 json_of_members-members_of (m ∷ ms) =
@@ -75,7 +73,7 @@ pub places_in_items-drop : (items : List Json) (i : ℕ) (item : Json) → i < l
     ++ places_in_items (i + 1) (J.items_of (map W.view (drop (i + 1) items)))
 places_in_items-drop items i item within is = rw (drop-cons items i item, ← is, add-one) refl
 
-pub places_in_members-drop : (members : List JsonMember) (i : ℕ) (member : JsonMember) → i < length members
+pub places_in_members-drop : (members : List (Named Json)) (i : ℕ) (member : Named Json) → i < length members
     → member ≡ get_or members i member
     → places_in_members (J.members_of (map W.member_view (drop i members)))
     ≡ map (λ p. (W.member_view member).0 ∷ p) (unwhole_places (W.member_view member).1)
@@ -92,8 +90,10 @@ module _ {A B C : Type 0} (f : A → C) (g : B → C) where
       let both : map f made ++ f x ∷ [] ≡ map g (take i items) ++ g item ∷ [] = rw (before, same) refl in
       ap (map f) grown ∙ map_push f made x ∙ both ∙ sym (ap (map g) taken ∙ map_push g (take i items) item)
 
--- a document is well formed where the value is
-pub is_document-made : (j : J.Json) (r : Result Doc JsonFault) → MakesOrTells j r
-    → IfOk r (λ d. F.is_json j ≡ true → D.is_document (V.view d) ≡ true)
-is_document-made j (Ok d) made = λ h. sym (is_json-json_of (V.view d)) ∙ ap F.is_json made.0 ∙ h
-is_document-made j (Err e) made = tt
+-- the names of the members that are made rise where those of the value do
+pub names_rise-made : (made : List (Named Doc)) (ms : J.Members) → J.members_of (map json_of_member made) ≡ ms
+    → F.are_members ms ≡ true → D.names_rise (D.members_of (map V.member_view made)) ≡ true
+names_rise-made made ms is h =
+    let members = D.members_of (map V.member_view made) in
+    names_rise-document_members members
+    (sym (are_members-json_of members) ∙ ap F.are_members (json_of_members-members_of made ∙ is) ∙ h)

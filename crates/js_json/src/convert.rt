@@ -8,7 +8,7 @@ ghost use Rattle.serde_json.specs.View as read;
 ghost use Rattle.js_doc.specs.JsonView.{view, list_view, map_view};
 ghost use Rattle.js_json.specs.Value.{json_of, json_items, json_members, json_number};
 
-use js_doc::{Json, JsonList, JsonMap, JsonMember, Memory, Str};
+use js_doc::{Json, JsonList, JsonMap, JsonMember, Memory, Str, Word};
 use serde_json::{Map, Number, Value};
 use std::alloc::Global;
 
@@ -21,7 +21,7 @@ pub(crate) fn convert(alloc: Global, value: &Value) -> Result<Json, Memory>
         Value::Null => Ok(Json::Null),
         Value::Bool(b) => Ok(Json::Bool(*b)),
         Value::Number(n) => Ok(whole(n)),
-        Value::String(text) => Ok(Json::Text(Str::from_text(alloc, text.as_str())?)),
+        Value::String(text) => Ok(Json::Text(Word::new(Str::from_text(alloc, text.as_str())?))),
         Value::Array(items) => Ok(Json::List(convert_items(alloc, items)?)),
         Value::Object(members) => Ok(Json::Members(convert_members(alloc, members)?)),
     }

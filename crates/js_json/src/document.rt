@@ -3,11 +3,9 @@
 //! A document is the value itself, where each number in it is whole; else the first number that isn't is told. It
 //! takes memory and time in proportion to the value, and nests as deep. What reads documents stands on it.
 
-ghost use Rattle.std.specs.Prelude.{◌≡◌, ◌≢◌, ◌∷◌, ◌++◌, [], ℕ, List, IfOk, OnOk, Err, Some, true, map, decimal, slice_get};
-ghost use Rattle.documents.specs.Document.{is_document};
+ghost use Rattle.std.specs.Prelude.{◌≡◌, ◌≢◌, ◌∷◌, ◌++◌, [], ℕ, List, IfOk, OnOk, Err, Some, map, decimal, slice_get};
 ghost use Rattle.js_doc.specs.View as doc;
 ghost use Rattle.js_doc.specs.JsonView.{view, list_view, map_view};
-ghost use Rattle.documents.specs.WellFormed.{is_json};
 ghost use Rattle.js_json.specs.Documents.{json_of_document, unwhole_places};
 ghost use Rattle.js_json.specs.Making.{TellsFirst, MakesOrTells, MakesItemsOrTells, MakesMembersOrTells};
 
@@ -19,7 +17,6 @@ use std::alloc::Global;
 /// The document that `json` is. A number that isn't whole is in none, and the first one is told.
 pub fn to_doc(alloc: Global, json: &Json) -> Result<Doc, JsonFault>
     ensures document { IfOk result (λ d. json_of_document (doc.view d) ≡ view json.now) }
-    ensures well_formed { IfOk result (λ d. is_json (view json.now) ≡ true → is_document (doc.view d) ≡ true) }
     ensures whole { OnOk result (unwhole_places (view json.now) ≡ []) }
     ensures not_whole { (place : List (List ℕ)) → result ≡ Err (JsonFault.NotWhole place)
         → slice_get (unwhole_places (view json.now)) 0 ≡ Some place }

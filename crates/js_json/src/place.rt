@@ -1,23 +1,21 @@
 //! The value at a place of a JSON value (RFC 6901, section 4).
 //!
 //! Each token of a pointer takes one look-up: an element by its index, a member by a binary search among the names of
-//! its object, which rise in every value of a text. No memory is taken.
+//! its object. No memory is taken.
 
-ghost use Rattle.std.specs.Prelude.{◌≡◌, ◌^◌, ◌≤◌, ℕ, true, Some, MatchOption, option_map, chars};
+ghost use Rattle.std.specs.Prelude.{◌≡◌, ◌^◌, ◌≤◌, ℕ, Some, MatchOption, option_map, chars};
 ghost use Rattle.std.specs.Char.{is_ascii_digit};
 ghost use Rattle.std.specs.List.{list_all};
 ghost use Rattle.documents.specs.Json as D;
 ghost use Rattle.js_doc.specs.JsonView.{view, list_view};
 ghost use Rattle.documents.specs.Place as place;
-ghost use Rattle.documents.specs.WellFormed.{is_json};
 
 use crate::pointer::Pointer;
 use js_doc::{Json, JsonList};
 
-/// The value that `pointer` leads to, and None exactly where there is no such place. `json` is the value of a text, as
-/// `read_json` gives it. Linear in the pointer, times the logarithm of the number of members on the way.
+/// The value that `pointer` leads to, and None exactly where there is no such place. Linear in the pointer, times the
+/// logarithm of the number of members on the way.
 pub fn at_pointer<'a>(json: &'a Json, pointer: &Pointer) -> Option<&'a Json>
-    requires { is_json (view json.now) ≡ true }
     ensures { option_map (λ j. view j.now) result ≡ place.value_at pointer.now (view json.now) }
 {
     let tokens = pointer.tokens();
@@ -30,11 +28,10 @@ pub fn at_pointer<'a>(json: &'a Json, pointer: &Pointer) -> Option<&'a Json>
 
 /// The element or member that `token` names.
 fn child<'a>(json: &'a Json, token: &str) -> Option<&'a Json>
-    requires { is_json (view json.now) ≡ true }
     ensures { option_map (λ j. view j.now) result ≡ place.child_at (chars token.now) (view json.now) }
 {
     match json {
-        Json::Members(members) => members.find(token),
+        Json::Members(members) => members.get(token),
         Json::List(list) => element(list, token),
         _ => None,
     }

@@ -3,8 +3,7 @@
 //! A reference is cut at its first `#`: what stands before says which file, and the fragment after it is a pointer
 //! into this one. It takes time in proportion to the text, and a look-up for each token.
 
-ghost use Rattle.std.specs.Prelude.{◌≡◌, true, chars, option_map};
-ghost use Rattle.documents.specs.WellFormed.{is_json};
+ghost use Rattle.std.specs.Prelude.{◌≡◌, chars, option_map};
 ghost use Rattle.js_doc.specs.JsonView.{view};
 ghost use Rattle.js_json.specs.Reference as refers;
 
@@ -23,7 +22,6 @@ pub fn target(
     text: &str,
     root_id: Option<&str>,
 ) -> Result<Pointer, RefFault>
-    requires { is_json (view json.now) ≡ true }
     ensures { refers.Answers
         (refers.target_of (view json.now) (chars text.now) (option_map (λ id. chars id.now) root_id.entry)) result }
 {

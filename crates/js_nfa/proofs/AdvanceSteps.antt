@@ -4,7 +4,7 @@ use Rattle.std.proofs.Math.Bool.{or_assoc, or-false}
 use Rattle.std.specs.Option.{is_none}
 use Rattle.patterns.specs.CharSet.{has}
 use Rattle.patterns.specs.Tree.{Tree, Trees, empty, one_of, at_start, at_end, in_turn, either, repeated, no_trees, tree, trees_of}
-use Rattle.words.specs.Position.{count_of, count_in, copies}
+use Rattle.word_states.specs.Position.{count_of, count_in, copies}
 use Rattle.state_laws.specs.Flow.{ends_here, ends_here_in_turn, ends_here_of_one, next_copies, next_copies_on, reads_next, reads_next_in_turn, reads_next_of_one}
 use Rattle.js_pattern.specs.declared.re.Re.{Re}
 use Rattle.js_pattern.specs.View.{view}

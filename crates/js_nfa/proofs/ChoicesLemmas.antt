@@ -13,7 +13,7 @@ use Rattle.std.proofs.lemmas.Nat.{pow-add, shl_whole}
 use Rattle.std.proofs.lemmas.Nat.Bits.{bit_at_cat_low, bit_at_cat_high}
 use Rattle.patterns.specs.CharSet.{has}
 use Rattle.patterns.specs.Tree.{Trees, one_of, either, repeated, tree, trees_of}
-use Rattle.words.specs.Position.{count_in, copies}
+use Rattle.word_states.specs.Position.{count_in, copies}
 use Rattle.state_laws.specs.Flow.{ends_here, ends_here_of_one, reads_next, reads_next_of_one}
 use Rattle.js_pattern.specs.declared.re.Re.{Re}
 use Rattle.js_pattern.specs.View.{view}

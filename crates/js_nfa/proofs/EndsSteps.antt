@@ -2,7 +2,7 @@
 use Rattle.std.proofs.Common.{◌≡◌, ℕ, suc, ◌+◌, ◌-◌, ◌*◌, ◌<◌, ◌≤◌, Bool, false, ◌&&◌, ◌||◌, nat_eq, nat_le, if◌then◌else◌, Option, sym, ◌∙◌, ap, arith}
 use Rattle.std.proofs.Math.Nat.{mul-le-mul_right}
 use Rattle.patterns.specs.Tree.{Tree, repeated}
-use Rattle.words.specs.Position.{count_of, copies}
+use Rattle.word_states.specs.Position.{count_of, copies}
 use Rattle.state_laws.specs.Flow.{ends_here}
 use Rattle.js_nfa.specs.Walk.{Quiet, ends_after}
 use Rattle.js_nfa.proofs.Through.{ends_repeated, ends_still}

@@ -3,7 +3,7 @@ use Rattle.std.proofs.Common.{◌≡◌, ℕ, zero, suc, ◌+◌, ◌<◌, Bool,
 use Rattle.std.specs.List.{fold}
 use Rattle.std.specs.Hash as fed
 use Rattle.std.proofs.lemmas.List.Sums.{fold-append}
-use Rattle.words.specs.PatternState.{numbers_from}
+use Rattle.word_states.specs.PatternState.{numbers_from}
 use Rattle.state_laws.specs.Flow.{flag_at}
 use Rattle.js_nfa.specs.Fed.{fed_places}
 

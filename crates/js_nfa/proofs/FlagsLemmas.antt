@@ -2,7 +2,7 @@
 use Rattle.std.proofs.Common.{◌≡◌, ℕ, zero, suc, ◌<◌, ◌≤◌, ◌⊎◌, inl, inr, max, Bool, true, false, not, List, [], ◌∷◌, length, refl, sym, ◌∙◌, ap, zero-add, arith}
 use Rattle.std.proofs.lemmas.Bool.{cases_lt}
 use Rattle.std.specs.Bool.{beq}
-use Rattle.words.specs.PatternState.{numbers_from}
+use Rattle.word_states.specs.PatternState.{numbers_from}
 use Rattle.state_laws.proofs.Flags.{numbers_flag}
 use Rattle.state_laws.specs.Flow.{flag_at, is_among}
 

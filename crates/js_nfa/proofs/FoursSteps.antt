@@ -4,8 +4,8 @@
 use Rattle.std.proofs.Common.{◌≡◌, ℕ, zero, suc, ◌+◌, ◌-◌, ◌*◌, ◌/◌, ◌%◌, ◌<◌, ◌≤◌, Bool, true, false, if◌then◌else◌, eqb, List, [], ◌∷◌, length, refl, sym, ◌∙◌, ap, ap₂, arith}
 use Rattle.std.proofs.Math.Bool.{or_assoc}
 use Rattle.std.specs.Int.{bit_at}
-use Rattle.flow_laws.specs.Rows.{or_each}
-use Rattle.flow_laws.proofs.RowsLemmas.{or_each_none}
+use Rattle.state_laws.specs.Rows.{or_each}
+use Rattle.state_laws.proofs.RowsLemmas.{or_each_none}
 use Rattle.js_nfa.specs.Marks.{Marks}
 use Rattle.js_nfa.specs.Rows.{row, HaveAtMost, AreFours, chosen_rows, four_bits, choice_at, by_fours}
 use Rattle.js_nfa.proofs.RowsSteps.{row-past, joined}

@@ -7,7 +7,7 @@ use Rattle.std.proofs.lemmas.Bool.{le-leb}
 use Rattle.std.proofs.lemmas.List.{length-replicate, get_or-replicate, replicate-append-replicate}
 use Rattle.std.proofs.lemmas.Nat.Bits.{bit_at_ones, ones_shr}
 use Rattle.patterns.specs.Tree.{Tree, repeated}
-use Rattle.words.specs.Position.{count_of}
+use Rattle.word_states.specs.Position.{count_of}
 use Rattle.state_laws.specs.Flow.{ends_here, reads_next}
 use Rattle.js_nfa.specs.Bits.{flags_of}
 use Rattle.js_nfa.specs.Walk.{ends_after, next_after, some_in}

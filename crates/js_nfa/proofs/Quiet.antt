@@ -4,7 +4,7 @@ use Rattle.std.proofs.Math.Bool.{and-false, or-false}
 use Rattle.std.proofs.lemmas.List.{replicate-append-replicate}
 use Rattle.std.specs.Option.{is_none}
 use Rattle.patterns.specs.Tree.{Tree, Trees, empty, one_of, at_start, at_end, in_turn, either, repeated, no_trees, tree}
-use Rattle.words.specs.Position.{count_of, count_in, copies}
+use Rattle.word_states.specs.Position.{count_of, count_in, copies}
 use Rattle.state_laws.specs.Flow.{ends_here, ends_here_in_turn, ends_here_of_one, reads_next, reads_next_in_turn, reads_next_of_one}
 use Rattle.js_nfa.specs.Walk.{Quiet, begins_with, ends_after, next_after}
 use Rattle.js_nfa.proofs.Through.{ends_repeated, reads_repeated}

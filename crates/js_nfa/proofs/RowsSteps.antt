@@ -8,12 +8,12 @@ use Rattle.std.proofs.Math.Bool.{or_assoc}
 use Rattle.std.proofs.lemmas.List.{take_more, get_or_read}
 use Rattle.std.proofs.lemmas.Bool.{eq-eqb, ne_eqb, cases_eq, cases_lt}
 use Rattle.patterns.specs.Tree.{Tree}
-use Rattle.words.specs.Position.{count_of, sets_of}
+use Rattle.word_states.specs.Position.{count_of, sets_of}
 use Rattle.state_laws.specs.Flow.{flag_at, ends_here, reads_next}
-use Rattle.flow_laws.specs.Rows.{or_each, and_each, sets_have, none_read, only, may_follow, follow_each, ends_each}
-use Rattle.flow_laws.proofs.RowsLemmas.{or_nothing, or_true, and_joined, or_each_none, flags_join}
-use Rattle.flow_laws.proofs.Sets.{next_asks_sets}
-use Rattle.flow_laws.proofs.Each.{ends_of_each, next_of_each}
+use Rattle.state_laws.specs.Rows.{or_each, and_each, sets_have, none_read, only, may_follow, follow_each, ends_each}
+use Rattle.state_laws.proofs.RowsLemmas.{or_nothing, or_true, and_joined, or_each_none, flags_join}
+use Rattle.state_laws.proofs.Sets.{next_asks_sets}
+use Rattle.state_laws.proofs.Each.{ends_of_each, next_of_each}
 use Rattle.js_nfa.specs.Marks.{Marks}
 use Rattle.js_nfa.specs.Both.{some_both}
 use Rattle.js_nfa.specs.Rows.{row, HaveLength, is_shown, is_in_some}

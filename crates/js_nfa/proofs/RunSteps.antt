@@ -5,7 +5,7 @@ use Rattle.std.proofs.lemmas.Bool.{lt-leb, le-leb}
 use Rattle.std.specs.Option.{is_none, is_some}
 use Rattle.patterns.specs.CharSet.{has}
 use Rattle.patterns.specs.Tree.{one_of, repeated}
-use Rattle.words.specs.Position.{copies}
+use Rattle.word_states.specs.Position.{copies}
 use Rattle.state_laws.specs.Flow.{ends_here, reads_next}
 use Rattle.js_nfa.specs.Walk.{ends_after, next_after, some_in, copies_begun}
 use Rattle.js_nfa.proofs.Through.{reads_repeated}

@@ -9,8 +9,8 @@ use Rattle.std.proofs.lemmas.Bool.{cases_lt}
 use Rattle.std.proofs.lemmas.Nat.{and_le_l}
 use Rattle.std.proofs.lemmas.Nat.Bits.{bit_at-zero, bit_at-trailing_zeros, same_from_bits_below, bit_at-lt, bit_at_or, bit_at_and}
 use Rattle.state_laws.specs.Flow.{flag_at}
-use Rattle.flow_laws.specs.Rows.{or_each, and_each}
-use Rattle.flow_laws.proofs.RowsLemmas.{or_nothing, or_true, flags_join}
+use Rattle.state_laws.specs.Rows.{or_each, and_each}
+use Rattle.state_laws.proofs.RowsLemmas.{or_nothing, or_true, flags_join}
 use Rattle.js_nfa.specs.Marks.{Marks}
 use Rattle.js_nfa.specs.Bits.{bit_of, flags_of}
 use Rattle.js_nfa.specs.Both.{some_both}

@@ -7,7 +7,7 @@ use Rattle.patterns.specs.Match.{IsFoundIn}
 use Rattle.pattern_laws.proofs.Decides.{finds-decides}
 use Rattle.patterns.specs.Tree.{Tree}
 use Rattle.patterns.specs.Decision.{finds, is_empty}
-use Rattle.words.specs.PatternState.{PatternState, done, reading, numbers_from, pattern_state}
+use Rattle.word_states.specs.PatternState.{PatternState, done, reading, numbers_from, pattern_state}
 use Rattle.state_laws.specs.Flow.{flag_at, is_among, ends_here, reads_next, state_with, next_state, is_accepted}
 use Rattle.js_nfa.specs.View.{after, state_of}
 use Rattle.state_laws.proofs.Flags.{numbers_flag}

@@ -6,7 +6,7 @@ use Rattle.std.proofs.lemmas.Bool.{le-leb, lt-leb, lt-ltb, ltb-true, ltb-false, 
 use Rattle.std.proofs.lemmas.Bool.Decides.{nat_tests}
 use Rattle.std.specs.Option.{is_none}
 use Rattle.patterns.specs.Tree.{Tree, Trees, empty, one_of, at_start, at_end, in_turn, either, repeated, no_trees, tree}
-use Rattle.words.specs.Position.{count_of, count_in, copies}
+use Rattle.word_states.specs.Position.{count_of, count_in, copies}
 use Rattle.state_laws.specs.Flow.{through_some, through_copies, through_copies_on, ends_here, ends_here_in_turn, ends_here_of_one, next_copies, next_copies_on, reads_next}
 use Rattle.js_nfa.specs.Walk.{ends_after, begins_with, next_after}
 

@@ -1,9 +1,9 @@
 -- What rows say of a tree.
 use Rattle.std.specs.Prelude.{◌≡◌, ℕ, ◌/◌, ◌<◌, Bool, true, false, ◌||◌, length}
 use Rattle.patterns.specs.Tree.{Tree}
-use Rattle.words.specs.Position.{count_of}
+use Rattle.word_states.specs.Position.{count_of}
 use Rattle.state_laws.specs.Flow.{flag_at, ends_here, reads_next}
-use Rattle.flow_laws.specs.Rows.{and_each}
+use Rattle.state_laws.specs.Rows.{and_each}
 use Rattle.js_nfa.specs.Both.{some_both}
 use Rattle.js_nfa.specs.Rows.{row, by_fours}
 use Rattle.js_nfa.specs.declared.rows.Rows.{Rows}

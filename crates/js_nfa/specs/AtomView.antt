@@ -1,5 +1,5 @@
 -- What a contract sees of an atom.
-use Rattle.words.specs.Atom as words
+use Rattle.word_states.specs.Atom as words
 use Rattle.js_pattern.specs.View.{view}
 use Rattle.js_nfa.specs.declared.atom.Atom.{Atom}
 use Rattle.js_nfa.specs.declared.atom.Atom.TheVariants.{Match, Words, LengthMin}

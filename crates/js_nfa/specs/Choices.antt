@@ -2,7 +2,7 @@
 use Rattle.std.specs.Prelude.{◌≡◌, Some, ◌||◌, ◌<◌, ◌≤◌, ℕ, ◌^◌, Bool, false, if◌then◌else◌, List, [], ◌∷◌, replicate}
 use Rattle.patterns.specs.CharSet.{has}
 use Rattle.patterns.specs.Tree.{Tree, Trees, one_of, repeated}
-use Rattle.words.specs.Position.{count_in}
+use Rattle.word_states.specs.Position.{count_in}
 use Rattle.state_laws.specs.Flow.{ends_here_of_one, reads_next_of_one}
 use Rattle.js_nfa.specs.Bits.{flags_of}
 use Rattle.js_nfa.specs.Walk.{next_after, some_in}

@@ -1,7 +1,7 @@
 -- What a hasher is fed of a state.
 use Rattle.std.specs.Prelude.{ℕ, List, [], ◌∷◌, ◌++◌, true, false}
 use Rattle.std.specs.Hash as fed
-use Rattle.words.specs.PatternState.{PatternState, done, reading}
+use Rattle.word_states.specs.PatternState.{PatternState, done, reading}
 
 -- positions, one after another
 abbrev pub fed_places : List ℕ → fed.HashWrites

@@ -2,9 +2,9 @@
 use Rattle.std.specs.Prelude.{◌≡◌, ℕ, zero, suc, ◌+◌, ◌*◌, ◌/◌, ◌%◌, ◌<◌, ◌≤◌, ◌==◌, Bool, false, ◌||◌, if◌then◌else◌, List, [], ◌∷◌, length, get_or}
 use Rattle.std.specs.Int.{bit_at}
 use Rattle.patterns.specs.Tree.{Tree}
-use Rattle.words.specs.Position.{sets_of}
+use Rattle.word_states.specs.Position.{sets_of}
 use Rattle.state_laws.specs.Flow.{flag_at}
-use Rattle.flow_laws.specs.Rows.{or_each, sets_have}
+use Rattle.state_laws.specs.Rows.{or_each, sets_have}
 use Rattle.js_nfa.specs.Marks.{Marks}
 
 -- the flags of row n

@@ -4,8 +4,8 @@ use Rattle.std.proofs.Common.{Decides, refl, sym, ap, subst}
 use Rattle.std.proofs.Math.Bool.{true≢false}
 use Rattle.std.specs.Cmp.{IsEquivalence, decided, unsigned_Decides}
 use Rattle.std.specs.Cmp.Lexicographic.{pointwise_decides}
-use Rattle.words.specs.PatternState as states
-use Rattle.words.specs.WordState.{same_pattern_state}
+use Rattle.word_states.specs.PatternState as states
+use Rattle.word_states.specs.WordState.{same_pattern_state}
 use Rattle.js_nfa.specs.declared.state.PatternState.{PatternState}
 use Rattle.js_nfa.specs.View.{state_view}
 use Rattle.js_nfa.specs.Fed.{fed_state}

@@ -2,8 +2,8 @@
 use Rattle.std.specs.Prelude.{◌≤◌, ℕ, List, Bool, false}
 use Rattle.patterns.specs.Tree.{Tree}
 use Rattle.patterns.specs.Decision.{is_empty}
-use Rattle.words.specs.Position.{count_of}
-use Rattle.words.specs.PatternState as states
+use Rattle.word_states.specs.Position.{count_of}
+use Rattle.word_states.specs.PatternState as states
 use Rattle.state_laws.specs.Flow.{next_state}
 use Rattle.js_pattern.specs.View.{view}
 use Rattle.js_nfa.specs.declared.nfa.Nfa.{Nfa}

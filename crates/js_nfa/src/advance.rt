@@ -8,7 +8,7 @@ ghost use Rattle.std.specs.Prelude.{◌≡◌, ◌+◌, ◌*◌, ◌<◌, ◌≤
 ghost use Rattle.std.specs.Option.{is_none};
 ghost use Rattle.patterns.specs.CharSet.{has};
 ghost use Rattle.patterns.specs.Tree.{Tree, Trees, one_of, either, repeated};
-ghost use Rattle.words.specs.Position.{count_of, count_in, copies};
+ghost use Rattle.word_states.specs.Position.{count_of, count_in, copies};
 ghost use Rattle.state_laws.specs.Flow.{flag_at, ends_here, ends_here_in_turn, ends_here_of_one, reads_next, reads_next_in_turn, reads_next_of_one};
 ghost use Rattle.js_pattern.specs.View.{view, list_view};
 ghost use Rattle.js_nfa.specs.Choices.{IsChoice, IsOptionThat};

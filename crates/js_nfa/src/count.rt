@@ -1,7 +1,7 @@
 //! How many positions a pattern has, without making them.
 
 ghost use Rattle.std.specs.Prelude.{◌≡◌, ◌+◌, ◌≤◌, min};
-ghost use Rattle.words.specs.Position.{count_of, count_in, copies};
+ghost use Rattle.word_states.specs.Position.{count_of, count_in, copies};
 ghost use Rattle.js_pattern.specs.View.{view, list_view};
 ghost use Rattle.js_nfa.specs.Counted.{counted};
 

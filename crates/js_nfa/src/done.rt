@@ -5,7 +5,7 @@
 //! The last such position is found by halves.
 
 ghost use Rattle.std.specs.Prelude.{◌≡◌, ◌≤◌, IfOk, IsTrue, replicate, [], true, length};
-ghost use Rattle.words.specs.Position.{count_of};
+ghost use Rattle.word_states.specs.Position.{count_of};
 ghost use Rattle.js_pattern.specs.View.{view};
 ghost use Rattle.js_nfa.specs.Done.{Needs};
 

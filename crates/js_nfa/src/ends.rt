@@ -6,7 +6,7 @@
 
 ghost use Rattle.std.specs.Prelude.{◌≡◌, ◌+◌, ◌*◌, ◌≤◌, ◌^◌, ◌&&◌, nat_eq, nat_le, true, if◌then◌else◌, Bool, List, ℕ};
 ghost use Rattle.patterns.specs.Tree.{one_of, repeated};
-ghost use Rattle.words.specs.Position.{count_of, count_in, copies};
+ghost use Rattle.word_states.specs.Position.{count_of, count_in, copies};
 ghost use Rattle.state_laws.specs.Flow.{flag_at, ends_here, ends_here_in_turn, ends_here_of_one};
 ghost use Rattle.js_pattern.specs.View.{view, list_view};
 

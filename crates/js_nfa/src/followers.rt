@@ -4,9 +4,9 @@
 //! are in the sets of all positions that read one of ASCII. These are at most 128, and no more than the positions.
 
 ghost use Rattle.std.specs.Prelude.{◌≡◌, ◌<◌, ◌≤◌, ◌++◌, ◌∷◌, ◌&&◌, [], ℕ, true, false, length, replicate, IfOk};
-ghost use Rattle.words.specs.Position.{count_of};
+ghost use Rattle.word_states.specs.Position.{count_of};
 ghost use Rattle.state_laws.specs.Flow.{flag_at, ends_here, reads_next};
-ghost use Rattle.flow_laws.specs.Rows.{only, may_follow};
+ghost use Rattle.state_laws.specs.Rows.{only, may_follow};
 ghost use Rattle.js_pattern.specs.View.{view};
 ghost use Rattle.js_nfa.specs.Rows.{row, HaveLength, is_shown, is_in_some};
 

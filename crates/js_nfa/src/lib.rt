@@ -22,6 +22,7 @@ mod options;
 mod position_set;
 mod rows;
 mod runs;
+mod same_atom;
 mod scratch;
 mod state;
 mod state_set;

@@ -2,7 +2,7 @@
 
 ghost use Rattle.std.specs.Prelude.{◌≡◌, ◌<◌, ◌≤◌, IfOk, IfErr, OnOk};
 ghost use Rattle.std.specs.Option.{ForSome};
-ghost use Rattle.words.specs.Position.{count_of};
+ghost use Rattle.word_states.specs.Position.{count_of};
 ghost use Rattle.js_pattern.specs.View.{view};
 ghost use Rattle.js_nfa.specs.View.{tree_of};
 ghost use Rattle.js_nfa.specs.AreRows.{AreRows};

@@ -3,8 +3,8 @@
 
 ghost use Rattle.std.specs.Prelude.{◌≡◌, ◌≤◌, [], true, false, IfOk};
 ghost use Rattle.std.specs.Option.{ForSome};
-ghost use Rattle.words.specs.Position.{count_of};
-ghost use Rattle.words.specs.PatternState.{pattern_state};
+ghost use Rattle.word_states.specs.Position.{count_of};
+ghost use Rattle.word_states.specs.PatternState.{pattern_state};
 ghost use Rattle.state_laws.specs.Flow.{flag_at, ends_here, reads_next, next_state, is_accepted};
 ghost use Rattle.js_pattern.specs.View.{view};
 ghost use Rattle.js_nfa.specs.Done.{Needs};

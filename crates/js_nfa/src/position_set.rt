@@ -2,9 +2,9 @@
 
 ghost use Rattle.std.specs.Prelude.{◌≡◌, ◌≢◌, ◌+◌, ◌-◌, ◌*◌, ◌%◌, ◌^◌, ◌<◌, ◌≤◌, ◌++◌, ◌∷◌, [], length, replicate, true, false, IfOk, IsTrue, ◌↔◌, ◌==◌, ℕ};
 ghost use Rattle.std.specs.Int.{bit_at};
-ghost use Rattle.words.specs.PatternState.{numbers_from};
+ghost use Rattle.word_states.specs.PatternState.{numbers_from};
 ghost use Rattle.state_laws.specs.Flow.{flag_at};
-ghost use Rattle.flow_laws.specs.Rows.{or_each, and_each};
+ghost use Rattle.state_laws.specs.Rows.{or_each, and_each};
 ghost use Rattle.js_nfa.specs.Bits.{flags_of};
 ghost use Rattle.js_nfa.specs.Walk.{Quiet};
 ghost use Rattle.js_nfa.specs.Both.{some_both};

@@ -6,7 +6,7 @@
 
 ghost use Rattle.std.specs.Prelude.{◌≡◌, ◌/◌, ◌<◌, ◌≤◌, true, false, length, IfOk};
 ghost use Rattle.patterns.specs.Tree.{Tree};
-ghost use Rattle.words.specs.Position.{count_of};
+ghost use Rattle.word_states.specs.Position.{count_of};
 ghost use Rattle.state_laws.specs.Flow.{flag_at, ends_here, reads_next};
 ghost use Rattle.js_pattern.specs.View.{view};
 ghost use Rattle.js_nfa.specs.Rows.{HaveLength, HaveAtMost, by_fours};

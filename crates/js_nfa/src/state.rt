@@ -6,8 +6,8 @@
 ghost use Rattle.std.specs.Prelude.{◌≡◌};
 ghost use Rattle.std.specs.Cmp.{on_equiv, on_per, partial_equiv_from_equiv};
 ghost use Rattle.std.specs.List.{fold};
-ghost use Rattle.words.specs.PatternState.{numbers_from};
-ghost use Rattle.words.specs.WordState.{same_pattern_state};
+ghost use Rattle.word_states.specs.PatternState.{numbers_from};
+ghost use Rattle.word_states.specs.WordState.{same_pattern_state};
 ghost use Rattle.js_nfa.specs.View.{state_view};
 ghost use Rattle.js_nfa.specs.Fed.{fed_state, fed_places};
 ghost use Rattle.js_nfa.specs.StateLaws.{same_pattern_state-equivalence, fed-same};

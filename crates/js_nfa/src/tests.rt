@@ -1,6 +1,6 @@
 //! The most positions that a pattern may have, where a match is done, and many copies.
 
-use crate::{NfaFault, Scratch, finds, positions};
+use crate::{Atom, NfaFault, Scratch, finds, positions};
 use js_pattern::read_pattern;
 use std::alloc::Global;
 use std::test::Fail;
@@ -115,6 +115,23 @@ fn characters_without_rows(rt: HostRuntime) -> Result<(), Fail> {
     for pattern in missed {
         assert!(rt; !is_found(rt.alloc(), pattern, word.as_slice())?);
     }
+    Ok(())
+}
+
+fn shared<T: Send + Sync>(x: &T) -> &T {
+    x
+}
+
+/// Threads may send and share atoms.
+#[test]
+fn atoms_cross_threads(rt: HostRuntime) -> Result<(), Fail> {
+    let Ok(re) = read_pattern(rt.alloc(), "^a+") else {
+        return Err("no pattern")?;
+    };
+    let of_pattern = Atom::Match(re);
+    let of_length = Atom::LengthMin(2);
+    assert!(rt; *shared(&of_pattern) == of_pattern);
+    assert!(rt; *shared(&of_pattern) != of_length);
     Ok(())
 }
 

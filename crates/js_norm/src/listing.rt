@@ -1,6 +1,6 @@
 //! Reading a file and listing its table.
 
-ghost use Rattle.std.specs.Prelude.{◌≡◌, IfOk, OnErr, OnOk, string_bytes, true};
+ghost use Rattle.std.specs.Prelude.{◌≡◌, [], ◌∷◌, ◌++◌, IfOk, OnErr, OnOk, encode_utf8_all, string_bytes, true};
 ghost use Rattle.schemas.specs.Guarded.{edges, are_ranks};
 ghost use Rattle.js_schema.specs.SchemaView.{schema_view};
 ghost use Rattle.js_norm.specs.Outcome.{table_text, MeansValidity};
@@ -33,6 +33,7 @@ pub fn list<H: Shelf>(alloc: Global, shelf: &mut H, name: &Str) -> Result<Listin
     ensures told { H.told shelf.new ≡ H.told shelf.old }
     ensures says { IfOk result (ListingSays (H.told shelf.old) name.now (H.faults shelf.old) (H.faults shelf.new)) }
     ensures memory { OnErr result (H.faults shelf.new ≡ H.faults shelf.old) }
+    ensures begun { H.begun shelf.new ≡ H.begun shelf.old ++ encode_utf8_all name.now ∷ [] }
 {
     match load_schema(alloc, shelf, name)? {
         Some(SchemaInput::Read(schema, ranks)) => {

@@ -5,7 +5,8 @@ use Rattle.documents.specs.Document.{Document, Items, items_of, Members, members
 use Rattle.positions.specs.Position.{Position, Has}
 use Rattle.normal_forms.specs.Nodes.{Maker, node, both, above, each}
 use Rattle.normal_forms.specs.Values.{value_node, item_nodes, member_nodes, member_of, names_of, but_last, last_of}
-use Rattle.js_doc.specs.declared.document.Member.{Member}
+use Rattle.js_doc.specs.declared.document.Doc.{Doc}
+use Rattle.js_doc.specs.declared.rising.Named.{Named}
 use Rattle.js_doc.specs.View.{member_view}
 use Rattle.js_doc.proofs.Levels.{entries-of}
 use Rattle.js_algebra.specs.View.{node_view, places}
@@ -73,10 +74,10 @@ last_of-end (p ∷ []) q = refl
 last_of-end (p ∷ r ∷ rs) q = last_of-end (r ∷ rs) q
 
 -- the names of members
-pub names-entries : (ms : List Member) (l : Members) → members_of (map member_view ms) ≡ l
+pub names-entries : (ms : List (Named Doc)) (l : Members) → members_of (map member_view ms) ≡ l
     → map (λ m. (member_view m).0) ms ≡ names_of l
 names-entries ms l e =
     firsts ms ∙ ap (map (λ m. m.0)) (sym (entries-of (map member_view ms) l e)) where
-      firsts : (ms : List Member) → map (λ m. (member_view m).0) ms ≡ map (λ m. m.0) (map member_view ms)
+      firsts : (ms : List (Named Doc)) → map (λ m. (member_view m).0) ms ≡ map (λ m. m.0) (map member_view ms)
       firsts [] = refl
       firsts (m ∷ ms) = ap (λ ks. (member_view m).0 ∷ ks) (firsts ms)

@@ -259,7 +259,7 @@ fn word_in(doc: &Doc) -> Option<&Str>
     ensures { option_map (λ w. w.now) result ≡ W.word_in (view doc.now) }
 {
     match doc {
-        Doc::Text(text) => Some(text),
+        Doc::Text(text) => Some(text.as_str()),
         _ => None,
     }
 }

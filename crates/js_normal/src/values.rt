@@ -43,7 +43,7 @@ pub(crate) fn value_node(
             of_kind(alloc, JsonKind::Number, node, builder, named)
         }
         Doc::Text(text) => {
-            let node = Node::Words(one_word(alloc, text)?);
+            let node = Node::Words(one_word(alloc, text.as_str())?);
             of_kind(alloc, JsonKind::Text, node, builder, named)
         }
         Doc::List(list) => array_node(alloc, list, builder, named),

@@ -8,13 +8,13 @@ use Rattle.std.proofs.lemmas.Bool.Decides.{Decides-int_eq}
 use Rattle.std.proofs.lemmas.Nat.Gcd.{dvd_trans, dvd_refl, dvd_of_mod-eq-zero}
 use Rattle.std.proofs.Math.Nat.{mul-le-mul_right}
 use Prim.Native.Nat.{◌∣◌}
-use Rattle.js_numbers.specs.declared.group.Cases.{Cases}
-use Rattle.js_numbers.specs.declared.group.Cases.TheVariants.{Found, Empty, LimitMultiples, LimitCandidates}
-use Rattle.js_numbers.specs.Multiples.{is_multiple, is_common, lcm_of, IsLcmOf}
+use Rattle.number_groups.specs.Cases.{Cases}
+use Rattle.number_groups.specs.Cases.{Found, Empty, LimitMultiples, LimitCandidates}
+use Rattle.number_groups.specs.Multiples.{is_multiple, is_common, lcm_of, IsLcmOf}
 use Rattle.js_doc.specs.Numbers.{has}
-use Rattle.js_numbers.specs.Group.{Group, is_above, is_below, is_crossed, is_met, is_ready, is_struck}
-use Rattle.js_numbers.specs.Outcome.{multiple_from, place, candidate, is_over, in_reach, reached, is_last, answer_at, answer_among, answer_of_multiples, answer_in, found, outcome}
-use Rattle.js_numbers.specs.Correct.{IsTooLarge, IsTried, IsStruckAt, Says, StrikesAll, IsRight}
+use Rattle.number_groups.specs.Group.{Group, is_above, is_below, is_crossed, is_met, is_ready, is_struck}
+use Rattle.number_groups.specs.Outcome.{multiple_from, place, candidate, is_over, in_reach, reached, is_last, answer_at, answer_among, answer_of_multiples, answer_in, found, outcome}
+use Rattle.number_groups.specs.Correct.{IsTooLarge, IsTried, IsStruckAt, Says, StrikesAll, IsRight}
 use Rattle.js_numbers.proofs.Least.{least_below-cases}
 use Rattle.js_numbers.proofs.CommonMultiples.{IsLcmOf-lcm_of, common_along}
 use Rattle.js_numbers.proofs.Finding.{find-front}

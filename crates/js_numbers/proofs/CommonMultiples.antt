@@ -8,7 +8,7 @@ use Rattle.std.proofs.lemmas.Nat.Gcd.{dvd_refl, dvd_trans, IsGcd-from_zero, IsGc
 use Rattle.std.proofs.Math.Nat.{pos_of_dvd_of_pos, div-mul_cancel, dvd-mul_left, dvd-mul_right, dvd_of_mul-dvd-mul_right, mul-dvd-mul_left, mul-dvd-mul_right, mod-eq-sub-mul-div, mul-div-mul_left, mul-sub, one-dvd, mul-pos}
 use Rattle.std.proofs.lemmas.List.Recursion.{and_at}
 use Rattle.std.proofs.lemmas.List.{take_more, take-append-drop}
-use Rattle.js_numbers.specs.Multiples.{is_common, product_of, lcm_of, IsLcm, IsLcmOf}
+use Rattle.number_groups.specs.Multiples.{is_common, product_of, lcm_of, IsLcm, IsLcmOf}
 use Rattle.js_numbers.proofs.Least.{least_below-at}
 
 -- ---- two numbers

@@ -1,10 +1,10 @@
 -- The steps of the answer, one at a time.
 use Rattle.std.proofs.Common.{◌≡◌, ℕ, ◌<◌, ◌≤◌, List, [], ◌∷◌, Bool, true, false, ℤ, length, get_or, refl, ap, sym, ◌∙◌, arith, zero-lt-suc, if◌then◌else◌}
 use Rattle.std.specs.List.{find}
-use Rattle.js_numbers.specs.declared.group.Cases.TheVariants.{Empty}
-use Rattle.js_numbers.specs.Multiples.{lcm_of}
-use Rattle.js_numbers.specs.Group.{Group, is_crossed, is_met}
-use Rattle.js_numbers.specs.Outcome.{outcome, found, answer_in, answer_of_multiples}
+use Rattle.number_groups.specs.Cases.{Empty}
+use Rattle.number_groups.specs.Multiples.{lcm_of}
+use Rattle.number_groups.specs.Group.{Group, is_crossed, is_met}
+use Rattle.number_groups.specs.Outcome.{outcome, found, answer_in, answer_of_multiples}
 
 pub lcm_of_positive : (ms : List ℕ) → 0 < lcm_of ms
 unfolding lcm_of

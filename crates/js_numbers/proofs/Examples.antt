@@ -1,9 +1,9 @@
 -- The definitions on worked examples.
 use Rattle.std.proofs.Common.{◌≡◌, ◌^◌, ℕ, List, [], ◌∷◌, Option, Some, None, ℤ, pos, negsuc, refl}
-use Rattle.js_numbers.specs.declared.group.Cases.TheVariants.{Found, Empty, LimitMultiples, LimitCandidates}
-use Rattle.js_numbers.specs.Multiples.{least_below, lcm_of}
-use Rattle.js_numbers.specs.Group.{Group}
-use Rattle.js_numbers.specs.Outcome.{multiple_from, alternate, reached, outcome, answer_of_multiples}
+use Rattle.number_groups.specs.Cases.{Found, Empty, LimitMultiples, LimitCandidates}
+use Rattle.number_groups.specs.Multiples.{least_below, lcm_of}
+use Rattle.number_groups.specs.Group.{Group}
+use Rattle.number_groups.specs.Outcome.{multiple_from, alternate, reached, outcome, answer_of_multiples}
 
 bounded : Option ℤ → Option ℤ → List ℕ → List ℕ → Group
 bounded low high ms bs =

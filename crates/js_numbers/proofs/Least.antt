@@ -1,6 +1,6 @@
 -- The least number below a limit that passes a test.
 use Rattle.std.proofs.Common.{◌≡◌, ℕ, zero, suc, ◌<◌, Bool, true, false, ◌⊎◌, inl, inr, refl, ap, ◌∙◌, arith}
-use Rattle.js_numbers.specs.Multiples.{least_below}
+use Rattle.number_groups.specs.Multiples.{least_below}
 
 step : (test : ℕ → Bool) (n : ℕ) (b : Bool) → test 0 ≡ b
     → least_below test (suc n) ≡ (elim b [ true ↦ 0 | false ↦ suc (least_below (λ k. test (suc k)) n) ])

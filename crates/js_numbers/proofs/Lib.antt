@@ -1,13 +1,14 @@
-mod Examples
-pub mod Least
-pub mod CommonMultiples
-pub mod Sizes
-pub mod Finding
-pub mod Searching
-pub mod Deciding
-pub mod PlaceLaws
 pub mod AnswerLaws
-pub mod MarkLaws
-pub mod SieveLaws
-pub mod ListedLaws
 pub mod BlockLaws
+pub mod CommonMultiples
+pub mod Deciding
+mod Examples
+pub mod Finding
+pub mod Least
+pub mod ListedLaws
+pub mod ListsBorrowed
+pub mod MarkLaws
+pub mod PlaceLaws
+pub mod Searching
+pub mod SieveLaws
+pub mod Sizes

@@ -10,7 +10,7 @@ use Rattle.std.proofs.lemmas.List.Sums.{sum_by-cons, sum_by-le-sum_by}
 use Rattle.std.proofs.lemmas.Nat.Gcd.{dvd_of_mod-eq-zero, mod-eq-zero_of_dvd}
 use Rattle.std.proofs.Math.Nat.{mod-eq_of_lt}
 use Rattle.js_doc.specs.Numbers.{count_below, has, rank_of}
-use Rattle.js_numbers.specs.Multiples.{is_common, lcm_of}
+use Rattle.number_groups.specs.Multiples.{is_common, lcm_of}
 use Rattle.js_numbers.specs.Marking.{is_at, marked_from, mark_of, AddsListed, AreListed}
 use Rattle.js_numbers.proofs.CommonMultiples.{IsLcmOf-lcm_of, common_along}
 use Rattle.js_numbers.proofs.MarkLaws.{same_bool, or_assoc}

@@ -8,9 +8,9 @@ use Rattle.std.proofs.lemmas.Bool.Decides.{Decides-int_eq}
 use Rattle.std.proofs.lemmas.Nat.Gcd.{dvd_of_mod-eq-zero}
 use Rattle.std.proofs.Math.Nat.{mul-mod_left, mul-div_cancel, div-mul_cancel}
 use Rattle.std.proofs.lemmas.List.{get_or-replicate}
-use Rattle.js_numbers.specs.Multiples.{is_multiple}
-use Rattle.js_numbers.specs.Group.{Group, is_listed, is_struck}
-use Rattle.js_numbers.specs.Outcome.{multiple_from, candidate, reached}
+use Rattle.number_groups.specs.Multiples.{is_multiple}
+use Rattle.number_groups.specs.Group.{Group, is_listed, is_struck}
+use Rattle.number_groups.specs.Outcome.{multiple_from, candidate, reached}
 use Rattle.js_numbers.proofs.AnswerLaws.{reached_Ok}
 use Rattle.js_numbers.specs.Marking.{AddsMarks, AddsRuledOut, AreMarked, AreStruckMarked}
 

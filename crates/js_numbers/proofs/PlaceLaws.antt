@@ -6,10 +6,10 @@ use Rattle.std.proofs.lemmas.Nat.Gcd.{dvd-zero, dvd_refl, dvd_of_mod-eq-zero, mo
 use Rattle.std.proofs.Math.Nat.{dvd-add, dvd-sub, dvd-mul_left, dvd-mul_right, mod-lt, mod-add-div, div-mul_cancel, zero-mod, mod-le}
 use Rattle.std.specs.Int.{int_rem_euclid}
 use Prim.Native.Nat.{◌∣◌}
-use Rattle.js_numbers.specs.Multiples.{is_multiple}
-use Rattle.js_numbers.specs.Group.{Group, is_above, is_below}
-use Rattle.js_numbers.specs.Outcome.{multiple_from, alternate, place}
-use Rattle.js_numbers.specs.Correct.{AreCandidates}
+use Rattle.number_groups.specs.Multiples.{is_multiple}
+use Rattle.number_groups.specs.Group.{Group, is_above, is_below}
+use Rattle.number_groups.specs.Outcome.{multiple_from, alternate, place}
+use Rattle.number_groups.specs.Correct.{AreCandidates}
 use Rattle.js_numbers.proofs.Sizes.{abs-neg, le_true, le_from, above_low}
 
 pub divides : (m : ℕ) (x : ℤ) → is_multiple m x ≡ true → m ∣ unsigned_abs x

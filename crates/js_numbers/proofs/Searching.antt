@@ -1,10 +1,10 @@
 -- The answer among candidates, from what is known of those before it.
 use Rattle.std.proofs.Common.{◌≡◌, ℕ, ◌+◌, ◌<◌, true, false, not, Ok, Err, ℤ, refl, ap, ◌∙◌, arith, inl, inr, if◌then◌else◌}
 use Rattle.std.proofs.lemmas.Bool.{eq-eqb, ne_eqb, cases_lt}
-use Rattle.js_numbers.specs.declared.group.Cases.{Cases}
-use Rattle.js_numbers.specs.declared.group.Cases.TheVariants.{Found, LimitCandidates}
-use Rattle.js_numbers.specs.Group.{Group, is_struck}
-use Rattle.js_numbers.specs.Outcome.{reached, is_last, answer_at, answer_among}
+use Rattle.number_groups.specs.Cases.{Cases}
+use Rattle.number_groups.specs.Cases.{Found, LimitCandidates}
+use Rattle.number_groups.specs.Group.{Group, is_struck}
+use Rattle.number_groups.specs.Outcome.{reached, is_last, answer_at, answer_among}
 use Rattle.js_numbers.proofs.Least.{least_below-at, least_below-none}
 
 -- the candidates before the k-th are struck

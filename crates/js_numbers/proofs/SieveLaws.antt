@@ -10,9 +10,9 @@ use Rattle.std.proofs.lemmas.List.Folds.{list_any_more}
 use Rattle.std.proofs.lemmas.Grind.{get_or-set_at}
 use Rattle.std.proofs.Math.Nat.{mod-lt, mod-add-div, zero-mod, zero-div, mul-mod_left, div-mul_cancel, div-le_self, mul-dvd-mul_right, dvd_of_mul-dvd-mul_right, dvd-mul_left, mul-le-mul_right}
 use Prim.Native.Nat.{◌∣◌}
-use Rattle.js_numbers.specs.Multiples.{is_multiple}
-use Rattle.js_numbers.specs.Group.{Group, is_near, is_ready}
-use Rattle.js_numbers.specs.Outcome.{multiple_from, alternate, candidate}
+use Rattle.number_groups.specs.Multiples.{is_multiple}
+use Rattle.number_groups.specs.Group.{Group, is_near, is_ready}
+use Rattle.number_groups.specs.Outcome.{multiple_from, alternate, candidate}
 use Rattle.js_numbers.specs.Marking.{AddsMarks, AreStepsMarked, is_on}
 use Rattle.js_numbers.proofs.CommonMultiples.{IsLcm-from_gcd}
 use Rattle.js_numbers.proofs.MarkLaws.{same_bool, or_assoc}

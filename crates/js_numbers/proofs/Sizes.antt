@@ -3,9 +3,9 @@ use Rattle.std.proofs.Common.{◌≡◌, ℕ, zero, suc, ◌*◌, ◌^◌, ◌<�
 use Rattle.std.proofs.lemmas.Int.{ints}
 use Rattle.std.proofs.lemmas.Bool.{le-leb, lt-leb, leb-true, cases_lt, and_parts}
 use Rattle.std.specs.Int.{w128, int_rem_euclid}
-use Rattle.js_numbers.specs.Outcome.{sized, multiple_from, alternate, place, in_reach, reached, after_last}
-use Rattle.js_numbers.specs.Group.{Group, is_below, is_near, is_ready}
-use Rattle.js_numbers.specs.declared.group.Cases.TheVariants.{Empty, LimitMultiples}
+use Rattle.number_groups.specs.Outcome.{sized, multiple_from, alternate, place, in_reach, reached, after_last}
+use Rattle.number_groups.specs.Group.{Group, is_below, is_near, is_ready}
+use Rattle.number_groups.specs.Cases.{Empty, LimitMultiples}
 
 pub sized-small : (x : ℤ) → unsigned_abs x < 2 ^ 127 → sized x ≡ Some x
 sized-small x l = rw (lt-leb (2 ^ 127) (unsigned_abs x) l) refl

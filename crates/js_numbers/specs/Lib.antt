@@ -1,7 +1,4 @@
--- First what a reader must believe: what the answers say, what a group asks of a whole number, and the answer
--- that is owed. Then the words that these stand on, and those of the code's own bookkeeping.
-pub mod Correct
-pub mod Group
-pub mod Outcome
-pub mod Multiples
+-- First what a reader must believe: the group and the answer that the program's values stand for. Then the words of the
+-- code's own bookkeeping.
+pub mod View
 pub mod Marking

@@ -2,9 +2,9 @@
 use Rattle.std.specs.Prelude.{◌≡◌, ℕ, ◌-◌, ◌*◌, ◌%◌, ◌<◌, ◌≤◌, ◌==◌, nat_le, nat_lt, List, length, get_or, Bool, true, false, ◌&&◌, ◌||◌, Option, Some, None, ℤ, pos, if◌then◌else◌}
 use Rattle.std.specs.Ordering.{int_eq}
 use Rattle.js_doc.specs.Numbers.{rank_of}
-use Rattle.js_numbers.specs.Multiples.{is_multiple}
-use Rattle.js_numbers.specs.Group.{Group, is_listed, is_struck}
-use Rattle.js_numbers.specs.Outcome.{candidate, is_over}
+use Rattle.number_groups.specs.Multiples.{is_multiple}
+use Rattle.number_groups.specs.Group.{Group, is_listed, is_struck}
+use Rattle.number_groups.specs.Outcome.{candidate, is_over}
 
 -- k is the number that was found
 abbrev pub is_at : Option ℕ → ℕ → Bool

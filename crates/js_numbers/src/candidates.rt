@@ -4,8 +4,9 @@
 
 ghost use Rattle.std.specs.Prelude.{◌≡◌, ◌<◌, ◌≤◌, ◌^◌, true, unsigned_abs, pos, neg_ℤ};
 ghost use Rattle.std.specs.Int.{int_rem_euclid};
-ghost use Rattle.js_numbers.specs.Group.{group_of, is_ready};
-ghost use Rattle.js_numbers.specs.Outcome.{after_last, alternate, candidate, multiple_from, reached, sized};
+ghost use Rattle.number_groups.specs.Group.{is_ready};
+ghost use Rattle.js_numbers.specs.View.{group_of, cases_view, reach_view};
+ghost use Rattle.number_groups.specs.Outcome.{after_last, alternate, candidate, multiple_from, reached, sized};
 
 use crate::group::{Cases, NumGroup};
 use crate::number::is_below;
@@ -70,7 +71,7 @@ fn candidate(group: &NumGroup, m: u128, k: usize) -> Option<i128>
 
 /// What follows where a candidate is over 2^127-1 in size: upwards, it is above any upper bound.
 fn after_last(low: Option<i128>, high: Option<i128>) -> Cases
-    ensures { result ≡ after_last low high }
+    ensures { cases_view result ≡ after_last low high }
 {
     match (low, high) {
         (Some(_), Some(_)) => Cases::Empty,
@@ -82,7 +83,7 @@ fn after_last(low: Option<i128>, high: Option<i128>) -> Cases
 pub(crate) fn reach(group: &NumGroup, m: u128, k: usize) -> Result<i128, Cases>
     requires ready { is_ready (group_of group.now) ≡ true }
     requires step { (0 < m) × (m < 2 ^ 127) }
-    ensures { result ≡ reached m (group_of group.now) k }
+    ensures { reach_view result ≡ reached m (group_of group.now) k }
 {
     match candidate(group, m, k) {
         Some(x) if is_below(group.hi, x) => Ok(x),

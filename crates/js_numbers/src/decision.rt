@@ -2,10 +2,11 @@
 
 ghost use Rattle.std.specs.Prelude.{◌≡◌, ◌%◌, ◌==◌, true};
 ghost use Rattle.std.specs.List.{list_any};
-ghost use Rattle.js_numbers.specs.Multiples.{lcm_of};
-ghost use Rattle.js_numbers.specs.Group.{group_of, is_ready};
-ghost use Rattle.js_numbers.specs.Correct.{IsRight};
-ghost use Rattle.js_numbers.specs.Outcome.{answer_of_multiples, outcome};
+ghost use Rattle.number_groups.specs.Multiples.{lcm_of};
+ghost use Rattle.number_groups.specs.Group.{is_ready};
+ghost use Rattle.js_numbers.specs.View.{group_of, cases_view};
+ghost use Rattle.number_groups.specs.Correct.{IsRight};
+ghost use Rattle.number_groups.specs.Outcome.{answer_of_multiples, outcome};
 
 use crate::candidates::MOST_STRUCK;
 use crate::factors::lcm_of;
@@ -19,8 +20,8 @@ use crate::search::search;
 /// without, at most 65,537 candidates.
 pub fn decide(group: &NumGroup) -> Cases
     requires { is_ready (group_of group.now) ≡ true }
-    ensures answer { result ≡ outcome MOST_STRUCK (group_of group.now) }
-    ensures right { IsRight MOST_STRUCK (group_of group.now) result }
+    ensures answer { cases_view result ≡ outcome MOST_STRUCK (group_of group.now) }
+    ensures right { IsRight MOST_STRUCK (group_of group.now) (cases_view result) }
 {
     if group.is_crossed() {
         return Cases::Empty;
@@ -34,7 +35,8 @@ pub fn decide(group: &NumGroup) -> Cases
 /// The answer where no set is asked for.
 fn decide_multiples(group: &NumGroup) -> Cases
     requires { is_ready (group_of group.now) ≡ true }
-    ensures { result ≡ answer_of_multiples MOST_STRUCK (lcm_of group.now.multiples.now) (group_of group.now) }
+    ensures { cases_view result
+        ≡ answer_of_multiples MOST_STRUCK (lcm_of group.now.multiples.now) (group_of group.now) }
 {
     match lcm_of(group.multiples) {
         Some(m) if is_all_struck(group, m) => Cases::Empty,

@@ -5,7 +5,7 @@
 ghost use Rattle.std.specs.Prelude.{◌≡◌, ◌<◌, ◌+◌, ◌^◌, [], ◌∷◌, nat_lt, true, SomeIff, IfSome};
 ghost use Rattle.std.specs.Int.{IsGcd};
 ghost use Rattle.std.specs.List.{list_all};
-ghost use Rattle.js_numbers.specs.Multiples.{IsLcm, lcm_of};
+ghost use Rattle.number_groups.specs.Multiples.{IsLcm, lcm_of};
 
 /// The greatest common divisor of two numbers that aren't both 0.
 pub fn gcd(a: u128, b: u128) -> u128

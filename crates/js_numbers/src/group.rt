@@ -5,15 +5,16 @@ ghost use Rattle.std.specs.Prelude.{◌≡◌, ◌&&◌};
 use crate::number::{is_above, is_below};
 use js_doc::NumList;
 
-/// Bounds, divisors and sets that a whole number must have, and divisors and sets that it must not have.
+/// Bounds, divisors and sets that a whole number must have, and divisors and sets that it must not have. All lists are
+/// borrowed, so a group is made without copying one.
 #[derive(Clone, Copy)]
 pub struct NumGroup<'a> {
     pub lo: Option<i128>,
     pub hi: Option<i128>,
     pub multiples: &'a [u64],
     pub not_multiples: &'a [u64],
-    pub sets: &'a [NumList],
-    pub not_sets: &'a [NumList],
+    pub sets: &'a [&'a NumList],
+    pub not_sets: &'a [&'a NumList],
 }
 
 /// What is known of a group's numbers.
@@ -30,7 +31,7 @@ pub enum Cases {
 }
 
 impl NumGroup<'_> {
-    ghost use Rattle.js_numbers.specs.Group.{is_above, is_below, is_crossed};
+    ghost use Rattle.number_groups.specs.Group.{is_above, is_below, is_crossed};
 
     pub(crate) fn is_within(&self, x: i128) -> bool
         ensures { result ≡ (is_above self.now.lo x && is_below self.now.hi x) }

@@ -1,7 +1,7 @@
 //! Number groups decided exactly: the first whole number that meets bounds, divisors and sets, or that there is
 //! none.
 //!
-//! [`decide`] answers by the definition `outcome` of `specs/Outcome.antt`. A number that it finds meets the group, and
+//! [`decide`] answers by the definition `outcome` of `number_groups`. A number that it finds meets the group, and
 //! it says `Empty` only where no whole number of any size does. No call takes memory, and no step overflows.
 //!
 //! Without sets that are asked for, the cost is a pass over the sets that are ruled out, a greatest common divisor for

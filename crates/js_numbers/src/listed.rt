@@ -11,10 +11,11 @@
 ghost use Rattle.std.specs.Prelude.{◌≡◌, ℕ, ◌<◌, ◌≤◌, ◌^◌, ◌&&◌, true, nat_lt, Some, IfSome, SomeIff, length};
 ghost use Rattle.std.specs.List.{find, list_all};
 ghost use Rattle.std.specs.Ordering.{int_eq};
-ghost use Rattle.js_numbers.specs.Multiples.{is_multiple, lcm_of};
+ghost use Rattle.number_groups.specs.Multiples.{is_multiple, lcm_of};
 ghost use Rattle.js_doc.specs.Numbers.{has};
-ghost use Rattle.js_numbers.specs.Group.{group_of, is_asked, is_listed, is_met, is_ready, is_struck};
-ghost use Rattle.js_numbers.specs.Outcome.{found};
+ghost use Rattle.number_groups.specs.Group.{is_asked, is_listed, is_met, is_ready, is_struck};
+ghost use Rattle.js_numbers.specs.View.{group_of, lists_of, cases_view};
+ghost use Rattle.number_groups.specs.Outcome.{found};
 ghost use Rattle.js_numbers.specs.Marking.{mark_of, AddsListed, AreListed, IsFirstIn};
 
 use crate::candidates::MOST_STRUCK;
@@ -89,9 +90,9 @@ fn mark_set(values: &NumList, start: usize, set: &NumList, listed: &mut [bool])
 }
 
 /// Marks the values that one of the sets has.
-fn mark_sets(values: &NumList, start: usize, sets: &[NumList], listed: &mut [bool])
+fn mark_sets(values: &NumList, start: usize, sets: &[&NumList], listed: &mut [bool])
     requires { length listed.old ≡ MOST_STRUCK }
-    ensures { AddsListed MOST_STRUCK start values.now (is_listed sets.now) listed.old listed.new }
+    ensures { AddsListed MOST_STRUCK start values.now (is_listed (lists_of sets.now)) listed.old listed.new }
 {
     for set in sets {
         mark_set(values, start, set, listed);
@@ -124,7 +125,7 @@ fn is_asked(group: &NumGroup, common: Option<u128>, x: i128) -> bool
 
 /// Whether a divisor or a set that is ruled out strikes `x`, where it is known whether a set has it.
 fn is_struck(group: &NumGroup, listed: bool, x: i128) -> bool
-    requires { listed ≡ is_listed group.now.not_sets.now x }
+    requires { listed ≡ is_listed (lists_of group.now.not_sets.now) x }
     ensures { result ≡ is_struck (group_of group.now) x }
 {
     listed || divides_any(group.not_multiples, x)
@@ -143,7 +144,7 @@ fn is_met(group: &NumGroup, common: Option<u128>, x: i128) -> bool
 fn search_each(group: &NumGroup, values: &NumList, common: Option<u128>) -> Cases
     requires ready { is_ready (group_of group.now) ≡ true }
     requires multiple { SomeIff common (lcm_of group.now.multiples.now < 2 ^ 127) (lcm_of group.now.multiples.now) }
-    ensures { result ≡ found (find (is_met (group_of group.now)) values.now) }
+    ensures { cases_view result ≡ found (find (is_met (group_of group.now)) values.now) }
 {
     for x in values.as_slice() {
         if is_met(group, common, *x) {
@@ -165,7 +166,7 @@ fn is_met_in_block(
     requires ready { is_ready (group_of group.now) ≡ true }
     requires multiple { SomeIff common (lcm_of group.now.multiples.now < 2 ^ 127) (lcm_of group.now.multiples.now) }
     requires size { length listed.now ≡ MOST_STRUCK }
-    requires marks { AreListed MOST_STRUCK start values.now (is_listed group.now.not_sets.now) listed.now }
+    requires marks { AreListed MOST_STRUCK start values.now (is_listed (lists_of group.now.not_sets.now)) listed.now }
     ensures met { result ≡ true → is_met (group_of group.now) x ≡ true }
     ensures all { (k : ℕ) → mark_of MOST_STRUCK start values.now x ≡ Some k → result ≡ is_met (group_of group.now) x }
 {
@@ -188,7 +189,7 @@ fn first_met(
     requires ready { is_ready (group_of group.now) ≡ true }
     requires multiple { SomeIff common (lcm_of group.now.multiples.now < 2 ^ 127) (lcm_of group.now.multiples.now) }
     requires size { length listed.now ≡ MOST_STRUCK }
-    requires marks { AreListed MOST_STRUCK start values.now (is_listed group.now.not_sets.now) listed.now }
+    requires marks { AreListed MOST_STRUCK start values.now (is_listed (lists_of group.now.not_sets.now)) listed.now }
     requires end { end ≤ length values.now }
     ensures { IsFirstIn MOST_STRUCK start values.now (is_met (group_of group.now)) end result }
 {
@@ -223,7 +224,7 @@ fn search_block(
 fn search_blocks(group: &NumGroup, values: &NumList, common: Option<u128>) -> Cases
     requires ready { is_ready (group_of group.now) ≡ true }
     requires multiple { SomeIff common (lcm_of group.now.multiples.now < 2 ^ 127) (lcm_of group.now.multiples.now) }
-    ensures { result ≡ found (find (is_met (group_of group.now)) values.now) }
+    ensures { cases_view result ≡ found (find (is_met (group_of group.now)) values.now) }
 {
     let items = values.as_slice();
     let mut end = items.len();
@@ -240,7 +241,7 @@ fn search_blocks(group: &NumGroup, values: &NumList, common: Option<u128>) -> Ca
 /// The first of the values that meets the group.
 pub(crate) fn search_values(group: &NumGroup, values: &NumList) -> Cases
     requires { is_ready (group_of group.now) ≡ true }
-    ensures { result ≡ found (find (is_met (group_of group.now)) values.now) }
+    ensures { cases_view result ≡ found (find (is_met (group_of group.now)) values.now) }
 {
     let common = lcm_of(group.multiples);
     let blocks = values.as_slice().len() / MOST_STRUCK;

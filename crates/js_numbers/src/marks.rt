@@ -5,8 +5,9 @@
 
 ghost use Rattle.std.specs.Prelude.{◌≡◌, ℕ, ◌*◌, ◌<◌, ◌^◌, ◌==◌, true, false, ◌||◌, get_or, IfSome, length, neg_ℤ, unsigned_abs, ◌≤◌};
 ghost use Rattle.js_doc.specs.Numbers.{has};
-ghost use Rattle.js_numbers.specs.Group.{group_of, is_ready};
-ghost use Rattle.js_numbers.specs.Outcome.{alternate, candidate, multiple_from};
+ghost use Rattle.number_groups.specs.Group.{is_ready};
+ghost use Rattle.js_numbers.specs.View.{group_of};
+ghost use Rattle.number_groups.specs.Outcome.{alternate, candidate, multiple_from};
 ghost use Rattle.js_numbers.specs.Marking.{is_at, IsIndex, AddsMarks, AddsRuledOut};
 
 use crate::candidates::{MOST_STRUCK, multiple_down, multiple_from};

@@ -1,9 +1,10 @@
 //! Tests of one whole number, each equal to its definition.
 
 ghost use Rattle.std.specs.Prelude.{◌≡◌};
-ghost use Rattle.js_numbers.specs.Multiples.{is_multiple};
+ghost use Rattle.number_groups.specs.Multiples.{is_multiple};
 ghost use Rattle.js_doc.specs.Numbers.{has};
-ghost use Rattle.js_numbers.specs.Group.{is_above, is_below};
+ghost use Rattle.number_groups.specs.Group.{is_above, is_below};
+ghost use Rattle.js_numbers.specs.View.{lists_of};
 ghost use Rattle.std.specs.List.{list_all, list_any};
 
 use js_doc::NumList;
@@ -50,15 +51,25 @@ pub fn divides_any(divisors: &[u64], x: i128) -> bool
 }
 
 /// Whether each of the sets has `x`.
-pub fn all_have(sets: &[NumList], x: i128) -> bool
-    ensures { result ≡ list_all (λ s. has s x) sets.now }
+pub fn all_have(sets: &[&NumList], x: i128) -> bool
+    ensures { result ≡ list_all (λ s. has s x) (lists_of sets.now) }
 {
-    sets.iter().all(|s| s.has(x))
+    for set in sets {
+        if !set.has(x) {
+            return false;
+        }
+    }
+    true
 }
 
 /// Whether one of the sets has `x`.
-pub fn any_has(sets: &[NumList], x: i128) -> bool
-    ensures { result ≡ list_any (λ s. has s x) sets.now }
+pub fn any_has(sets: &[&NumList], x: i128) -> bool
+    ensures { result ≡ list_any (λ s. has s x) (lists_of sets.now) }
 {
-    sets.iter().any(|s| s.has(x))
+    for set in sets {
+        if set.has(x) {
+            return true;
+        }
+    }
+    false
 }

@@ -4,8 +4,9 @@
 //! 64 KiB of the stack, and as much again while divisors are gone through.
 
 ghost use Rattle.std.specs.Prelude.{◌≡◌, ◌<◌, ◌^◌, true, length};
-ghost use Rattle.js_numbers.specs.Group.{group_of, is_ready};
-ghost use Rattle.js_numbers.specs.Outcome.{answer_among};
+ghost use Rattle.number_groups.specs.Group.{is_ready};
+ghost use Rattle.js_numbers.specs.View.{group_of, cases_view};
+ghost use Rattle.number_groups.specs.Outcome.{answer_among};
 ghost use Rattle.js_numbers.specs.Marking.{AreStruckMarked};
 
 use crate::candidates::{MOST_STRUCK, reach};
@@ -17,7 +18,7 @@ use crate::sieve::mark_divisors;
 pub(crate) fn search(group: &NumGroup, m: u128) -> Cases
     requires ready { is_ready (group_of group.now) ≡ true }
     requires step { (0 < m) × (m < 2 ^ 127) }
-    ensures { result ≡ answer_among MOST_STRUCK m (group_of group.now) }
+    ensures { cases_view result ≡ answer_among MOST_STRUCK m (group_of group.now) }
 {
     let mut struck = [false; MOST_STRUCK];
     mark_sets(group, m, &mut struck);
@@ -31,7 +32,7 @@ fn search_unmarked(group: &NumGroup, m: u128, struck: &[bool]) -> Cases
     requires step { (0 < m) × (m < 2 ^ 127) }
     requires size { length struck.now ≡ MOST_STRUCK }
     requires marks { AreStruckMarked MOST_STRUCK m (group_of group.now) struck.now }
-    ensures { result ≡ answer_among MOST_STRUCK m (group_of group.now) }
+    ensures { cases_view result ≡ answer_among MOST_STRUCK m (group_of group.now) }
 {
     for k in 0..MOST_STRUCK {
         let x = match reach(group, m, k) {

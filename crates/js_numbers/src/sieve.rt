@@ -6,9 +6,10 @@
 
 ghost use Rattle.std.specs.Prelude.{◌≡◌, ℕ, ℤ, ◌*◌, ◌<◌, ◌≤◌, ◌^◌, ◌==◌, true, false, ◌&&◌, ◌||◌, get_or, length, nat_lt, neg_ℤ, unsigned_abs};
 ghost use Rattle.std.specs.List.{list_any};
-ghost use Rattle.js_numbers.specs.Multiples.{is_multiple};
-ghost use Rattle.js_numbers.specs.Group.{group_of, is_ready};
-ghost use Rattle.js_numbers.specs.Outcome.{alternate, candidate, multiple_from};
+ghost use Rattle.number_groups.specs.Multiples.{is_multiple};
+ghost use Rattle.number_groups.specs.Group.{is_ready};
+ghost use Rattle.js_numbers.specs.View.{group_of};
+ghost use Rattle.number_groups.specs.Outcome.{alternate, candidate, multiple_from};
 ghost use Rattle.js_numbers.specs.Marking.{AddsMarks, AreStepsMarked, is_on};
 
 use crate::candidates::{MOST_STRUCK, gap};

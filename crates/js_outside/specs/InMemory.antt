@@ -1,37 +1,45 @@
 -- Shelves and sinks over memory, as contracts see them, and what a call does to each.
-use Rattle.std.specs.Prelude.{◌≡◌, ℕ, ◌+◌, ◌<◌, ◌≤◌, ◌==◌, List, [], ◌++◌, length, take, drop, min, Bool}
+use Rattle.std.specs.Prelude.{◌≡◌, ℕ, ◌+◌, ◌<◌, ◌≤◌, ◌==◌, List, [], ◌∷◌, ◌++◌, length, take, drop, min, Bool}
 use Rattle.std.specs.Prelude.{Option, None, Some, Result, Ok, Err}
 use Rattle.std.specs.List.{list_any}
 use Rattle.js_outside.specs.Counts.{one_more}
+use Rattle.js_outside.specs.Told.{CountsMisses}
 use Rattle.js_outside.specs.Contents.{Entries, contents, bytes_at}
 use Rattle.js_outside.specs.declared.faults.BeginFault.{BeginFault}
 use Rattle.js_outside.specs.declared.faults.BeginFault.TheVariants.{Failed, Memory}
 use Rattle.js_outside.specs.declared.memory_shelf.Begun.{Begun}
 
--- a shelf over memory: its files, what is left of the file that was begun, and its count of faults
+-- a shelf over memory: its files, what is left of the file that was begun, its count of faults, and the names that were
+-- begun
 pub record ShelfState : Type 0 where
   pub files : Entries
   pub left : List ℕ
   pub faults : ℕ
+  pub begun : List (List ℕ)
 
 -- a shelf with no file begun and no fault
 abbrev pub new_shelf : Entries → ShelfState
-new_shelf files = record { files = files; left = []; faults = 0 }
+new_shelf files = record { files = files; left = []; faults = 0; begun = [] }
+
+-- each fault was a name that was begun and isn't there
+abbrev pub FaultsAreMisses : ShelfState → Type 0
+FaultsAreMisses s = CountsMisses (Some (contents s.files)) s.begun s.faults
 
 -- what is left of the file that was begun, given its place and how much was read
 abbrev pub left_of : Entries → Option Begun → List ℕ
 left_of files None = []
 left_of files (Some begun) = drop begun.position (bytes_at files begun.file)
 
--- no file is begun, and there is a fault more
-abbrev pub unbegun : ShelfState → ShelfState
-unbegun s = record s { left = []; faults = one_more s.faults }
+-- the name was begun and failed: no file is begun, and there is a fault more
+abbrev pub unbegun : ShelfState → List ℕ → ShelfState
+unbegun s name = record s { left = []; faults = one_more s.faults; begun = s.begun ++ name ∷ [] }
 
 -- `begin`: the file of the name is there and is all left to be read, or it isn't there and the call failed
 abbrev pub BeginsIn : {T : Type 0} → ShelfState → ShelfState → List ℕ → Result T BeginFault → Type 0
 BeginsIn old new name (Ok x) =
-    (contents old.files name ≡ Some new.left) × (new ≡ record old { left = new.left })
-BeginsIn old new name (Err Failed) = (contents old.files name ≡ None) × (new ≡ unbegun old)
+    (contents old.files name ≡ Some new.left)
+    × (new ≡ record old { left = new.left; begun = old.begun ++ name ∷ [] })
+BeginsIn old new name (Err Failed) = (contents old.files name ≡ None) × (new ≡ unbegun old name)
 BeginsIn old new name (Err Memory) = ⊥
 
 -- a read failed: nothing is read, and there is a fault more
@@ -48,10 +56,10 @@ ReadsIn old new most before after (Ok count) =
 ReadsIn old new most before after (Err fault) = ⊥
 
 -- a listed call of `begin` failed
-abbrev pub RefusesBegin : {T : Type 0} → ShelfState → ShelfState → Result T BeginFault → Type 0
-RefusesBegin old new (Ok x) = ⊥
-RefusesBegin old new (Err Failed) = new ≡ unbegun old
-RefusesBegin old new (Err Memory) = ⊥
+abbrev pub RefusesBegin : {T : Type 0} → ShelfState → ShelfState → List ℕ → Result T BeginFault → Type 0
+RefusesBegin old new name (Ok x) = ⊥
+RefusesBegin old new name (Err Failed) = new ≡ unbegun old name
+RefusesBegin old new name (Err Memory) = ⊥
 
 -- a listed call of `read` failed
 abbrev pub RefusesRead : {T E : Type 0} → ShelfState → ShelfState → Result T E → Type 0

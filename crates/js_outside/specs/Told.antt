@@ -1,5 +1,7 @@
 -- What a shelf tells of its files, where it tells anything.
-use Rattle.std.specs.Prelude.{◌≡◌, ℕ, List, [], Option, None, Some, IsSome}
+use Rattle.std.specs.Prelude.{◌≡◌, ℕ, min, List, [], Option, None, Some, IsSome, is_none}
+use Rattle.std.specs.List.{count_by}
+use Rattle.js_outside.specs.Counts.{last_count}
 
 -- a finite map: the bytes of the file of a name, which is given by its UTF-8 bytes
 abbrev pub Files : Type 0
@@ -14,3 +16,12 @@ FileIsLeft (Some files) name left = (files name ≡ left) × IsSome left
 abbrev pub NothingIsLeft : Option Files → Option (List ℕ) → Type 0
 NothingIsLeft None left = left ≡ None
 NothingIsLeft (Some files) left = left ≡ Some []
+
+-- how many of these names aren't there, as far as a count goes
+abbrev pub misses : Files → List (List ℕ) → ℕ
+misses files names = min (count_by (λ name. is_none (files name)) names) last_count
+
+-- files are told, and each fault was a name that was begun and isn't there
+abbrev pub CountsMisses : Option Files → List (List ℕ) → ℕ → Type 0
+CountsMisses None names faults = ⊥
+CountsMisses (Some files) names faults = faults ≡ misses files names

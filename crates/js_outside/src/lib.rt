@@ -5,6 +5,7 @@
 //! tell no content.
 #![tactic(auto)]
 
+mod begun;
 mod calls;
 mod faults;
 mod files;
@@ -16,6 +17,7 @@ mod sink;
 #[cfg(test)]
 mod tests;
 
+pub use begun::BegunNames;
 pub use calls::CallList;
 pub use faults::{BeginFault, Failed};
 pub use files::FileMap;

@@ -2,9 +2,10 @@
 //! at a time. None of them takes memory.
 
 ghost use Rattle.std.specs.Prelude.{◌≡◌, ◌<◌, ◌++◌, take, drop, min, length, true, false};
-ghost use Rattle.js_outside.specs.InMemory.{BeginsIn, ReadsIn, RefusesBegin, RefusesRead};
+ghost use Rattle.js_outside.specs.InMemory.{BeginsIn, ReadsIn, RefusesBegin, RefusesRead, FaultsAreMisses};
 ghost use Rattle.js_outside.specs.InMemory.{counted, is_due, new_shelf, unbegun, unread};
 
+use crate::begun::BegunNames;
 use crate::calls::{CallList, Plan};
 use crate::faults::{BeginFault, Failed, raised};
 use crate::files::FileMap;
@@ -18,39 +19,63 @@ pub(crate) struct Begun {
     position: usize,
 }
 
-/// Files in memory. Its only fault is a name that isn't there.
+/// Files in memory, what was begun of them, and the faults so far.
 #[derive(Drop)]
-pub struct MemoryShelf {
+pub(crate) struct Stock {
     files: FileMap,
     begun: Option<Begun>,
     faults: u64,
+    names: BegunNames,
 }
 
-impl Model for MemoryShelf {
+impl Model for Stock {
     ghost use Rattle.js_outside.specs.InMemory.{ShelfState, left_of};
 
     ghost Value = { ShelfState };
 
-    ghost view = { λ s. record { files = s.files; left = left_of s.files s.begun; faults = s.faults } };
+    ghost view = { λ s. record {
+      files = s.files;
+      left = left_of s.files s.begun;
+      faults = s.faults;
+      begun = s.names.names;
+    } };
 }
 
-impl MemoryShelf {
-    pub fn new(files: FileMap) -> MemoryShelf
+impl Stock {
+    fn new(files: FileMap) -> Stock
         ensures { result ≡ new_shelf files }
     {
-        MemoryShelf {
+        Stock {
             files,
             begun: None,
             faults: 0,
+            names: BegunNames::new(),
+        }
+    }
+
+    fn begin(&mut self, name: &str) -> Result<(), BeginFault>
+        ensures { BeginsIn self.old self.new name.now result }
+    {
+        match self.files.index_of(name) {
+            None => {
+                self.refuse_begin(name);
+                Err(BeginFault::Failed)
+            }
+            Some(file) => {
+                self.begun = Some(Begun { file, position: 0 });
+                self.names = self.names.and(name);
+                Ok(())
+            }
         }
     }
 
     /// Ends the file that was begun, with a fault more.
-    fn refuse_begin(&mut self)
-        ensures { self.new ≡ unbegun self.old }
+    fn refuse_begin(&mut self, name: &str)
+        ensures { self.new ≡ unbegun self.old name.now }
     {
         self.begun = None;
         self.faults = raised(self.faults);
+        self.names = self.names.and(name);
     }
 
     /// Counts a read that failed.
@@ -58,6 +83,12 @@ impl MemoryShelf {
         ensures { self.new ≡ unread self.old }
     {
         self.faults = raised(self.faults);
+    }
+
+    fn read(&mut self, into: &mut [u8], most: usize) -> Result<usize, Failed>
+        ensures { ReadsIn self.old self.new most into.old into.new result }
+    {
+        Ok(self.read_at_most(into, most))
     }
 
     /// Reads at most `most` bytes into the front of `into`.
@@ -82,6 +113,47 @@ impl MemoryShelf {
     }
 }
 
+/// Files in memory. Its only fault is a name that isn't there, so the count of faults is that of such names.
+#[derive(Drop)]
+pub struct MemoryShelf {
+    stock: Stock,
+}
+
+impl Model for MemoryShelf {
+    ghost use Rattle.js_outside.specs.InMemory.{ShelfState, FaultsAreMisses};
+
+    ghost Value = { ShelfState };
+
+    ghost view = { λ s. s.stock };
+
+    ghost invariant = { λ s. FaultsAreMisses s.stock };
+}
+
+impl MemoryShelf {
+    pub fn new(files: FileMap) -> MemoryShelf
+        ensures { result ≡ new_shelf files }
+    {
+        MemoryShelf {
+            stock: Stock::new(files),
+        }
+    }
+
+    /// How many faults there were: how often a name was begun that isn't there.
+    pub fn faults(&self) -> u64
+        ensures count { result ≡ self.now.faults }
+        ensures misses { FaultsAreMisses self.now }
+    {
+        self.stock.faults
+    }
+
+    /// Reads at most `most` bytes into the front of `into`.
+    fn read_at_most(&mut self, into: &mut [u8], most: usize) -> Result<usize, Failed>
+        ensures { ReadsIn self.old self.new most into.old into.new result }
+    {
+        self.stock.read(into, most)
+    }
+}
+
 impl Shelf for MemoryShelf {
     ghost use Rattle.std.specs.Prelude.{Some, refl};
     ghost use Rattle.js_outside.specs.Contents.{contents};
@@ -92,26 +164,19 @@ impl Shelf for MemoryShelf {
 
     ghost faults = { λ s. s.faults };
 
+    ghost begun = { λ s. s.begun };
+
     fn begin(&mut self, name: &str) -> Result<(), BeginFault>
         ensures { BeginsIn self.old self.new name.now result }
     {
-        match self.files.index_of(name) {
-            None => {
-                self.refuse_begin();
-                Err(BeginFault::Failed)
-            }
-            Some(file) => {
-                self.begun = Some(Begun { file, position: 0 });
-                Ok(())
-            }
-        }
+        self.stock.begin(name)
     }
 
     fn read(&mut self, into: &mut [u8]) -> Result<usize, Failed>
         ensures { ReadsIn self.old self.new (length into.old) into.old into.new result }
     {
         let most = into.len();
-        Ok(self.read_at_most(into, most))
+        self.read_at_most(into, most)
     }
 
     ghost both_told = { λ s. refl };
@@ -120,7 +185,7 @@ impl Shelf for MemoryShelf {
 /// As [`MemoryShelf`], and the listed calls fail too. Calls of `begin` and of `read` are numbered together from 0.
 #[derive(Drop)]
 pub struct FailingShelf {
-    shelf: MemoryShelf,
+    stock: Stock,
     plan: Plan,
 }
 
@@ -129,7 +194,7 @@ impl Model for FailingShelf {
 
     ghost Value = { FailingShelfState };
 
-    ghost view = { λ s. record { shelf = s.shelf; plan = s.plan } };
+    ghost view = { λ s. record { shelf = s.stock; plan = s.plan } };
 }
 
 impl FailingShelf {
@@ -137,7 +202,7 @@ impl FailingShelf {
         ensures { result ≡ record { shelf = new_shelf files; plan = record { fail = fail; made = 0 } } }
     {
         FailingShelf {
-            shelf: MemoryShelf::new(files),
+            stock: Stock::new(files),
             plan: Plan::new(fail),
         }
     }
@@ -153,16 +218,18 @@ impl Shelf for FailingShelf {
 
     ghost faults = { λ s. s.shelf.faults };
 
+    ghost begun = { λ s. s.shelf.begun };
+
     fn begin(&mut self, name: &str) -> Result<(), BeginFault>
         ensures counted { self.new.plan ≡ counted self.old.plan }
-        ensures listed { is_due self.old.plan ≡ true → RefusesBegin self.old.shelf self.new.shelf result }
+        ensures listed { is_due self.old.plan ≡ true → RefusesBegin self.old.shelf self.new.shelf name.now result }
         ensures other { is_due self.old.plan ≡ false → BeginsIn self.old.shelf self.new.shelf name.now result }
     {
         if self.plan.is_due() {
-            self.shelf.refuse_begin();
+            self.stock.refuse_begin(name);
             return Err(BeginFault::Failed);
         }
-        self.shelf.begin(name)
+        self.stock.begin(name)
     }
 
     fn read(&mut self, into: &mut [u8]) -> Result<usize, Failed>
@@ -172,10 +239,11 @@ impl Shelf for FailingShelf {
             → ReadsIn self.old.shelf self.new.shelf (length into.old) into.old into.new result }
     {
         if self.plan.is_due() {
-            self.shelf.refuse_read();
+            self.stock.refuse_read();
             return Err(Failed);
         }
-        self.shelf.read(into)
+        let most = into.len();
+        self.stock.read(into, most)
     }
 
     ghost both_told = { λ s. refl };
@@ -221,6 +289,8 @@ impl Shelf for CutShelf {
 
     ghost faults = { λ s. s.shelf.faults };
 
+    ghost begun = { λ s. s.shelf.begun };
+
     fn begin(&mut self, name: &str) -> Result<(), BeginFault>
         ensures begun { BeginsIn self.old.shelf self.new.shelf name.now result }
         ensures same { self.new.piece ≡ self.old.piece }
@@ -233,7 +303,7 @@ impl Shelf for CutShelf {
         ensures same { self.new.piece ≡ self.old.piece }
         ensures piece { 0 < self.old.piece }
     {
-        Ok(self.shelf.read_at_most(into, self.piece as usize))
+        self.shelf.read_at_most(into, self.piece as usize)
     }
 
     ghost both_told = { λ s. refl };

@@ -1,8 +1,9 @@
 //! The file system and standard output, as a shelf and a sink. They tell no content: what the system gives and takes
 //! is trusted.
 
-ghost use Rattle.std.specs.Prelude.{◌≡◌};
+ghost use Rattle.std.specs.Prelude.{◌≡◌, []};
 
+use crate::begun::BegunNames;
 use crate::faults::{BeginFault, Failed, raised};
 use crate::shelf::Shelf;
 use crate::sink::Sink;
@@ -16,16 +17,19 @@ pub struct FileShelf<'a, R: Files> {
     rt: &'a R,
     file: Option<R::File>,
     faults: u64,
+    names: BegunNames,
 }
 
 impl<'a, R: Files> FileShelf<'a, R> {
     pub fn new(rt: &'a R) -> FileShelf<'a, R>
-        ensures { ⟦<FileShelf<'a, R> as Shelf>⟧.faults result ≡ 0 }
+        ensures faults { ⟦<FileShelf<'a, R> as Shelf>⟧.faults result ≡ 0 }
+        ensures begun { ⟦<FileShelf<'a, R> as Shelf>⟧.begun result ≡ [] }
     {
         FileShelf {
             rt,
             file: None,
             faults: 0,
+            names: BegunNames::new(),
         }
     }
 }
@@ -39,7 +43,10 @@ impl<'a, R: Files> Shelf for FileShelf<'a, R> {
 
     ghost faults = { λ s. s.faults };
 
+    ghost begun = { λ s. s.names.names };
+
     fn begin(&mut self, name: &str) -> Result<(), BeginFault> {
+        self.names = self.names.and(name);
         self.file = None;
         match fs::open(self.rt, name) {
             Ok(file) => {

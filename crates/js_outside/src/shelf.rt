@@ -1,6 +1,6 @@
 //! A shelf: where files are read from, one at a time.
 
-ghost use Rattle.std.specs.Prelude.{◌≡◌, ℕ, List, Option, OnOk, OnErr, is_some};
+ghost use Rattle.std.specs.Prelude.{◌≡◌, ◌∷◌, ◌++◌, ℕ, List, [], Option, OnOk, OnErr, is_some};
 ghost use Rattle.std.specs.Io.{ReadsAtMost};
 ghost use Rattle.std.specs.Io.KnownBytes.{ReadConsumes};
 ghost use Rattle.js_outside.specs.Counts.{Rose, CountsBegin};
@@ -20,12 +20,16 @@ pub trait Shelf {
     // How many faults there were. The count stands still at its last value.
     ghost faults: { Self → ℕ };
 
+    // The names with which `begin` was called, in their order, whatever it answered.
+    ghost begun: { Self → List (List ℕ) };
+
     /// Begins a file. After a fault no file is begun.
     fn begin(&mut self, name: &str) -> Result<(), BeginFault>
         ensures told { told self.new ≡ told self.old }
         ensures begun { OnOk result (FileIsLeft (told self.old) name.now (left self.new)) }
         ensures unbegun { OnErr result (NothingIsLeft (told self.old) (left self.new)) }
-        ensures counted { CountsBegin result (faults self.old) (faults self.new) };
+        ensures counted { CountsBegin result (faults self.old) (faults self.new) }
+        ensures named { begun self.new ≡ begun self.old ++ name.now ∷ [] };
 
     /// Reads bytes of the file that was begun into the front of `into`, and answers how many. Where `into` has room, 0
     /// says that nothing is left. With no file begun there is nothing to read.
@@ -34,7 +38,8 @@ pub trait Shelf {
         ensures within { ReadsAtMost result into.new }
         ensures taken { ReadConsumes (left self.old) (left self.new) result into.new }
         ensures counted { OnOk result (faults self.new ≡ faults self.old) }
-        ensures failed { OnErr result (Rose (faults self.old) (faults self.new)) };
+        ensures failed { OnErr result (Rose (faults self.old) (faults self.new)) }
+        ensures named { begun self.new ≡ begun self.old };
 
     // What is left is told exactly where the files are.
     ghost both_told: { (s : Self) → is_some (left s) ≡ is_some (told s) };

@@ -14,3 +14,5 @@ pub mod TreeLists
 -- A text has a tree or a first fault, and want of memory is none.
 pub mod NoMemory
 pub mod One
+-- The order in which words are made, by spans of characters.
+pub mod Spans

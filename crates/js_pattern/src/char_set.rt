@@ -7,8 +7,10 @@ ghost use Rattle.std.specs.Prelude.{◌≡◌, ℕ, ◌≤◌, Bool, true, false
 ghost use Rattle.std.specs.Option.{IfSome, IsNone, MatchOption};
 ghost use Rattle.patterns.specs.CharSet.{has, is_scalar, are_ranges, set_of, complement_of, count_below, comes_no_later};
 ghost use Rattle.pattern_laws.specs.Laws.{every_range};
+ghost use Rattle.js_pattern.specs.Order.{NextAfter};
 
 use crate::fault::Memory;
+use crate::order::next_after;
 use crate::range_list::RangeList;
 use crate::ranges::{first_within, gaps, is_range, join, width, with_range};
 use std::alloc::Global;
@@ -137,6 +139,14 @@ impl CharSet {
             return Some(c);
         }
         first_within(&self.ranges, 0, 0x10ffff)
+    }
+
+    /// The first member that comes after `c` in that order, and none exactly where no member does. With `first`, it
+    /// goes through the members one after another. `c` needn't be a member. A call takes time in the number of ranges.
+    pub fn next_after(&self, c: char) -> Option<char>
+        ensures { NextAfter self.now c result }
+    {
+        next_after(&self.ranges, c)
     }
 
     /// The set of the characters that lie in one of the ranges.

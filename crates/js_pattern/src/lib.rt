@@ -10,6 +10,7 @@ mod class;
 mod escape;
 mod fault;
 mod level;
+mod order;
 mod quantifier;
 mod range_list;
 mod ranges;

@@ -1,6 +1,6 @@
 //! Reading a whole file.
 
-ghost use Rattle.std.specs.Prelude.{◌≡◌, IfErr, IfOk, OnOk, vec_len};
+ghost use Rattle.std.specs.Prelude.{◌≡◌, [], ◌∷◌, ◌++◌, IfErr, IfOk, OnOk, vec_len};
 ghost use Rattle.js_report.specs.WholeFile.{IsWholeFile, FaultSays};
 
 use js_outside::{BeginFault, Shelf};
@@ -35,12 +35,13 @@ impl From<AllocError> for FileFault {
     }
 }
 
-/// All bytes of a file. After a fault part of the file may have been read.
+/// All bytes of a file. No other file is begun. After a fault part of the file may have been read.
 pub fn read_file<H: Shelf>(alloc: Global, shelf: &mut H, name: &str) -> Result<Vec<u8>, FileFault>
     ensures told { H.told shelf.new ≡ H.told shelf.old }
     ensures whole { IfOk result (λ bytes. IsWholeFile (H.told shelf.old) name.now bytes.items) }
     ensures counted { OnOk result (H.faults shelf.new ≡ H.faults shelf.old) }
     ensures fault { IfErr result (FaultSays (H.told shelf.old) name.now (H.faults shelf.old) (H.faults shelf.new)) }
+    ensures begun { H.begun shelf.new ≡ H.begun shelf.old ++ name.now ∷ [] }
 {
     match shelf.begin(name) {
         Err(BeginFault::Failed) => return Err(FileFault::Read),

@@ -4,6 +4,7 @@ use Rattle.documents.specs.Json.{Json, string, Members}
 use Rattle.schemas.specs.Places.{Pointer}
 use Rattle.schemas.specs.Entry.{Asks, Ref}
 use Rattle.schemas.specs.Entries.{number_of, keywords_of, object_form, reference_form, referred_form}
+use Rattle.js_doc.specs.declared.word.Word.{Word}
 use Rattle.js_doc.specs.declared.json.Json as JJ
 use Rattle.js_doc.specs.declared.json.Json.TheVariants as JV
 use Rattle.js_doc.specs.JsonView.{view}
@@ -22,7 +23,7 @@ object_form-asks root entry_of by o same p q ms ns k none is place members =
     ap Asks (is ∙ ap (λ e. keywords_of e q ns) same ∙ ap₂ (keywords_of entry_of) place members)
     ∙ sym (ap (λ r. object_form rules root entry_of r p ms) none)
 
-pub view-Text : (w : List ℕ) → view (JV.Text w) ≡ string w
+pub view-Text : (w : Word) → view (JV.Text w) ≡ string w.text
 view-Text w = search (common, JJ.the_lemmas)
 
 -- a reference that is a word leads to the entry of its target's place

@@ -10,9 +10,7 @@ use Rattle.schemas.specs.Entry.{Form, Entry, entry}
 use Rattle.schemas.specs.Entries.{number_of, form_at, entry_at, entries_at, entries_or, read}
 use Rattle.schemas.specs.Schema.{is_table}
 use Rattle.schema_laws.specs.Values.{IsIn}
-use Rattle.schema_laws.proofs.Walks.{all_places}
 use Rattle.schema_laws.proofs.Faultless.{faultless}
-use Rattle.schema_laws.proofs.WellFormedLaws.{values_well_formed}
 use Rattle.schema_laws.proofs.TableLaws.{is_table-length}
 use Rattle.js_keywords.specs.Reading.{rules}
 use Rattle.js_schema.proofs.Soundness.{is_table-read}
@@ -25,12 +23,6 @@ in_list (y ∷ ys) (suc i) x l h = inr (in_list ys i x (omega (arith, l)) h)
 module _ (root : Json) (cs : List Place) (all : places rules root ≡ cs) where
   place_among : (i : ℕ) (c : Place) → i < length cs → c ≡ get_or cs i c → IsIn c (places rules root)
   place_among i c l h = subst (IsIn c) (sym all) (in_list cs i c l h)
-
-  pub place_well_formed : (i : ℕ) (c : Place) → i < length cs → c ≡ get_or cs i c → is_json root ≡ true
-      → is_json c.1 ≡ true
-  place_well_formed i c l h well =
-      let within = all_places rules root in
-      values_well_formed [] root c well (within.within c (place_among i c l h))
 
   pub place_faultless : (i : ℕ) (c : Place) → i < length cs → c ≡ get_or cs i c → first_fault rules root ≡ None
       → fault_at rules root c ≡ None

@@ -3,9 +3,8 @@
 //! It takes time and memory in proportion to the object, and two look-ups for each schema in it. Where a reference leads
 //! is known from the walk.
 
-ghost use Rattle.std.specs.Prelude.{◌≡◌, ◌<◌, true, None, Some, length, IfOk};
+ghost use Rattle.std.specs.Prelude.{◌≡◌, ◌<◌, None, Some, length, IfOk};
 ghost use Rattle.documents.specs.Json as D;
-ghost use Rattle.documents.specs.WellFormed.{is_json, are_members};
 ghost use Rattle.schemas.specs.Reading.{fault_at};
 ghost use Rattle.schemas.specs.Entries as E;
 ghost use Rattle.js_doc.specs.JsonView.{view, map_view};
@@ -39,7 +38,6 @@ pub(crate) fn form<'a>(
 ) -> Result<Form, Memory>
     requires none { HasNone none.now.value }
     requires placed { pointer < length (pointers_in numbers.now) }
-    requires well_formed { is_json (view value.now) ≡ true }
     requires faultless { fault_at rules (root_of file.now) (pointer_at numbers.now pointer, view value.now) ≡ None }
     requires target { IsTarget (root_of file.now) (pointers_in numbers.now) (view value.now) target }
     ensures { IfOk result (λ f. form_view f ≡ E.form_at rules (root_of file.now)
@@ -63,7 +61,6 @@ fn object_form<'a>(
 ) -> Result<Form, Memory>
     requires none { HasNone none.now.value }
     requires placed { pointer < length (pointers_in numbers.now) }
-    requires well_formed { are_members (map_view members.now) ≡ true }
     requires faultless { fault_at rules (root_of file.now)
         (pointer_at numbers.now pointer, D.object (map_view members.now)) ≡ None }
     requires target { IsTarget (root_of file.now) (pointers_in numbers.now) (D.object (map_view members.now)) target }

@@ -2,7 +2,6 @@
 
 ghost use Rattle.std.specs.Prelude.{◌≡◌, ◌<◌, ◌↔◌, IsTrue, true, is_none, length, codes, option_map};
 ghost use Rattle.documents.specs.Json as D;
-ghost use Rattle.documents.specs.WellFormed.{are_members};
 ghost use Rattle.js_doc.specs.JsonView.{view, map_view};
 ghost use Rattle.js_keywords.specs.Names.{keyword_name};
 ghost use Rattle.js_schema.specs.Faultless.{is_faultless};
@@ -20,7 +19,6 @@ pub(crate) struct Object<'a> {
     pointer: u32,
     members: &'a JsonMap,
     ghost placed: { pointer < length (pointers_in numbers.now) },
-    ghost rising: { are_members (map_view members.now) ≡ true },
     ghost plain: { is_none (D.lookup (codes "$ref") (map_view members.now)) ≡ true },
     ghost faultless: { is_faultless (pointer_at numbers.now pointer) (map_view members.now) ≡ true },
 }
@@ -30,7 +28,6 @@ impl<'a> Object<'a> {
 
     pub(crate) fn new(numbers: &'a Numbers<'a>, pointer: u32, members: &'a JsonMap) -> Object<'a>
         requires placed { pointer < length (pointers_in numbers.now) }
-        requires rising { are_members (map_view members.now) ≡ true }
         requires plain { is_none (D.lookup (codes "$ref") (map_view members.now)) ≡ true }
         requires faultless { is_faultless (pointer_at numbers.now pointer) (map_view members.now) ≡ true }
         ensures members { members_of result ≡ map_view members.now }
@@ -52,11 +49,11 @@ impl<'a> Object<'a> {
     }
 
     /// The value of the keyword, where the object has it.
-    #[tactic(auto, using(js_walk::proofs::MembersLemmas::keyword_names, js_walk::proofs::MembersLemmas::rising_names))]
+    #[tactic(auto, using(js_walk::proofs::MembersLemmas::keyword_names))]
     pub(crate) fn value(&self, keyword: Keyword) -> Option<&'a Json>
         ensures { option_map (λ j. view j.now) result ≡ D.lookup (keyword_name keyword) (members_of self.now) }
     {
-        self.members.find(keyword.name())
+        self.members.get(keyword.name())
     }
 
     /// The number of the object's pointer.

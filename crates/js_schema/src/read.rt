@@ -6,7 +6,6 @@
 //! them. The program's stack is used for the values of `enum` and `const` alone, as deep as they nest.
 
 ghost use Rattle.std.specs.Prelude.{◌≡◌, ◌<◌, true, None, Ok, map, length, get_or, IfOk};
-ghost use Rattle.documents.specs.WellFormed.{is_json};
 ghost use Rattle.schemas.specs.Walk.{places};
 ghost use Rattle.schemas.specs.Reading.{first_fault};
 ghost use Rattle.schemas.specs.Entries as E;
@@ -31,10 +30,8 @@ use js_walk::{File, walk};
 use std::alloc::Global;
 use std::rc::Rc;
 
-/// The schema that `json` is, or what is wrong in it first, in the order of the walk. `json` is the value of a text, as
-/// `js_json::read_json` gives it.
+/// The schema that `json` is, or what is wrong in it first, in the order of the walk.
 pub fn read_schema(alloc: Global, json: &Json) -> Result<Schema, SchemaFault>
-    requires { is_json (view json.now) ≡ true }
     ensures { Answers (E.read rules (view json.now)) result }
 {
     let file = File::new(json);

@@ -98,7 +98,7 @@ fn word(alloc: Global, value: &Json) -> Result<Str, Memory>
     ensures { IfOk result (λ w. w ≡ E.word (view value.now)) }
 {
     match value {
-        Json::Text(word) => word.copy(alloc),
+        Json::Text(word) => word.as_str().copy(alloc),
         _ => Ok(empty(alloc)),
     }
 }
@@ -116,7 +116,7 @@ pub(crate) fn pattern(alloc: Global, value: &Json) -> Result<PatternText, Memory
     ensures { IfOk result (λ p. source_of p ≡ E.word (view value.now)) }
 {
     match value {
-        Json::Text(text) => pattern_text(alloc, text),
+        Json::Text(text) => pattern_text(alloc, text.as_str()),
         _ => unreachable!(),
     }
 }

@@ -1,7 +1,6 @@
--- The branches of a tree: what they are, what they mean, and that they are found one after another.
-use Rattle.std.proofs.Common.{◌≡◌, ℕ, suc, ◌+◌, ⊎_elim, true, List, [], ◌∷◌, ◌++◌, length, Option, Some, None, refl, arith, ap, sym, ◌∙◌, subst}
+-- The branches of a tree: what they are, what they mean, how they are numbered, and that they are no more than its ends.
+use Rattle.std.proofs.Common.{◌≡◌, ℕ, suc, ◌+◌, ◌≤◌, ⊎_elim, true, List, [], ◌∷◌, ◌++◌, length, refl, arith, ap, sym, ◌∙◌, subst}
 use Rattle.std.specs.List.{AllByRecursion}
-use Rattle.std.specs.Option.{MatchOption}
 use Rattle.documents.specs.Tests.{some}
 use Rattle.documents.specs.Kind.{Kind}
 use Rattle.documents.specs.Document.{Document, kind_of}
@@ -11,7 +10,7 @@ use Rattle.position_laws.proofs.Lists.{all-weaker, all-flat_map}
 use Rattle.position_laws.proofs.Tables.{is_table-IsTable}
 use Rattle.goals.specs.Signed.{Signed, add_all, is_rising, meets}
 use Rattle.goals.specs.Goal.{contains}
-use Rattle.goals.specs.Tree.{Step, Clash, Wrong, Rule, Saturated, steps, steps_from, branches}
+use Rattle.goals.specs.Tree.{Step, Clash, Wrong, Rule, Saturated, steps, steps_from, ends, branches}
 use Rattle.goal_laws.specs.Saturated.{IsSaturated}
 use Rattle.goal_laws.proofs.Branches.{meets-branches, branches-are, branches-flat_map}
 use Rattle.goal_laws.proofs.Steps.{Told, EachChoice, steps-induction}
@@ -97,16 +96,11 @@ pub numbered-more : (k : JsonKind) (n : ℕ) (bs : List Branch) (b : Branch) →
 numbered-more k n [] b e f h = (e, omega (arith, f), tt)
 numbered-more k n (c ∷ bs) b e f h = (h.0, h.1, numbered-more k (suc n) bs b e (omega (arith, f)) h.2)
 
--- where nothing is left all were found
-pub all_found : (Fs : List (List Signed)) (ss all : List Step) → Fs ++ branches ss ≡ branches all → ss ≡ []
-    → Fs ≡ branches all
-all_found Fs ss all e none = sym (no_more Fs) ∙ ap (λ rs. Fs ++ branches rs) (sym none) ∙ e where
-  no_more : (Xs : List (List Signed)) → Xs ++ [] ≡ Xs
-  no_more [] = refl
-  no_more (X ∷ Xs) = ap (λ Ys. X ∷ Ys) (no_more Xs)
-
--- what is said where there is none
-pub at_none : {A : Type 0} (o : Option A) (Q : Type 0) (R : A → Type 0) → ((x : A) → o ≡ Some x → ⊥)
-    → MatchOption o Q R → Q
-at_none None Q R never h = h
-at_none (Some x) Q R never h = absurd (never x refl)
+-- there are no more branches than ends
+pub branches_few : (ss : List Step) → length (branches ss) ≤ ends ss
+branches_few [] = omega arith
+branches_few (Clash p ∷ ss) = omega (arith, branches_few ss)
+branches_few (Wrong x ∷ ss) = omega (arith, branches_few ss)
+branches_few (Rule x [] ∷ ss) = omega (arith, branches_few ss)
+branches_few (Rule x (C ∷ cs) ∷ ss) = branches_few ss
+branches_few (Saturated S ∷ ss) = omega (arith, branches_few ss)

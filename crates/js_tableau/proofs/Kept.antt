@@ -1,26 +1,17 @@
 -- A set of numbers in order is kept as the rising list of its signed positions.
-use Rattle.std.proofs.Common.{◌≡◌, ℕ, suc, ◌/◌, ◌%◌, ◌^◌, ◌<◌, Bool, true, false, cond, nat_eq, nat_lt, Ordering, Less, Equal, Greater, List, [], ◌∷◌, map, refl, arith, ap, ap₂, sym, ◌∙◌, subst}
+use Rattle.std.proofs.Common.{◌≡◌, ℕ, suc, ◌^◌, ◌<◌, Bool, true, false, cond, nat_eq, nat_lt, Ordering, Less, Equal, Greater, List, [], ◌∷◌, map, refl, arith, ap, ap₂, sym, ◌∙◌, subst}
 use Rattle.std.specs.Ordering.{nat_cmp, match_ordering, MatchOrdering}
 use Rattle.std.specs.BTreeSet.{insert_key}
 use Rattle.std.specs.BTreeMap.Range.{IsLtBy}
 use Rattle.std.specs.List.{All}
-use Rattle.std.proofs.lemmas.Bool.{eqb-true, eqb-false, lt-ltb, ltb-true, and_parts, and_from}
+use Rattle.std.proofs.lemmas.Bool.{eqb-true, lt-ltb, ltb-true, and_parts, and_from}
 use Rattle.std.proofs.lemmas.Cmp.{ranked}
 use Rattle.documents.specs.Tests.{every}
 use Rattle.goals.specs.Signed.{Signed, same_signed, comes_before, add}
 use Rattle.js_algebra.specs.Order.{order_of}
-use Rattle.js_algebra.specs.View.{with_sign}
-use Rattle.js_algebra.proofs.Orders.{order-same, before-order, same-order, lt_before}
-use Rattle.js_tableau.specs.Numbers.{signed_at, are_numbers}
-
-pub order_of-signed_at : (n : ℕ) → order_of (signed_at n) ≡ n
-order_of-signed_at n = go (nat_eq (n % 2) 0) refl where
-  go : (b : Bool) → nat_eq (n % 2) 0 ≡ b → order_of (with_sign b (n / 2)) ≡ n
-  go true e = omega (arith, eqb-true (n % 2) 0 e)
-  go false e = omega (arith, eqb-false (n % 2) 0 e)
-
-pub signed_at-order_of : (x : Signed) → signed_at (order_of x) ≡ x
-signed_at-order_of x = order-same _ _ (order_of-signed_at (order_of x))
+use Rattle.js_algebra.proofs.Orders.{before-order, same-order, lt_before}
+use Rattle.js_algebra.specs.Numbers.{signed_at, are_numbers}
+use Rattle.js_algebra.proofs.Numbered.{order_of-signed_at, signed_at-order_of}
 
 -- an insertion adds the signed position
 pub insert-add : (x : Signed) (ks : List ℕ) → map signed_at (insert_key nat_cmp ks (order_of x)) ≡ add x

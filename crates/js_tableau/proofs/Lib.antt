@@ -1,10 +1,5 @@
--- What holds by the truths of a word's atoms holds of the word.
-pub mod NameLaws
--- Which atoms are known where those of a position are.
-pub mod KnownLaws
 -- The set of a walk: its members, their places, what waits, and whether a choice is in it.
 pub mod Covering
-pub mod Indexed
 pub mod Kept
 pub mod Settling
 pub mod Having
@@ -16,3 +11,8 @@ pub mod Counting
 pub mod Remaining
 -- The branches of a tree.
 pub mod Branching
+-- Positions and their places.
+pub mod Places
+pub mod Planned
+-- A chain of positions, for tests.
+pub mod Chains

@@ -11,10 +11,10 @@ use Rattle.goals.specs.Tree.{Step, Clash, Wrong, Rule, Saturated, first, step_at
 use Rattle.js_algebra.specs.Order.{order_of}
 use Rattle.js_algebra.proofs.Orders.{same_eq, same-true, same-itself}
 use Rattle.js_algebra.proofs.Sets.{has_after, rising-add_all}
-use Rattle.js_tableau.specs.Trails.{set_of}
+use Rattle.js_algebra.specs.SignedSets.{set_of}
 use Rattle.js_tableau.specs.Least.{better, least_from}
 use Rattle.js_tableau.specs.Walks.{IsLeast, is_clash, is_clean}
-use Rattle.js_tableau.proofs.Covering.{has-append, has-set_of}
+use Rattle.js_algebra.proofs.Grown.{has-append, has-set_of}
 
 -- one more to look at
 better-least : (p : Signed → Bool) (done : List Signed) (o : Option Signed) (x : Signed) → IsLeast p done o

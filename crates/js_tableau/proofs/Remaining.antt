@@ -6,7 +6,7 @@ use Rattle.std.proofs.lemmas.List.Concat.{flat_map-append}
 use Rattle.documents.specs.Tests.{every, some}
 use Rattle.documents.specs.Kind.{Kind}
 use Rattle.positions.specs.Position.{Position, is_table}
-use Rattle.goal_laws.proofs.Signs.{has-every, every-has, add_all-itself}
+use Rattle.goal_laws.proofs.Signs.{has-every, add_all-itself}
 use Rattle.goals.specs.Signed as G
 use Rattle.goals.specs.Signed.{add_all, has, same_signed, position_of, is_rising}
 use Rattle.goals.specs.Choices.{choices}
@@ -15,14 +15,15 @@ use Rattle.goals.specs.Tree.{steps, ends, next, choice_list, has_choice}
 use Rattle.js_algebra.specs.View.{signed_view, is_in_table, are_in_table}
 use Rattle.js_algebra.specs.declared.signed.Signed.{Signed}
 use Rattle.js_algebra.proofs.Orders.{same-true}
-use Rattle.js_tableau.specs.Trails.{set_of, with_members}
+use Rattle.js_algebra.specs.SignedSets.{set_of, with_members}
 use Rattle.js_tableau.specs.Walks.{is_clean, are_settled, are_settled_but, step_view, Follows, Extends}
 use Rattle.js_tableau.specs.Branches.{most_ends}
 use Rattle.js_tableau.specs.Progress.{choice_of, sets, steps_left, IsFine, AreFine, entries, steps_at_hand, Matches, IsCounted, Visits, is_end, one_more, choice_count}
 use Rattle.js_tableau.specs.declared.visits.Pending.{Pending}
 use Rattle.js_tableau.specs.declared.walk.Step.{Step}
 use Rattle.js_tableau.specs.declared.walk.Step.TheVariants as V
-use Rattle.js_tableau.proofs.Covering.{take-all, take-with_members, length-with_members, set-with_members, has-with_members, has-take}
+use Rattle.js_algebra.proofs.Grown.{take-with_members, length-with_members, set-with_members, has-with_members}
+use Rattle.std.proofs.lemmas.List.{take_all}
 use Rattle.js_tableau.proofs.Unfolded.{ends-append, next_sets, steps-set, sets-ends, next-ends}
 use Rattle.js_tableau.proofs.Counting.{counts, leaves}
 
@@ -83,7 +84,7 @@ module _ (P : List Position) (t : Kind) where
         nothing_left (C ∷ cs) (suc i) l = nothing_left cs i (omega (arith, l))
   sets-entries xs s x es i (suc n) e =
       ap (λ ws. add_all (get_or (choices_of x) i []) (set_of ws)
-      ∷ sets P t ws (entries (length xs) s x (suc i) n ++ es)) (take-all (length xs) xs (omega arith))
+      ∷ sets P t ws (entries (length xs) s x (suc i) n ++ es)) (take_all (length xs) xs (omega arith))
       ∙ ap (λ Ss. add_all (get_or (choices_of x) i []) (set_of xs) ∷ Ss)
       (sets-entries xs s x es (suc i) n (omega (arith, e)))
       ∙ ap (λ cs. map (λ C. add_all C (set_of xs)) cs ++ sets P t xs es)
@@ -142,8 +143,8 @@ module _ (P : List Position) (t : Kind) where
       → AreFine P t xs ys (entries (length xs) (length ys) x i n ++ es)
   fine-entries xs ys x es i zero e r c s f = f
   fine-entries xs ys x es i (suc n) e r c s f =
-      let a = take-all (length xs) xs (omega arith) in
-      let b = take-all (length ys) ys (omega arith) in (
+      let a = take_all (length xs) xs (omega arith) in
+      let b = take_all (length ys) ys (omega arith) in (
         record {
           members_in = omega arith;
           settled_in = omega arith;
@@ -318,20 +319,9 @@ take-within (suc k) (suc n) (x ∷ xs) l = ap (λ ys. x ∷ ys) (take-within k n
 pub extends-take : {A : Type 0} (xs ys : List A) → Extends xs ys → (k : ℕ) → k ≤ length xs → take k ys ≡ take k xs
 extends-take xs ys e k l = sym (take-within k (length xs) ys l) ∙ ap (take k) e.1
 
-pub members_in_table : (P : List Position) (C xs : List G.Signed) (k : ℕ) → are_in_table P C ≡ true
-    → are_in_table P xs ≡ true → are_in_table P (with_members C (take k xs)) ≡ true
-members_in_table P C xs k a b =
-    has-every (is_in_table P) (with_members C (take k xs)) (λ z h.
-    ⊎_elim (λ i. every-has (is_in_table P) C z a i) (λ i. every-has (is_in_table P) xs z b (has-take k xs z i))
-    (or_cases (has z C) (has z (take k xs)) (sym (has-with_members z C (take k xs)) ∙ h)))
-
 -- the set that a walk begins with is the goal
 pub first_set : (g ms : List G.Signed) → is_rising g ≡ true → ms ≡ with_members g [] → set_of ms ≡ g
 first_set g ms r e = ap set_of e ∙ set-with_members g [] ∙ add_all-itself g r
-
--- the members at first
-pub first_members : (ms ws gs g : List G.Signed) → ms ≡ with_members gs ws → ws ≡ [] → gs ≡ g → ms ≡ with_members g []
-first_members ms ws gs g a b e = a ∙ ap₂ with_members e b
 
 no_more : {A : Type 0} (xs : List A) → xs ++ [] ≡ xs
 no_more [] = refl

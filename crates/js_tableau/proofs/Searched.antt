@@ -1,6 +1,6 @@
 -- A member of a rising list is where the lesser members end.
 use Rattle.std.proofs.Common.{◌≡◌, ℕ, zero, suc, ◌<◌, ◌≤◌, ⊎_elim, Bool, true, false, List, [], ◌∷◌, map, length, get_or, refl, arith, ap, sym, ◌∙◌, subst, nat_lt}
-use Rattle.std.proofs.lemmas.Bool.{true≢false, and_parts, ltb-true, ltb-false, lt-ltb, false_from_ne_true, cases_lt}
+use Rattle.std.proofs.lemmas.Bool.{true≢false, or_cases, or_left, or_right, and_parts, ltb-true, ltb-false, lt-ltb, false_from_ne_true, cases_lt}
 use Rattle.std.specs.List.Sorted.{IsPartitionedBy, IsPartitionPoint}
 use Rattle.documents.specs.Tests.{every}
 use Rattle.goals.specs.Signed as G
@@ -9,10 +9,31 @@ use Rattle.js_algebra.specs.Order.{order_of}
 use Rattle.js_algebra.specs.View.{signed_view}
 use Rattle.js_algebra.specs.declared.signed.Signed.{Signed}
 use Rattle.js_algebra.proofs.Orders.{before_lt, same_eq, same-true, same-itself}
-use Rattle.js_tableau.proofs.Indexed.{stands, has_at, same_place}
 
 abbrev pub number : Signed → ℕ
 number y = order_of (signed_view y)
+
+-- where a member stands
+pub stands : (z : G.Signed) (xs : List Signed) → has z (map signed_view xs) ≡ true
+    → (j : ℕ) × (w : Signed) × (j < length xs) × (w ≡ get_or xs j w) × (same_signed z (signed_view w) ≡ true)
+stands z [] e = absurd (true≢false (sym e))
+stands z (x ∷ xs) e =
+    ⊎_elim (λ s. (0, x, omega arith, refl, s))
+    (λ h. let (j, w, l, a, s) = stands z xs h in (suc j, w, omega (arith, l), a, s))
+    (or_cases (same_signed z (signed_view x)) (has z (map signed_view xs)) e)
+
+pub has_at : (xs : List Signed) (i : ℕ) (x : Signed) → i < length xs → x ≡ get_or xs i x
+    → has (signed_view x) (map signed_view xs) ≡ true
+has_at [] i x l e = absurd (omega (arith, l))
+has_at (y ∷ xs) zero x l e = or_left _ (has (signed_view x) (map signed_view xs))
+    (subst (λ w. same_signed (signed_view x) (signed_view w) ≡ true) e (same-itself (signed_view x)))
+has_at (y ∷ xs) (suc i) x l e = or_right (same_signed (signed_view x) (signed_view y)) _
+    (has_at xs i x (omega (arith, l)) e)
+
+pub same_place : (xs : List Signed) (i : ℕ) (w y : Signed) → i < length xs → get_or xs i w ≡ get_or xs i y
+same_place [] i w y l = absurd (omega (arith, l))
+same_place (x ∷ xs) zero w y l = refl
+same_place (x ∷ xs) (suc i) w y l = same_place xs i w y (omega (arith, l))
 
 every_at : (p : G.Signed → Bool) (xs : List Signed) (j : ℕ) (d : Signed) → every p (map signed_view xs) ≡ true
     → j < length xs → p (signed_view (get_or xs j d)) ≡ true

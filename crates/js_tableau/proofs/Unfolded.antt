@@ -10,7 +10,7 @@ use Rattle.goal_laws.proofs.Steps.{steps-next, steps-induction, Told, EachChoice
 use Rattle.goals.specs.Signed.{Signed, add_all, position_of}
 use Rattle.goals.specs.Tree.{Step, Clash, Wrong, Rule, Saturated, steps, steps_from, next, ends}
 use Rattle.js_algebra.specs.View.{are_in_table, is_in_table}
-use Rattle.js_tableau.specs.Trails.{set_of}
+use Rattle.js_algebra.specs.SignedSets.{set_of}
 
 pub ends-append : (ss rs : List Step) → ends (ss ++ rs) ≡ ends ss + ends rs
 ends-append [] rs = omega arith

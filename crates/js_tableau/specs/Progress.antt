@@ -1,5 +1,5 @@
 -- How far a walk has come: the sets that are still to be visited, and the steps of a tree that are left.
-use Rattle.std.specs.Prelude.{◌≡◌, ℕ, zero, suc, ◌+◌, ◌<◌, ◌≤◌, ◌*◌, List, [], ◌∷◌, ◌++◌, map, flat_map, take, length, reverse, get_or, Bool, true, false, cond, ⊤}
+use Rattle.std.specs.Prelude.{◌≡◌, ℕ, zero, suc, ◌+◌, ◌<◌, ◌≤◌, List, [], ◌∷◌, ◌++◌, map, flat_map, take, length, reverse, get_or, Bool, true, false, cond, ⊤, Option, Some, None}
 use Rattle.documents.specs.Kind.{Kind}
 use Rattle.positions.specs.Position.{Position}
 use Rattle.goals.specs.Signed as G
@@ -9,7 +9,7 @@ use Rattle.goals.specs.Tree as T
 use Rattle.goals.specs.Tree.{steps, ends, choice_list}
 use Rattle.js_algebra.specs.View.{signed_view, is_in_table, are_in_table}
 use Rattle.js_algebra.specs.declared.signed.Signed.{Signed}
-use Rattle.js_tableau.specs.Trails.{set_of, with_members}
+use Rattle.js_algebra.specs.SignedSets.{set_of, with_members}
 use Rattle.js_tableau.specs.Walks.{IsCovered, is_clean, are_settled, step_view}
 use Rattle.js_tableau.specs.Branches.{most_ends}
 use Rattle.js_tableau.specs.declared.walk.Walk.{Walk}
@@ -71,10 +71,9 @@ AreFine P t xs ys (e ∷ es) = IsFine P t xs ys e × AreFine P t (take e.members
 
 -- a walk with the sets still to be visited
 pub record Stands (P : List Position) (t : Kind) (w : Walk) (es : List Pending) : Type 0 where
-  pub in_table : are_in_table P w.trail.members ≡ true
-  pub room : w.trail.room ≡ 2 * length P
+  pub in_table : are_in_table P w.trail ≡ true
   pub covered : IsCovered w
-  pub fine : AreFine P t w.trail.members w.settled.items (reverse es)
+  pub fine : AreFine P t w.trail w.settled.items (reverse es)
 
 -- a rule comes with the number of its choices
 abbrev pub IsCounted : List Position → Kind → Step → Type 0
@@ -100,12 +99,12 @@ steps_at_hand P t xs es = steps P t (set_of xs) ++ steps_left P t xs es
 
 -- the steps of a tree that weren't told yet
 abbrev pub left : List Position → Kind → Tree → List T.Step
-left P t tree = cond tree.begun (steps_left P t tree.walk.trail.members tree.pending.items)
-    (steps_at_hand P t tree.walk.trail.members tree.pending.items)
+left P t tree = cond tree.begun (steps_left P t tree.walk.trail tree.pending.items)
+    (steps_at_hand P t tree.walk.trail tree.pending.items)
 
 -- the set that was told last, as a rising list
 abbrev pub told_set : Tree → List G.Signed
-told_set tree = set_of tree.walk.trail.members
+told_set tree = set_of tree.walk.trail
 
 -- a tree of a table at a kind, not over the limit so far
 pub record IsTree (P : List Position) (t : Kind) (tree : Tree) : Type 0 where
@@ -117,8 +116,8 @@ pub record IsTree (P : List Position) (t : Kind) (tree : Tree) : Type 0 where
 pub record IsAtHand (P : List Position) (t : Kind) (tree : Tree) (from : ℕ) : Type 0 where
   pub stands : Stands P t tree.walk tree.pending.items
   pub few : tree.ends + length tree.pending.items ≤ most_ends
-  pub clean : is_clean P t (take from tree.walk.trail.members) ≡ true
-  pub settled : are_settled P t tree.walk.trail.members (map signed_view tree.walk.settled.items) ≡ true
+  pub clean : is_clean P t (take from tree.walk.trail) ≡ true
+  pub settled : are_settled P t tree.walk.trail (map signed_view tree.walk.settled.items) ≡ true
   pub begun : tree.begun ≡ true
 
 -- the step was the next one, and the ends that were told and those that are left are as many as before
@@ -126,3 +125,8 @@ pub record Tells (P : List Position) (t : Kind) (old new : Tree) (s : Step) : Ty
   pub told : left P t old ≡ step_view P t (told_set new) s ∷ left P t new
   pub ends : new.ends + ends (left P t new) ≡ old.ends + ends (left P t old)
   pub counted : IsCounted P t s
+
+-- a step was told, or none is left
+abbrev pub AfterStep : List Position → Kind → Tree → Tree → Option Step → Type 0
+AfterStep P t old new None = (left P t old ≡ []) × (left P t new ≡ [])
+AfterStep P t old new (Some s) = Tells P t old new s

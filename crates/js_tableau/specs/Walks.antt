@@ -18,11 +18,10 @@ abbrev pub Covers : List Signed → List Signed → List Signed → Type 0
 Covers members waiting settled = (x : Signed) → has x members ≡ true → (has x waiting || has x settled) ≡ true
 
 abbrev pub IsCovered : Walk → Type 0
-IsCovered w = Covers w.trail.members w.waiting (map signed_view w.settled.items)
+IsCovered w = Covers w.trail w.waiting (map signed_view w.settled.items)
 
--- the room and what was seen to be settled stay, and members stay covered
+-- what was seen to be settled stays, and members stay covered
 pub record Keeps (old new : Walk) : Type 0 where
-  pub room : new.trail.room ≡ old.trail.room
   pub settled : new.settled ≡ old.settled
   pub covered : IsCovered old → IsCovered new
 

@@ -1,17 +1,15 @@
 //! The branches of a goal at a kind.
 
 ghost use Rattle.std.specs.Prelude.{◌≡◌, ◌<◌, ◌≤◌, ◌^◌, ◌++◌, [], ◌∷◌, length, true, IfOk, OnOk, IfErr};
-ghost use Rattle.documents.specs.Tests.{some};
+ghost use Rattle.documents.specs.Tests.{every, some};
 ghost use Rattle.documents.specs.Document.{Document, kind_of};
 ghost use Rattle.goals.specs.Signed.{meets};
 ghost use Rattle.goals.specs.Tree.{steps, ends, branches};
 ghost use Rattle.js_algebra.specs.View.{kind_view, are_in_table};
-ghost use Rattle.js_tableau.specs.Progress.{told_set};
 ghost use Rattle.js_tableau.specs.Branches.{most_ends, sets_of, AreNumbered, AreBranches};
 
+use crate::branch_walk::BranchWalk;
 use crate::fault::TableauFault;
-use crate::visits::Tree;
-use crate::walk::Step;
 use js_algebra::{BranchId, Core, Goal, JsonKind, SignedList};
 use js_doc::Memory;
 use std::alloc::Global;
@@ -76,6 +74,7 @@ pub fn branches(
     ensures few { OnOk result (ends (steps core.now.positions (kind_view kind) goal.now) ≤ most_ends) }
     ensures limit { IfErr result (λ fault. fault ≡ TableauFault.LimitBranches
         → most_ends < ends (steps core.now.positions (kind_view kind) goal.now)) }
+    ensures in_table { IfOk result (λ bs. every (are_in_table core.now.positions) (sets_of bs) ≡ true) }
 
     // Each is saturated, and has all that the goal has.
     ensures saturated { IfOk result (λ bs. AreBranches core.now.positions (kind_view kind) goal.now (sets_of bs)) }
@@ -84,29 +83,21 @@ pub fn branches(
     ensures meaning { IfOk result (λ bs. (J : Document) → kind_of J ≡ kind_view kind
         → meets core.now.positions goal.now J ≡ some (λ S. meets core.now.positions S J) (sets_of bs)) }
 {
-    let mut tree = Tree::new(alloc, core, goal)?;
+    let mut walk = BranchWalk::new(alloc, core, goal, kind)?;
     let mut found = Vec::new(alloc);
-    while let Some(step) = tree.next(core, kind)? {
-        if let Step::Saturated = step {
-            add_branch(alloc, &tree, kind, &mut found)?;
-        }
+    while let Some(set) = walk.next(alloc, core)? {
+        add_branch(kind, set, &mut found)?;
     }
     Ok(BranchList::from_vec(found))
 }
 
-/// Adds the branch of the set that was told last, with the next number.
-fn add_branch(
-    alloc: Global,
-    tree: &Tree,
-    kind: JsonKind,
-    found: &mut Vec<Branch>,
-) -> Result<(), Memory>
+/// Adds the branch of a set, with the next number.
+fn add_branch(kind: JsonKind, set: SignedList, found: &mut Vec<Branch>) -> Result<(), Memory>
     requires { length found.old.items < 2 ^ 32 }
-    ensures sets { OnOk result (sets_of found.new.items ≡ sets_of found.old.items ++ told_set tree.now ∷ []) }
+    ensures sets { OnOk result (sets_of found.new.items ≡ sets_of found.old.items ++ set ∷ []) }
     ensures numbered { OnOk result (AreNumbered kind 0 found.old.items → AreNumbered kind 0 found.new.items) }
 {
     let number = found.len() as u32;
-    let set = tree.set(alloc)?;
     found.push(Branch {
         id: BranchId { kind, number },
         set,

@@ -10,22 +10,27 @@
 #![tactic(auto)]
 
 mod branch_list;
+mod branch_walk;
 mod fault;
 mod members;
+mod name_plan;
+mod name_room;
 mod names;
+mod reached;
 mod rising;
 mod set_step;
 mod step;
 #[cfg(test)]
 mod tests;
-mod trail;
 mod truths;
 mod visits;
 mod waiting;
 mod walk;
 
 pub use branch_list::{Branch, BranchList, branches};
+pub use branch_walk::BranchWalk;
 pub use fault::TableauFault;
+pub use name_plan::NamePlan;
 pub use names::name_truth;
 pub use set_step::{TableauStep, next_step};
 pub use truths::Truths;

@@ -8,7 +8,7 @@ ghost use Rattle.goals.specs.Choices.{choices, one_plus, two_plus};
 ghost use Rattle.goals.specs.Tree.{has_choice};
 ghost use Rattle.js_algebra.specs.View.{signed_view, kind_view, with_sign, places, is_in_table};
 
-use js_algebra::{Core, JsonKind, Pos, Rule, Signed};
+use js_algebra::{Core, JsonKind, Pos, Rule, Signed, SignedSet};
 
 /// A set of signed positions.
 pub trait Members {
@@ -21,6 +21,18 @@ pub trait Members {
     fn has(&self, x: Signed) -> bool
         requires { is_ready self.now ≡ true }
         ensures { result ≡ has (signed_view x) (members self.now) };
+}
+
+impl Members for SignedSet {
+    ghost use Rattle.std.specs.Prelude.{true};
+
+    ghost is_ready = { λ s. true };
+
+    ghost members = { λ s. s };
+
+    fn has(&self, x: Signed) -> bool {
+        self.has(x)
+    }
 }
 
 /// Whether a choice of `x` is in the set, or it has none to take.

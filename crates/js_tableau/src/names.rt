@@ -10,14 +10,14 @@ ghost use Rattle.documents.specs.Document.{string};
 ghost use Rattle.documents.specs.Kind as K;
 ghost use Rattle.positions.specs.Holds.{holds};
 ghost use Rattle.js_algebra.specs.View.{node_view, kind_view, places};
-ghost use Rattle.js_tableau.specs.NameTruth.{asked_of_string, own_atoms, atoms, atoms_within, are_known, are_all_known, asks_name, name_holds, name_within, AreTrue};
+ghost use Rattle.name_truths.specs.NameTruth.{asked_of_string, own_atoms, atoms, atoms_within, are_known, are_all_known, asks_name, name_holds, name_within, AreTrue};
 
 use crate::truths::Truths;
 use js_algebra::{Core, JsonKind, KindList, Node, Pos, PosList};
 
 /// Whether the position holds of the name of which `truths` tells, as a string. It takes no memory, and a look at each
 /// position that it comes to, as often as it comes there.
-#[tactic(auto, using(crate::proofs::NameLaws::holds_by_truths))]
+#[tactic(auto, using(name_laws::proofs::NameLaws::holds_by_truths))]
 pub fn name_truth<S: Truths>(core: &Core, p: Pos, truths: &S) -> bool
     requires place { p.0 < length core.now.positions }
     requires known { are_all_known (S.knows truths.now) (atoms core.now.positions p.0) ≡ true }
@@ -30,7 +30,7 @@ pub fn name_truth<S: Truths>(core: &Core, p: Pos, truths: &S) -> bool
 
 /// The same with so many steps in place.
 #[cycle(names)]
-#[tactic(auto, using(crate::proofs::KnownLaws::own_known, crate::proofs::KnownLaws::asked_known, crate::proofs::KnownLaws::asked_named))]
+#[tactic(auto, using(name_laws::proofs::KnownLaws::own_known, name_laws::proofs::KnownLaws::asked_known, name_laws::proofs::KnownLaws::asked_named))]
 fn is_held<S: Truths>(core: &Core, steps: u32, p: Pos, truths: &S) -> bool
     requires place { p.0 < length core.now.positions }
     requires known { are_all_known (S.knows truths.now) (atoms_within core.now.positions steps p.0) ≡ true }
@@ -118,7 +118,7 @@ fn is_just_one_held<S: Truths>(core: &Core, steps: u32, list: &PosList, truths: 
     found
 }
 
-fn has_text(kinds: &KindList) -> bool
+pub fn has_text(kinds: &KindList) -> bool
     ensures { result ≡ some (K.same_kind K.Text) (map kind_view kinds.now) }
 {
     for kind in kinds.as_slice() {

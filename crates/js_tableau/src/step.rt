@@ -9,7 +9,7 @@ ghost use Rattle.goals.specs.Signed.{has, opposite};
 ghost use Rattle.goals.specs.Choices.{choices, is_wrong, one_plus, two_plus};
 ghost use Rattle.goals.specs.Tree.{next, choice_list, has_choice};
 ghost use Rattle.js_algebra.specs.View.{signed_view, kind_view, with_sign, places, is_in_table, are_in_table};
-ghost use Rattle.js_tableau.specs.Trails.{set_of};
+ghost use Rattle.js_algebra.specs.SignedSets.{set_of};
 ghost use Rattle.js_tableau.specs.Walks.{IsCovered, is_clean, are_settled, step_view, is_clash, Follows, SettlesAfter, Extends, IsLeast};
 ghost use Rattle.js_tableau.specs.Least.{better, least_from};
 
@@ -21,15 +21,15 @@ use js_doc::Memory;
 impl Walk {
     /// The step at the set, of which the members after the first `from` are new.
     pub fn next_step(&mut self, core: &Core, kind: JsonKind, from: usize) -> Result<Step, Memory>
-        requires in_table { are_in_table core.now.positions self.old.trail.members ≡ true }
-        requires clean { is_clean core.now.positions (kind_view kind) (take from self.old.trail.members) ≡ true }
-        requires settled { are_settled core.now.positions (kind_view kind) self.old.trail.members
+        requires in_table { are_in_table core.now.positions self.old.trail ≡ true }
+        requires clean { is_clean core.now.positions (kind_view kind) (take from self.old.trail) ≡ true }
+        requires settled { are_settled core.now.positions (kind_view kind) self.old.trail
             (map signed_view self.old.settled.items) ≡ true }
         requires covered { IsCovered self.old }
         ensures step { IfOk result (λ s. step_view core.now.positions (kind_view kind)
-            (set_of self.old.trail.members) s ≡ next core.now.positions (kind_view kind)
-            (set_of self.old.trail.members)) }
-        ensures follows { IfOk result (λ s. Follows core.now.positions (kind_view kind) self.old.trail.members
+            (set_of self.old.trail) s ≡ next core.now.positions (kind_view kind)
+            (set_of self.old.trail)) }
+        ensures follows { IfOk result (λ s. Follows core.now.positions (kind_view kind) self.old.trail
             (map signed_view self.new.settled.items) s) }
         ensures trail { OnOk result (self.new.trail ≡ self.old.trail) }
         ensures more { OnOk result (Extends self.old.settled.items self.new.settled.items) }
@@ -49,8 +49,8 @@ impl Walk {
 
     /// The least of the new members whose opposite is a member.
     fn least_clash(&self, from: usize) -> Option<Signed>
-        ensures { option_map signed_view result ≡ least_from (is_clash self.now.trail.members) None
-            (drop from self.now.trail.members) }
+        ensures { option_map signed_view result ≡ least_from (is_clash self.now.trail) None
+            (drop from self.now.trail) }
     {
         let mut best = None;
         for i in from..self.trail.len() {
@@ -62,9 +62,9 @@ impl Walk {
 
     /// The least of the new members that is wrong at the kind.
     fn least_wrong(&self, core: &Core, kind: JsonKind, from: usize) -> Option<Signed>
-        requires { are_in_table core.now.positions self.now.trail.members ≡ true }
+        requires { are_in_table core.now.positions self.now.trail ≡ true }
         ensures { option_map signed_view result ≡ least_from (is_wrong core.now.positions (kind_view kind)) None
-            (drop from self.now.trail.members) }
+            (drop from self.now.trail) }
     {
         let mut best = None;
         for i in from..self.trail.len() {
@@ -76,14 +76,14 @@ impl Walk {
 
     /// The least member without a choice in the set.
     fn least_unsettled(&mut self, core: &Core, kind: JsonKind) -> Result<Option<Signed>, Memory>
-        requires in_table { are_in_table core.now.positions self.old.trail.members ≡ true }
-        requires settled { are_settled core.now.positions (kind_view kind) self.old.trail.members
+        requires in_table { are_in_table core.now.positions self.old.trail ≡ true }
+        requires settled { are_settled core.now.positions (kind_view kind) self.old.trail
             (map signed_view self.old.settled.items) ≡ true }
         requires covered { IsCovered self.old }
         ensures least { IfOk result (λ o. IsLeast (λ y.
-            not (has_choice self.old.trail.members (choices core.now.positions (kind_view kind) y)))
-            self.old.trail.members (option_map signed_view o)) }
-        ensures settled { IfOk result (λ o. SettlesAfter core.now.positions (kind_view kind) self.old.trail.members
+            not (has_choice self.old.trail (choices core.now.positions (kind_view kind) y)))
+            self.old.trail (option_map signed_view o)) }
+        ensures settled { IfOk result (λ o. SettlesAfter core.now.positions (kind_view kind) self.old.trail
             (map signed_view self.new.settled.items) (option_map signed_view o)) }
         ensures trail { OnOk result (self.new.trail ≡ self.old.trail) }
         ensures more { OnOk result (Extends self.old.settled.items self.new.settled.items) }
@@ -100,10 +100,10 @@ impl Walk {
     /// Whether `x` is a member without a choice in the set. A member is noted, as settled from here or from its choice
     /// on.
     fn needs_choice(&mut self, core: &Core, kind: JsonKind, x: Signed) -> Result<bool, Memory>
-        requires { are_in_table core.now.positions self.old.trail.members ≡ true }
-        ensures needs { IfOk result (λ b. b ≡ (has (signed_view x) self.old.trail.members
-            && not (has_choice self.old.trail.members (choices core.now.positions (kind_view kind) (signed_view x))))) }
-        ensures settled { OnOk result (self.new.settled.items ≡ cond (has (signed_view x) self.old.trail.members)
+        requires { are_in_table core.now.positions self.old.trail ≡ true }
+        ensures needs { IfOk result (λ b. b ≡ (has (signed_view x) self.old.trail
+            && not (has_choice self.old.trail (choices core.now.positions (kind_view kind) (signed_view x))))) }
+        ensures settled { OnOk result (self.new.settled.items ≡ cond (has (signed_view x) self.old.trail)
             (self.old.settled.items ++ x ∷ []) self.old.settled.items) }
         ensures trail { OnOk result (self.new.trail ≡ self.old.trail) }
         ensures waiting { OnOk result (self.new.waiting ≡ self.old.waiting) }

@@ -1,8 +1,9 @@
-//! Positions of a small table at names, by truths that are all the same; the branches and steps of another table.
+//! Positions of small tables at names, by truths that are all the same, and of chains that ask each position twice; the
+//! branches and steps of another table.
 
-ghost use Rattle.std.specs.Prelude.{◌≡◌, IfOk, length};
+ghost use Rattle.std.specs.Prelude.{◌≡◌, ◌+◌, ◌<◌, ◌^◌, IfOk, length};
 
-use crate::{TableauStep, Truths, branches, name_truth, next_step};
+use crate::{BranchWalk, NamePlan, TableauStep, Truths, branches, name_truth, next_step};
 use js_algebra::{
     BranchId, Core, JsonKind, KindList, Node, NodeList, Pos, PosList, RankList, Signed, form,
 };
@@ -53,7 +54,7 @@ fn table(alloc: Global) -> Result<Core, Fail>
 }
 
 #[test]
-#[tactic(auto, using(crate::proofs::KnownLaws::all_are_known))]
+#[tactic(auto, using(name_laws::proofs::KnownLaws::all_are_known))]
 fn names_of_a_table(rt: HostRuntime) -> Result<(), Fail> {
     let core = table(rt.alloc())?;
     for truth in [true, false] {
@@ -62,6 +63,60 @@ fn names_of_a_table(rt: HostRuntime) -> Result<(), Fail> {
         assert!(rt; name_truth(&core, Pos(1), &truths) != truth);
         assert!(rt; name_truth(&core, Pos(2), &truths));
         assert!(rt; name_truth(&core, Pos(3), &truths));
+    }
+    Ok(())
+}
+
+/// Whether the position holds of a name, where each atom has this truth.
+fn told(alloc: Global, core: &Core, p: Pos, truth: bool) -> Result<bool, Fail>
+    requires { p.0 < length core.now.positions }
+{
+    let plan = NamePlan::new(alloc, core, p)?;
+    let truths = vec![in alloc; truth; plan.leaves().len()]?;
+    let mut room = vec![in alloc; false; core.len() as usize]?;
+    Ok(plan.truth(core, truths.as_slice(), room.as_mut_slice()))
+}
+
+#[test]
+fn plans_of_a_table(rt: HostRuntime) -> Result<(), Fail> {
+    let core = table(rt.alloc())?;
+    for truth in [true, false] {
+        assert!(rt; told(rt.alloc(), &core, Pos(0), truth)? == truth);
+        assert!(rt; told(rt.alloc(), &core, Pos(1), truth)? != truth);
+        assert!(rt; told(rt.alloc(), &core, Pos(2), truth)?);
+        assert!(rt; told(rt.alloc(), &core, Pos(3), truth)?);
+    }
+    let plan = NamePlan::new(rt.alloc(), &core, Pos(2))?;
+    assert!(rt; plan.root() == Pos(2));
+    assert!(rt; plan.leaves() == [Pos(1)].as_slice());
+    Ok(())
+}
+
+/// At least one character, and then so many positions, each of which asks the one before it twice.
+fn chain(alloc: Global, links: u32) -> Result<Core, Fail>
+    requires { links < 2 ^ 20 }
+    ensures { IfOk result (λ core. length core.positions ≡ links + 1) }
+{
+    let mut nodes = vec![in alloc; Node::LengthMin(1)]?;
+    let mut ranks = vec![in alloc; 0]?;
+    for k in 0..links {
+        let twice = PosList::from_vec(vec![in alloc; Pos(k), Pos(k)]?);
+        nodes.push(Node::All(twice))?;
+        ranks.push(u64::from(k) + 1)?;
+    }
+    Ok(Core::make(NodeList::from_vec(nodes), RankList::from_vec(ranks)))
+}
+
+/// Entered once for each way to it, the shorter one would take a thousand million visits, and the longer one has no end.
+#[test]
+fn plans_of_chains(rt: HostRuntime) -> Result<(), Fail> {
+    for links in [30, 10_000] {
+        let core = chain(rt.alloc(), links)?;
+        for truth in [true, false] {
+            assert!(rt; told(rt.alloc(), &core, Pos(links), truth)? == truth);
+        }
+        let plan = NamePlan::new(rt.alloc(), &core, Pos(links))?;
+        assert!(rt; plan.leaves() == [Pos(0)].as_slice());
     }
     Ok(())
 }
@@ -93,6 +148,10 @@ fn branches_of_a_table(rt: HostRuntime) -> Result<(), Fail> {
     assert!(rt; matches!(array.as_slice(), [b] if b.set.as_slice() == set.as_slice()));
     let number = branches(rt.alloc(), &core, &goal, JsonKind::Number)?;
     assert!(rt; number.as_slice().is_empty());
+    let mut walk = BranchWalk::new(rt.alloc(), &core, &goal, JsonKind::Array)?;
+    let first = walk.next(rt.alloc(), &core)?;
+    assert!(rt; matches!(&first, Some(s) if s.as_slice() == set.as_slice()));
+    assert!(rt; walk.next(rt.alloc(), &core)?.is_none());
     Ok(())
 }
 

@@ -1,7 +1,7 @@
 //! What is known of a word.
 
 ghost use Rattle.std.specs.Prelude.{◌≡◌, Bool, true};
-ghost use Rattle.words.specs.Atom.{Atom, Match, Words, LengthMin};
+ghost use Rattle.word_states.specs.Atom.{Atom, Match, Words, LengthMin};
 ghost use Rattle.js_pattern.specs.View.{view};
 
 use js_doc::StrList;

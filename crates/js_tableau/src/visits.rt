@@ -11,7 +11,7 @@ ghost use Rattle.goals.specs.Tree.{steps, ends};
 ghost use Rattle.positions.specs.Position.{is_table};
 ghost use Rattle.js_algebra.specs.View.{signed_view, kind_view, are_in_table};
 ghost use Rattle.js_tableau.specs.Branches.{most_ends};
-ghost use Rattle.js_tableau.specs.Trails.{set_of};
+ghost use Rattle.js_algebra.specs.SignedSets.{set_of};
 ghost use Rattle.js_tableau.specs.Walks.{is_clean, are_settled};
 ghost use Rattle.js_tableau.specs.Progress.{Stands, Visits, entries, is_end, one_more, choice_count, steps_at_hand, left, told_set, IsTree, IsAtHand, Tells};
 
@@ -34,8 +34,8 @@ pub struct Pending {
     pub index: usize,
 }
 
-/// The tree of a goal, of which some steps were told; `left` are the others. All its calls are to be given the same table
-/// and the same kind.
+/// The tree of a goal, of which some steps were told; `left` are the others. From one `begin` to the next all its calls
+/// are to be given the same table and the same kind.
 #[derive(Drop)]
 pub struct Tree {
     walk: Walk,
@@ -55,14 +55,33 @@ impl Tree {
         ensures table { OnOk result (is_table core.now.positions core.now.ranks ≡ true) }
         ensures rising { OnOk result (is_rising goal.now ≡ true) }
     {
-        let mut walk = Walk::new(alloc, core)?;
-        walk.add_all(goal.as_slice())?;
-        Ok(Tree {
-            walk,
+        let mut tree = Tree {
+            walk: Walk::new(alloc),
             pending: Vec::new(alloc),
             ends: 0,
             begun: false,
-        })
+        };
+        tree.begin(core, goal)?;
+        Ok(tree)
+    }
+
+    /// Becomes the tree of a goal, of which nothing was told, whatever it was before. It keeps its room, and takes the
+    /// time of what it holds and of the goal.
+    pub fn begin(&mut self, core: &Core, goal: &Goal) -> Result<(), Memory>
+        requires { are_in_table core.now.positions goal.now ≡ true }
+        ensures tree { OnOk result ((t : Kind) → IsTree core.now.positions t self.new) }
+        ensures left { OnOk result ((t : Kind) → left core.now.positions t self.new ≡ steps core.now.positions t goal.now) }
+        ensures ends { OnOk result (self.new.ends ≡ 0) }
+        ensures table { OnOk result (is_table core.now.positions core.now.ranks ≡ true) }
+        ensures rising { OnOk result (is_rising goal.now ≡ true) }
+    {
+        // so that the table is known to be one
+        let _length = core.len();
+        self.pending.clear();
+        self.ends = 0;
+        self.begun = false;
+        self.walk.begin(goal.as_slice())?;
+        Ok(())
     }
 
     /// The next step of the tree, none at its end. `LimitBranches` only where the whole tree has more than
@@ -99,7 +118,7 @@ impl Tree {
     pub fn set(&self, alloc: Global) -> Result<SignedList, Memory>
         ensures { IfOk result (λ set. set ≡ told_set self.now) }
     {
-        Ok(SignedList::from_vec(self.walk.trail.to_sorted(alloc)?))
+        self.walk.trail.to_list(alloc)
     }
 
     /// Goes to the next set that is to be visited, and says how many of its members were visited before.
@@ -110,7 +129,7 @@ impl Tree {
             × (left core.now.positions (kind_view kind) self.new ≡ [])
             × IsTree core.now.positions (kind_view kind) self.new)
             (λ from. IsAtHand core.now.positions (kind_view kind) self.new from × (steps_at_hand core.now.positions
-            (kind_view kind) self.new.walk.trail.members self.new.pending.items
+            (kind_view kind) self.new.walk.trail self.new.pending.items
             ≡ left core.now.positions (kind_view kind) self.old))) }
         ensures ends { OnOk result (self.new.ends ≡ self.old.ends) }
     {
@@ -141,15 +160,15 @@ fn visit(
 ) -> Result<Step, TableauFault>
     requires table { is_table core.now.positions core.now.ranks ≡ true }
     requires stands { Stands core.now.positions (kind_view kind) walk.old pending.old.items }
-    requires clean { is_clean core.now.positions (kind_view kind) (take from walk.old.trail.members) ≡ true }
-    requires settled { are_settled core.now.positions (kind_view kind) walk.old.trail.members
+    requires clean { is_clean core.now.positions (kind_view kind) (take from walk.old.trail) ≡ true }
+    requires settled { are_settled core.now.positions (kind_view kind) walk.old.trail
         (map signed_view walk.old.settled.items) ≡ true }
     requires few { told.old + length pending.old.items ≤ most_ends }
     ensures limit { IfErr result (λ fault. fault ≡ TableauFault.LimitBranches → most_ends < told.old
-        + ends (steps_at_hand core.now.positions (kind_view kind) walk.old.trail.members pending.old.items)) }
+        + ends (steps_at_hand core.now.positions (kind_view kind) walk.old.trail pending.old.items)) }
     ensures trail { OnOk result (walk.new.trail ≡ walk.old.trail) }
     ensures stands { OnOk result (Stands core.now.positions (kind_view kind) walk.new pending.new.items) }
-    ensures visits { IfOk result (λ step. Visits core.now.positions (kind_view kind) walk.old.trail.members
+    ensures visits { IfOk result (λ step. Visits core.now.positions (kind_view kind) walk.old.trail
         pending.old.items pending.new.items told.old told.new step) }
 {
     let step = walk.next_step(core, kind, from)?;

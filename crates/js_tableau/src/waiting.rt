@@ -5,7 +5,7 @@ ghost use Rattle.documents.specs.Tests.{every};
 ghost use Rattle.goals.specs.Signed.{add, comes_before};
 ghost use Rattle.js_algebra.specs.View.{signed_view};
 
-use js_algebra::{Pos, Signed};
+use js_algebra::Signed;
 use js_doc::Memory;
 use std::alloc::Global;
 use std::collections::BTreeSet;
@@ -20,7 +20,7 @@ pub struct Waiting {
 impl Model for Waiting {
     ghost use Rattle.std.specs.Prelude.{◌≡◌, List, map, true};
     ghost use Rattle.goals.specs.Signed.{Signed};
-    ghost use Rattle.js_tableau.specs.Numbers.{signed_at, are_numbers};
+    ghost use Rattle.js_algebra.specs.Numbers.{signed_at, are_numbers};
 
     ghost Value = { List Signed };
 
@@ -45,26 +45,19 @@ impl Waiting {
         Ok(())
     }
 
+    /// Takes all out.
+    pub fn clear(&mut self)
+        ensures { self.new ≡ [] }
+    {
+        self.numbers.clear();
+    }
+
     /// Takes the least out.
     pub fn pop(&mut self) -> Option<Signed>
         ensures { MatchOption result (self.old ≡ [])
             (λ x. (self.old ≡ signed_view x ∷ self.new) × (every (comes_before (signed_view x)) self.new ≡ true)) }
     {
         let number = self.numbers.pop_first()?;
-        Some(with_number(number))
-    }
-}
-
-ghost use Rattle.std.specs.Prelude.{◌<◌, ◌^◌};
-ghost use Rattle.js_tableau.specs.Numbers.{signed_at};
-
-/// The signed position of that number in the order of all.
-fn with_number(number: u64) -> Signed
-    requires { number < 2 ^ 33 }
-    ensures { signed_view result ≡ signed_at number }
-{
-    Signed {
-        pos: Pos((number / 2) as u32),
-        plus: number % 2 == 0,
+        Some(Signed::from_order(number))
     }
 }

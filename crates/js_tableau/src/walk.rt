@@ -12,12 +12,11 @@ ghost use Rattle.goals.specs.Tree.{next, choice_list, has_choice};
 ghost use Rattle.js_algebra.specs.View.{signed_view, kind_view, is_in_table, are_in_table};
 ghost use Rattle.js_algebra.specs.Rules.{choice_view};
 ghost use Rattle.js_algebra.specs.Order.{order_of};
-ghost use Rattle.js_tableau.specs.Trails.{with_member, with_members, set_of};
+ghost use Rattle.js_algebra.specs.SignedSets.{with_member, with_members, set_of};
 ghost use Rattle.js_tableau.specs.Walks.{IsCovered, is_clean, are_settled, are_settled_but, step_view, IsLeast, is_clash, Follows, Keeps};
 
-use crate::trail::Trail;
 use crate::waiting::Waiting;
-use js_algebra::{Choice, Core, JsonKind, Signed};
+use js_algebra::{Choice, Core, JsonKind, Signed, SignedSet};
 use js_doc::Memory;
 use std::alloc::Global;
 
@@ -34,30 +33,37 @@ pub enum Step {
 /// The set of the path, with its members in the order in which they came.
 #[derive(Drop)]
 pub struct Walk {
-    pub trail: Trail,
+    pub trail: SignedSet,
     pub waiting: Waiting,
     pub settled: Vec<Signed>,
 }
 
 impl Walk {
-    pub fn new(alloc: Global, core: &Core) -> Result<Walk, Memory>
-        ensures empty { IfOk result (λ w. w.trail.members ≡ []) }
-        ensures room { IfOk result (λ w. w.trail.room ≡ 2 * length core.now.positions) }
-        ensures settled { IfOk result (λ w. w.settled.items ≡ []) }
-        ensures table { is_table core.now.positions core.now.ranks ≡ true }
-    {
-        let room = 2 * core.len() as usize;
-        Ok(Walk {
-            trail: Trail::new(alloc, room)?,
+    pub fn new(alloc: Global) -> Walk {
+        Walk {
+            trail: SignedSet::new(alloc),
             waiting: Waiting::new(alloc),
             settled: Vec::new(alloc),
-        })
+        }
+    }
+
+    /// Begins again, with the set of a list, in the time of what the walk holds and of the list.
+    pub fn begin(&mut self, list: &[Signed]) -> Result<(), Memory>
+        ensures members { OnOk result (self.new.trail ≡ with_members (map signed_view list.now) []) }
+        ensures settled { OnOk result (self.new.settled.items ≡ []) }
+        ensures covered { OnOk result (IsCovered self.new) }
+    {
+        self.trail.go_back(0);
+        self.waiting.clear();
+        self.settled.clear();
+        for x in list {
+            self.add(*x)?;
+        }
+        Ok(())
     }
 
     fn add(&mut self, x: Signed) -> Result<(), Memory>
-        requires { order_of (signed_view x) < self.old.trail.room }
-        ensures members { OnOk result (self.new.trail.members ≡ with_member (signed_view x) self.old.trail.members) }
-        ensures room { OnOk result (self.new.trail.room ≡ self.old.trail.room) }
+        ensures members { OnOk result (self.new.trail ≡ with_member (signed_view x) self.old.trail) }
         ensures settled { OnOk result (self.new.settled ≡ self.old.settled) }
         ensures covered { OnOk result (IsCovered self.old → IsCovered self.new) }
     {
@@ -66,24 +72,9 @@ impl Walk {
         Ok(())
     }
 
-    /// Adds each of the list to the set.
-    pub fn add_all(&mut self, list: &[Signed]) -> Result<(), Memory>
-        requires { every (λ x. nat_lt (order_of x) self.old.trail.room) (map signed_view list.now) ≡ true }
-        ensures members { OnOk result (self.new.trail.members ≡ with_members
-            (map signed_view list.now) self.old.trail.members) }
-        ensures kept { OnOk result (Keeps self.old self.new) }
-    {
-        for x in list {
-            self.add(*x)?;
-        }
-        Ok(())
-    }
-
     /// Adds each of a choice to the set.
     fn add_each(&mut self, choice: Choice<'_>) -> Result<(), Memory>
-        requires { every (λ x. nat_lt (order_of x) self.old.trail.room) (choice_view choice) ≡ true }
-        ensures members { OnOk result (self.new.trail.members ≡ with_members (choice_view choice.entry)
-            self.old.trail.members) }
+        ensures members { OnOk result (self.new.trail ≡ with_members (choice_view choice.entry) self.old.trail) }
         ensures kept { OnOk result (Keeps self.old self.new) }
     {
         for k in 0..choice.len() {
@@ -101,11 +92,10 @@ impl Walk {
         index: usize,
     ) -> Result<(), Memory>
         requires in_table { is_in_table core.now.positions (signed_view x) ≡ true }
-        requires room { self.old.trail.room ≡ 2 * length core.now.positions }
         requires index { index < length (choice_list (choices core.now.positions (kind_view kind) (signed_view x))) }
-        ensures members { OnOk result (self.new.trail.members ≡ with_members
+        ensures members { OnOk result (self.new.trail ≡ with_members
             (get_or (choice_list (choices core.now.positions (kind_view kind) (signed_view x))) index [])
-            self.old.trail.members) }
+            self.old.trail) }
         ensures in_table { are_in_table core.now.positions
             (get_or (choice_list (choices core.now.positions (kind_view kind) (signed_view x))) index []) ≡ true }
         ensures kept { OnOk result (Keeps self.old self.new) }
@@ -116,9 +106,8 @@ impl Walk {
     /// Forgets what came after the first `members` members, and what was seen to be settled after the first `settled`.
     pub fn go_back(&mut self, members: usize, settled: usize) -> Result<(), Memory>
         requires { settled ≤ length self.old.settled.items }
-        ensures members { OnOk result (self.new.trail.members ≡ take members self.old.trail.members) }
+        ensures members { OnOk result (self.new.trail ≡ take members self.old.trail) }
         ensures settled { OnOk result (self.new.settled.items ≡ take settled self.old.settled.items) }
-        ensures room { OnOk result (self.new.trail.room ≡ self.old.trail.room) }
         ensures covered { OnOk result (IsCovered self.old → IsCovered self.new) }
     {
         self.trail.go_back(members);

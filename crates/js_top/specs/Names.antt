@@ -1,5 +1,7 @@
 -- The names of files that the words give, for each command.
-use Rattle.std.specs.Prelude.{ℕ, List, Option, Some, None, IsSome}
+use Rattle.std.specs.Prelude.{ℕ, List, [], ◌∷◌, Option, Some, None, IsSome, encode_utf8_all}
+use Rattle.js_outside.specs.Told.{Files}
+use Rattle.js_input.specs.OrderOfFiles.{Misses}
 use Rattle.js_words.specs.Commands.{Command, Include, Valid, Norm, command}
 
 -- two schemas
@@ -43,3 +45,18 @@ IsValid words = IsSome (valid_names words)
 -- the words are those of `norm`
 abbrev pub IsNorm : List (List ℕ) → Type 0
 IsNorm words = IsSome (norm_name words)
+
+-- the names of a command's files, as UTF-8 bytes, in the order in which they are read
+abbrev pub files_of : Option Command → List (List ℕ)
+files_of (Some (Include a b)) = encode_utf8_all a ∷ encode_utf8_all b ∷ []
+files_of (Some (Valid a d)) = encode_utf8_all a ∷ encode_utf8_all d ∷ []
+files_of (Some (Norm a)) = encode_utf8_all a ∷ []
+files_of None = []
+
+abbrev pub file_names : List (List ℕ) → List (List ℕ)
+file_names words = files_of (command words)
+
+-- files are told, one that the words name isn't there, and each before it is a schema
+abbrev pub MissesFile : Option Files → List (List ℕ) → Type 0
+MissesFile None words = ⊥
+MissesFile (Some files) words = Misses files (file_names words)

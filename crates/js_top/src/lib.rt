@@ -8,11 +8,13 @@
 #![tactic(auto)]
 
 mod accept;
+mod memory;
 mod prepare;
 mod status;
 mod text;
 mod top;
 
 pub use accept::accepted;
+pub use memory::run_in_memory;
 pub use status::Status;
 pub use top::run;

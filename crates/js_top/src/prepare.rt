@@ -1,9 +1,11 @@
 //! The report of a command, made whole before anything is written.
 
-ghost use Rattle.std.specs.Prelude.{◌≡◌, IfOk, OnErr, IsSome};
+ghost use Rattle.std.specs.Prelude.{◌≡◌, IfOk, OnErr, IsSome, Some};
 ghost use Rattle.js_decide.specs.View.{verdict_view};
 ghost use Rattle.js_top.specs.Report.{verdict_report};
 ghost use Rattle.js_words.specs.Commands.{command, Include, Valid, Norm};
+ghost use Rattle.js_input.specs.OrderOfFiles.{BeginsInOrder};
+ghost use Rattle.js_top.specs.Names.{file_names, files_of};
 ghost use Rattle.js_top.specs.Preparing.{PreparedSays, report_of};
 
 use crate::status::Status;
@@ -63,6 +65,7 @@ pub(crate) fn prepare<H: Shelf>(
     ensures says { IfOk result (PreparedSays (H.told shelf.old) words.now (H.faults shelf.old) (H.faults shelf.new)) }
     ensures memory { OnErr result (H.faults shelf.new ≡ H.faults shelf.old) }
     ensures some_words { OnErr result (IsSome (command words.now)) }
+    ensures begun { BeginsInOrder (H.told shelf.old) (file_names words.now) (H.begun shelf.old) (H.begun shelf.new) }
 {
     match read_words(words) {
         Some(Command::Include(first, second)) => prepare_include(alloc, shelf, first, second),
@@ -83,6 +86,8 @@ fn prepare_include<H: Shelf>(
     ensures says { IfOk result
         (CommandSays (H.told shelf.old) (Include first.now second.now) (H.faults shelf.old) (H.faults shelf.new)) }
     ensures memory { OnErr result (H.faults shelf.new ≡ H.faults shelf.old) }
+    ensures begun { BeginsInOrder (H.told shelf.old) (files_of (Some (Include first.now second.now)))
+        (H.begun shelf.old) (H.begun shelf.new) }
 {
     match compare_files(alloc, shelf, first, second)? {
         FilesOutcome::Decided(verdict) => decided(alloc, verdict),
@@ -108,6 +113,8 @@ fn prepare_valid<H: Shelf>(
     ensures says { IfOk result
         (CommandSays (H.told shelf.old) (Valid schema.now document.now) (H.faults shelf.old) (H.faults shelf.new)) }
     ensures memory { OnErr result (H.faults shelf.new ≡ H.faults shelf.old) }
+    ensures begun { BeginsInOrder (H.told shelf.old) (files_of (Some (Valid schema.now document.now)))
+        (H.begun shelf.old) (H.begun shelf.new) }
 {
     match validate(alloc, shelf, schema, document)? {
         Validation::Valid => made(alloc, "valid\n", Status::Done),
@@ -124,6 +131,8 @@ fn prepare_norm<H: Shelf>(alloc: Global, shelf: &mut H, schema: &Str) -> Result<
     ensures says { IfOk result
         (CommandSays (H.told shelf.old) (Norm schema.now) (H.faults shelf.old) (H.faults shelf.new)) }
     ensures memory { OnErr result (H.faults shelf.new ≡ H.faults shelf.old) }
+    ensures begun { BeginsInOrder (H.told shelf.old) (files_of (Some (Norm schema.now)))
+        (H.begun shelf.old) (H.begun shelf.new) }
 {
     match list(alloc, shelf, schema)? {
         Listing::Text(text) => Ok(Prepared::Made(text.into_bytes(), Status::Done)),

@@ -2,9 +2,11 @@
 
 ghost use Rattle.std.specs.Prelude.{◌≡◌, ◌≢◌, ◌<◌, true, false, None, codes};
 ghost use Rattle.std.specs.Io.KnownBytes.{Appends};
-ghost use Rattle.js_outside.specs.Counts.{Rose, Stays};
+ghost use Rattle.js_outside.specs.Counts.{Rose, Stays, last_count};
+ghost use Rattle.js_outside.specs.Told.{CountsMisses};
+ghost use Rattle.js_input.specs.OrderOfFiles.{BeginsInOrder};
 ghost use Rattle.js_words.specs.Commands.{command};
-ghost use Rattle.js_top.specs.Names.{IsInclude, IsValid, IsNorm};
+ghost use Rattle.js_top.specs.Names.{IsInclude, IsValid, IsNorm, file_names, MissesFile};
 ghost use Rattle.js_top.specs.Judging.{WritesJudgement, WritesDecision, WritesJudgedRefusal};
 ghost use Rattle.js_top.specs.Listing.{WritesNamedTable, WritesListing, WritesNormRefusal};
 ghost use Rattle.js_top.specs.Report.{line};
@@ -105,6 +107,19 @@ pub fn run<R, H: Shelf, K: Sink>(
         → WritesNamedTable (H.told shelf.old) words.now (K.written sink.old) (K.written sink.new) }
     ensures norm_refusal { result ≡ Status.Refused → IsNorm words.now
         → WritesNormRefusal (H.told shelf.old) words.now (K.written sink.old) (K.written sink.new) }
+
+    // The files are begun in the order of the words, each only after the one before it was read and not refused. No
+    // other is begun.
+    ensures begun { BeginsInOrder (H.told shelf.old) (file_names words.now) (H.begun shelf.old) (H.begun shelf.new) }
+
+    // Where files are told, one that isn't there is told as a read fault, if each before it is a schema. Where the count
+    // of faults is that of the names begun that aren't there, as over files in memory, nothing else is.
+    ensures missing { result ≢ Status.WriteFault → result ≢ Status.Memory → MissesFile (H.told shelf.old) words.now
+        → result ≡ Status.ReadFault }
+    ensures only_missing { result ≡ Status.ReadFault
+        → CountsMisses (H.told shelf.old) (H.begun shelf.old) (H.faults shelf.old)
+        → CountsMisses (H.told shelf.old) (H.begun shelf.new) (H.faults shelf.new)
+        → H.faults shelf.old < last_count → MissesFile (H.told shelf.old) words.now }
 
     // The files that the shelf tells are the same after the call.
     ensures told { H.told shelf.new ≡ H.told shelf.old }

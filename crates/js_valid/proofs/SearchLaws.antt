@@ -11,9 +11,6 @@ use Rattle.std.specs.Prelude.{nat_le}
 use Rattle.draft06.specs.EntryValidity.{form_at}
 use Rattle.js_doc.proofs.Lookups.{same_word-bytes_eq}
 use Rattle.js_doc.proofs.Search.{rise, names, find_in, rising, absent}
-use Rattle.documents.specs.Document.{Members, member, members_of, is_before, names_rise}
-use Rattle.js_doc.specs.declared.document.Member.{Member}
-use Rattle.js_doc.specs.View.{member_view}
 use Rattle.js_valid.specs.Parts.{of_named}
 
 abbrev of_word : List ℕ → List (List ℕ × ℕ) → List ℕ
@@ -104,42 +101,3 @@ keys-fine k h =
     let f = and_parts _ (meets are_needs k.dependencies) e.0 in
     let g = and_parts _ (meets are_keys k.pattern_properties) f.0 in
     (and_parts _ (meets are_keys k.properties) g.0).1
-
--- ---- members
-
--- members from a place on, of which the first is seen
-pub members-from : (items : List Member) (i : ℕ) (x : Member) → i < length items → x ≡ get_or items i x
-    → members_of (map member_view (drop i items))
-    ≡ member (member_view x).0 (member_view x).1 (members_of (map member_view (drop (i + 1) items)))
-members-from items i x less is = rw (add-one, drop-cons items i x, ← is) refl
-
-pub rise-step : (items : List Member) (i : ℕ) (x : Member) (whole : Members) → i < length items → x ≡ get_or items i x
-    → is_before (member_view x).0 (members_of (map member_view (drop (i + 1) items))) ≡ true
-    → (names_rise (members_of (map member_view (drop i items))) ≡ true → names_rise whole ≡ true)
-    → names_rise (members_of (map member_view (drop (i + 1) items))) ≡ true → names_rise whole ≡ true
-rise-step items i x whole less is before rest h =
-    rest (ap names_rise (members-from items i x less is) ∙ ap (λ b. b && names_rise (members_of (map member_view (drop
-    (i + 1) items)))) before ∙ h)
-
-pub rise-end : (items : List Member) (i : ℕ) (whole : Members) → length items ≤ i
-    → (names_rise (members_of (map member_view (drop i items))) ≡ true → names_rise whole ≡ true)
-    → names_rise whole ≡ true
-rise-end items i whole le rest =
-    rest (ap (λ xs. names_rise (members_of (map member_view xs))) (nothing_left items i le))
-  where
-    nothing_left : (items : List Member) (i : ℕ) → length items ≤ i → drop i items ≡ []
-    nothing_left [] zero h = refl
-    nothing_left [] (suc i) h = refl
-    nothing_left (x ∷ items) zero h = absurd (omega (arith, h))
-    nothing_left (x ∷ items) (suc i) h = nothing_left items i (omega (arith, h))
-
-pub before-none : (items : List Member) (k : List ℕ) (i : ℕ) → length items ≤ i
-    → is_before k (members_of (map member_view (drop i items))) ≡ true
-before-none [] k zero h = refl
-before-none [] k (suc i) h = refl
-before-none (x ∷ items) k zero h = absurd (omega (arith, h))
-before-none (x ∷ items) k (suc i) h = before-none items k i (omega (arith, h))
-
-pub before-next : (items : List Member) (k : List ℕ) (i : ℕ) (x : Member) → i < length items → x ≡ get_or items i x
-    → comes_before k (member_view x).0 ≡ true → is_before k (members_of (map member_view (drop i items))) ≡ true
-before-next items k i x less is h = ap (is_before k) (members-from items i x less is) ∙ h

@@ -31,7 +31,7 @@ use crate::settle::settle;
 use crate::tables::{
     are_all, holds, mark_all, marked_entries, refuse, refuse_all, refuse_none, tests_of,
 };
-use js_doc::{Doc, DocList, DocMap, Member, Memory, Str};
+use js_doc::{Doc, DocList, DocMap, Member, Memory, Str, Word};
 use js_schema::{Form, Schema};
 use std::alloc::Global;
 
@@ -405,7 +405,7 @@ fn decide_name(
     if requests.entries.is_empty() {
         return Ok(());
     }
-    let doc = Doc::Text(name.copy(alloc)?);
+    let doc = Doc::Text(Word::new(name.copy(alloc)?));
     let answers = verdicts(alloc, schema, order, &doc, &requests.entries)?;
     refuse_all(fine, &requests.owners, &answers);
     Ok(())

@@ -2,7 +2,7 @@
 
 ghost use Rattle.std.specs.Prelude.{◌≡◌, ℕ, List, ◌&&◌, ◌||◌, not, nat_le, int_le, int_lt, true, false, IfOk, chars, length, map, option_map};
 ghost use Rattle.documents.specs.Tests.{every, some};
-ghost use Rattle.documents.specs.Document.{kind_of, elements, entries, names_rise};
+ghost use Rattle.documents.specs.Document.{kind_of, elements, entries};
 ghost use Rattle.documents.specs.Measures.{is_multiple, has_name, exactly_one, same_document};
 ghost use Rattle.schemas.specs.Schema.{meets};
 ghost use Rattle.draft06.specs.EntryValidity.{has_type, need_asks, asks_any, asks_number, asks_string};
@@ -13,7 +13,7 @@ ghost use Rattle.js_match.specs.Matching.{matches};
 ghost use Rattle.js_valid.specs.Parts.{flag, own, own_keywords, own_array, own_object, no_parts, no_entry};
 
 use crate::found::is_found;
-use crate::search::{has_member, is_searchable};
+use crate::search::has_member;
 use crate::tables::{all_hold, holds, just_one_holds, one_holds};
 use js_doc::{Doc, DocList, DocMap, Memory, Str, StrList, equal};
 use js_keywords::TypeName;
@@ -51,7 +51,7 @@ fn meets_keywords(
     match doc {
         Doc::Null | Doc::Bool(_) => Ok(true),
         Doc::Num(number) => Ok(meets_number(keywords, *number)),
-        Doc::Text(text) => meets_text(alloc, keywords, text),
+        Doc::Text(text) => meets_text(alloc, keywords, text.as_str()),
         Doc::List(list) => Ok(meets_list(keywords, list)),
         Doc::Members(members) => Ok(meets_members(keywords, here, members)),
     }
@@ -308,76 +308,58 @@ fn meets_members(keywords: &Keywords, here: &[bool], members: &DocMap) -> bool
     if keywords.objects.required.is_none() && keywords.objects.dependencies.is_none() {
         return true;
     }
-    let searchable = is_searchable(members);
-    has_required(&keywords.objects.required, members, searchable)
-        && meets_dependencies(&keywords.objects.dependencies, here, members, searchable)
+    has_required(&keywords.objects.required, members)
+        && meets_dependencies(&keywords.objects.dependencies, here, members)
 }
 
-fn has_required(names: &Option<StrList>, members: &DocMap, searchable: bool) -> bool
-    requires { searchable ≡ true → names_rise (map_view members.now) ≡ true }
+fn has_required(names: &Option<StrList>, members: &DocMap) -> bool
     ensures { result ≡ meets (every (λ w. has_name w (entries (map_view members.now)))) names.now }
 {
     match names {
         None => true,
-        Some(names) => has_names(names, members, searchable),
+        Some(names) => has_names(names, members),
     }
 }
 
-fn has_names(names: &StrList, members: &DocMap, searchable: bool) -> bool
-    requires { searchable ≡ true → names_rise (map_view members.now) ≡ true }
+fn has_names(names: &StrList, members: &DocMap) -> bool
     ensures { result ≡ every (λ w. has_name w (entries (map_view members.now))) names.now }
 {
     for name in names.as_slice() {
-        if !has_member(members, name, searchable) {
+        if !has_member(members, name) {
             return false;
         }
     }
     true
 }
 
-fn meets_dependencies(
-    list: &Option<DependencyList>,
-    here: &[bool],
-    members: &DocMap,
-    searchable: bool,
-) -> bool
-    requires { searchable ≡ true → names_rise (map_view members.now) ≡ true }
+fn meets_dependencies(list: &Option<DependencyList>, here: &[bool], members: &DocMap) -> bool
     ensures { result ≡ meets (every (λ n. not (has_name n.0 (entries (map_view members.now)))
         || need_asks (flag here.now) n.1 (entries (map_view members.now)))) (option_map
         (λ ds. map dependency_view ds) list.now) }
 {
     match list {
         None => true,
-        Some(list) => meets_each_dependency(list, here, members, searchable),
+        Some(list) => meets_each_dependency(list, here, members),
     }
 }
 
-fn meets_each_dependency(
-    list: &DependencyList,
-    here: &[bool],
-    members: &DocMap,
-    searchable: bool,
-) -> bool
-    requires { searchable ≡ true → names_rise (map_view members.now) ≡ true }
+fn meets_each_dependency(list: &DependencyList, here: &[bool], members: &DocMap) -> bool
     ensures { result ≡ every (λ n. not (has_name n.0 (entries (map_view members.now)))
         || need_asks (flag here.now) n.1 (entries (map_view members.now))) (map dependency_view list.now) }
 {
     for dependency in list.as_slice() {
-        if has_member(members, &dependency.key, searchable)
-            && !meets_needs(&dependency.needs, here, members, searchable)
-        {
+        if has_member(members, &dependency.key) && !meets_needs(&dependency.needs, here, members) {
             return false;
         }
     }
     true
 }
 
-fn meets_needs(needs: &Needs, here: &[bool], members: &DocMap, searchable: bool) -> bool
-    requires { searchable ≡ true → names_rise (map_view members.now) ≡ true }
+fn meets_needs(needs: &Needs, here: &[bool], members: &DocMap) -> bool
     ensures { result ≡ need_asks (flag here.now) (needs_view needs.now) (entries (map_view members.now)) }
 {
     match needs {
-        Needs::Names(names) => has_names(names, members, searchable),
+        Needs::Names(names) => has_names(names, members),
         Needs::Whole(entry) => holds(here, *entry),
     }
 }

@@ -1,6 +1,6 @@
 //! Reading two files and deciding.
 
-ghost use Rattle.std.specs.Prelude.{◌≡◌, true, Ok, IfOk, OnErr};
+ghost use Rattle.std.specs.Prelude.{◌≡◌, [], ◌∷◌, true, Ok, IfOk, OnErr, encode_utf8_all};
 ghost use Rattle.documents.specs.Json.{Json};
 ghost use Rattle.documents.specs.WellFormed.{is_json};
 ghost use Rattle.schemas.specs.Entries.{read};
@@ -9,6 +9,7 @@ ghost use Rattle.js_doc.specs.View.{view};
 ghost use Rattle.js_keywords.specs.Reading.{rules};
 ghost use Rattle.js_schema.specs.SchemaView.{schema_view};
 ghost use Rattle.draft06.specs.Validity.{valid};
+ghost use Rattle.js_input.specs.OrderOfFiles.{BeginsInOrder};
 ghost use Rattle.js_validation.specs.Outcome.{of_test};
 ghost use Rattle.js_validation.specs.Saying.{ValidationSays, outcome_of};
 
@@ -51,6 +52,8 @@ pub fn validate<H: Shelf>(
     ensures says { IfOk result
         (ValidationSays (H.told shelf.old) schema.now document.now (H.faults shelf.old) (H.faults shelf.new)) }
     ensures memory { OnErr result (H.faults shelf.new ≡ H.faults shelf.old) }
+    ensures begun { BeginsInOrder (H.told shelf.old) (encode_utf8_all schema.now ∷ encode_utf8_all document.now ∷ [])
+        (H.begun shelf.old) (H.begun shelf.new) }
 {
     let (table, ranks) = match load_schema(alloc, shelf, schema)? {
         Some(SchemaInput::Read(table, ranks)) => (table, ranks),

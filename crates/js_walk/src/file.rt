@@ -2,8 +2,7 @@
 //!
 //! References are resolved in it, in time in proportion to their text and a look-up for each token.
 
-ghost use Rattle.std.specs.Prelude.{◌≡◌, true, chars, option_map};
-ghost use Rattle.documents.specs.WellFormed.{is_json};
+ghost use Rattle.std.specs.Prelude.{◌≡◌, chars, option_map};
 ghost use Rattle.documents.specs.Place.{value_at};
 ghost use Rattle.schemas.specs.Walk as W;
 ghost use Rattle.schemas.specs.Walk.{root_id};
@@ -16,12 +15,11 @@ use js_json::{Pointer, RefFault, at_pointer, target};
 use js_keywords::Keyword;
 use std::alloc::Global;
 
-/// The value of a text, with its `$id` where it has one that is a string.
+/// A JSON value, with its `$id` where it has one that is a string.
 #[derive(Drop)]
 pub struct File<'a> {
     root: &'a Json,
     id: Option<&'a str>,
-    ghost text: { is_json (view root.now) ≡ true },
     ghost own: { option_map (λ w. chars w.now) id ≡ root_id (view root.now) },
 }
 
@@ -29,7 +27,6 @@ impl<'a> File<'a> {
     ghost use Rattle.js_walk.specs.FileView.{root_of};
 
     pub fn new(root: &'a Json) -> File<'a>
-        requires { is_json (view root.now) ≡ true }
         ensures { root_of result ≡ view root.now }
     {
         File {
@@ -39,8 +36,7 @@ impl<'a> File<'a> {
     }
 
     pub(crate) fn root(&self) -> &'a Json
-        ensures value { view result.now ≡ root_of self.now }
-        ensures text { is_json (root_of self.now) ≡ true }
+        ensures { view result.now ≡ root_of self.now }
     {
         self.root
     }

@@ -1,6 +1,6 @@
 //! The values of an object's keywords.
 //!
-//! A look-up takes time in proportion to the number of members at most.
+//! A look-up is a binary search among the names.
 
 ghost use Rattle.std.specs.Prelude.{◌≡◌, Some, codes, option_map};
 ghost use Rattle.documents.specs.Json.{lookup};

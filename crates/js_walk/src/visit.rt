@@ -87,7 +87,7 @@ fn visit_reference<'a>(
         (W.referred rules (root_of file.now) (view value.now)) (Some (view value.now)) result }
 {
     match value {
-        Json::Text(text) => follow(alloc, file, pointers, place, text),
+        Json::Text(text) => follow(alloc, file, pointers, place, text.as_str()),
         _ => Err(wrong_shape(alloc, &pointers.pointer(alloc, place)?, Keyword::Ref)),
     }
 }

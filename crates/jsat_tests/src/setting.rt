@@ -1,8 +1,8 @@
 //! Commands over two files in memory, `a` and `b`.
 
 use js_doc::{Memory, Str};
-use js_outside::{FileMap, MemoryShelf, MemorySink, Shelf, Sink};
-use js_top::run;
+use js_outside::{FileMap, MemorySink, Shelf, Sink};
+use js_top::{run, run_in_memory};
 use std::alloc::{AllocError, Global};
 use std::process::Abort;
 use std::str;
@@ -63,9 +63,10 @@ pub(crate) fn expect(
     (a, b): (&[u8], &[u8]),
     (status, report): (u8, &str),
 ) -> Result<(), Memory> {
-    let mut shelf = MemoryShelf::new(two_files(alloc, a, b)?);
+    let words = words_of(alloc, line)?;
+    let files = two_files(alloc, a, b)?;
     let mut sink = MemorySink::new(alloc, ROOM)?;
-    let answer = status_of(alloc, line, &mut shelf, &mut sink)?;
+    let answer = run_in_memory(alloc, words.as_slice(), files, &mut sink).code();
     expect_written(rt, (answer, sink.written()), (status, report));
     Ok(())
 }

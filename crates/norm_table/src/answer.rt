@@ -1,9 +1,5 @@
 //! The text of a schema's core table, or that it is refused.
 
-ghost use Rattle.std.specs.Prelude.{◌≡◌, true};
-ghost use Rattle.documents.specs.WellFormed.{is_json};
-ghost use Rattle.js_doc.specs.JsonView.{view};
-
 use js_core_text::core_text;
 use js_doc::{Json, Memory};
 use js_guard::{GuardFault, guard};
@@ -22,9 +18,7 @@ pub(crate) fn answer(alloc: Global, text: &str) -> Result<String, Memory> {
     }
 }
 
-fn answer_of_value(alloc: Global, json: &Json) -> Result<String, Memory>
-    requires { is_json (view json.now) ≡ true }
-{
+fn answer_of_value(alloc: Global, json: &Json) -> Result<String, Memory> {
     match read_schema(alloc, json) {
         Ok(schema) => answer_of_schema(alloc, &schema),
         Err(SchemaFault::Memory) => Err(Memory),

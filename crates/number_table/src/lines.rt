@@ -7,7 +7,8 @@
 
 ghost use Rattle.std.specs.Prelude.{◌≡◌, nat_lt};
 ghost use Rattle.std.specs.List.{list_all};
-ghost use Rattle.js_numbers.specs.Group.{group_of, is_near, is_ready};
+ghost use Rattle.number_groups.specs.Group.{is_near, is_ready};
+ghost use Rattle.js_numbers.specs.View.{group_of};
 
 use js_doc::{Memory, NumList};
 use js_numbers::{Cases, NumGroup, decide};
@@ -59,8 +60,10 @@ pub fn answer(alloc: Global, line: &str) -> Result<Cases, LineFault> {
     let hi = read_bound(next_word(&mut words)?)?;
     let multiples = read_divisors(alloc, next_word(&mut words)?)?;
     let not_multiples = read_divisors(alloc, next_word(&mut words)?)?;
-    let sets = read_sets(alloc, next_word(&mut words)?)?;
-    let not_sets = read_sets(alloc, next_word(&mut words)?)?;
+    let set_lists = read_sets(alloc, next_word(&mut words)?)?;
+    let not_set_lists = read_sets(alloc, next_word(&mut words)?)?;
+    let sets = borrowed(alloc, set_lists.as_slice())?;
+    let not_sets = borrowed(alloc, not_set_lists.as_slice())?;
     let group = NumGroup {
         lo,
         hi,
@@ -129,6 +132,14 @@ fn read_sets(alloc: Global, word: &str) -> Result<Vec<NumList>, LineFault> {
         }
     }
     Ok(sets)
+}
+
+fn borrowed(alloc: Global, lists: &[NumList]) -> Result<Vec<&NumList>, LineFault> {
+    let mut borrows = Vec::with_capacity(alloc, lists.len())?;
+    for list in lists {
+        borrows.push(list)?;
+    }
+    Ok(borrows)
 }
 
 fn read_values(alloc: Global, word: &str) -> Result<Vec<i128>, LineFault> {

@@ -1,7 +1,8 @@
 //! Reads patterns from standard input, one a line, and prints the tree or the first fault of each.
 //!
 //! A line that begins with `set ` asks for a set instead: of `set [a-c]` it prints the number of members, the first
-//! one, and the sets of the others. `tests/patterns` compares what is printed with a JavaScript engine.
+//! one, and the sets of the others. Of `order [a-c]` it prints up to eight members in the order in which words are
+//! made. `tests/patterns` compares what is printed of patterns with a JavaScript engine.
 #![tactic(auto)]
 
 use anyhow::anyhow;
@@ -101,19 +102,41 @@ fn write_members(out: &mut String, set: &CharSet) -> anyhow::Result<()> {
     Ok(())
 }
 
+/// The first members of a set in the order in which words are made.
+fn write_order(out: &mut String, set: &CharSet) -> anyhow::Result<()> {
+    let mut next = set.first();
+    for _ in 0..8 {
+        let Some(c) = next else {
+            return Ok(out.push_str("end")?);
+        };
+        let code = u32::from(c);
+        write!(out, "{code:x} ")?;
+        next = set.next_after(c);
+    }
+    Ok(out.push_str("..")?)
+}
+
+/// What a line asks of a class.
+#[derive(Clone, Copy)]
+enum Question {
+    Members,
+    Order,
+}
+
 /// What is said of a class, by its tree.
-fn write_class(out: &mut String, class: &Re) -> anyhow::Result<()> {
-    match class {
-        Re::Set(set) => write_members(out, set),
+fn write_class(out: &mut String, question: Question, class: &Re) -> anyhow::Result<()> {
+    match (question, class) {
+        (Question::Members, Re::Set(set)) => write_members(out, set),
+        (Question::Order, Re::Set(set)) => write_order(out, set),
         _ => Ok(out.push_str("no set")?),
     }
 }
 
 /// What is said of a class.
-fn set_answer(alloc: Global, class: &str) -> anyhow::Result<String> {
+fn set_answer(alloc: Global, question: Question, class: &str) -> anyhow::Result<String> {
     let mut out = String::new(alloc);
     match read_pattern(alloc, class) {
-        Ok(tree) => write_class(&mut out, &tree)?,
+        Ok(tree) => write_class(&mut out, question, &tree)?,
         Err(fault) => write_fault(&mut out, fault)?,
     }
     Ok(out)
@@ -133,9 +156,12 @@ fn main(rt: HostRuntime) -> anyhow::Result<()> {
     for line in rt.lines(rt.alloc()) {
         let line = line?;
         let line = line.as_str();
-        let shown = match line.strip_prefix("set ") {
-            Some(class) => set_answer(rt.alloc(), class)?,
-            None => answer(rt.alloc(), line)?,
+        let shown = if let Some(class) = line.strip_prefix("set ") {
+            set_answer(rt.alloc(), Question::Members, class)?
+        } else if let Some(class) = line.strip_prefix("order ") {
+            set_answer(rt.alloc(), Question::Order, class)?
+        } else {
+            answer(rt.alloc(), line)?
         };
         rt.println(shown)?;
     }

@@ -1,8 +1,6 @@
 //! The answer on a schema and a document: what is wrong with one of them, or whether the document is valid.
 
 ghost use Rattle.std.specs.Prelude.{◌≡◌, true};
-ghost use Rattle.documents.specs.WellFormed.{is_json};
-ghost use Rattle.js_doc.specs.JsonView.{view};
 ghost use Rattle.schemas.specs.Guarded.{edges, are_ranks};
 ghost use Rattle.js_schema.specs.SchemaView.{schema_view};
 
@@ -24,9 +22,7 @@ pub(crate) fn answer(alloc: Global, schema: &str, document: &str) -> Result<Stri
     }
 }
 
-fn answer_of_value(alloc: Global, json: &Json, document: &str) -> Result<String, Memory>
-    requires { is_json (view json.now) ≡ true }
-{
+fn answer_of_value(alloc: Global, json: &Json, document: &str) -> Result<String, Memory> {
     match read_schema(alloc, json) {
         Ok(schema) => answer_of_schema(alloc, &schema, document),
         Err(SchemaFault::Memory) => Err(Memory),

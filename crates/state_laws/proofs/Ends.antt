@@ -6,9 +6,9 @@ use Rattle.patterns.specs.CharSet.{has}
 use Rattle.patterns.specs.Tree.{Tree, Trees, empty, one_of, at_start, at_end, in_turn, either, repeated, no_trees, tree}
 use Rattle.patterns.specs.Decision.{ends, ends_in_turn, ends_of_one, ends_after, ends_within, is_empty}
 use Rattle.pattern_laws.proofs.Decides.{IsIn, in_flat_map, from_flat_map, sound, complete}
-use Rattle.words.specs.Position.{count_of}
-use Rattle.words.specs.LastRead.{reads_end, in_copies, in_copies_on, last_read, last_read_in_turn, last_read_of_one}
-use Rattle.words.specs.PatternState.{without_end, all_without_end}
+use Rattle.word_states.specs.Position.{count_of}
+use Rattle.word_states.specs.LastRead.{reads_end, in_copies, in_copies_on, last_read, last_read_in_turn, last_read_of_one}
+use Rattle.word_states.specs.PatternState.{without_end, all_without_end}
 use Rattle.state_laws.specs.Flow.{is_among, through_some, through_copies, through_copies_on, ends_here, ends_here_in_turn, ends_here_of_one}
 use Rattle.state_laws.proofs.Places.{same_truth, in_any, from_any, in_among, from_among, Same, same_self, same_back, any_same, below, below_same, below_lacks, flat_flat, flat_same, flat_single, among_append, among_both}
 use Rattle.state_laws.proofs.Pieces.{same_ends, pieces, piece, pieces_end, piece_pieces}

@@ -1,8 +1,8 @@
 -- What is kept of a word, on worked examples.
 use Rattle.std.proofs.Common.{◌≡◌, true, false, [], ◌∷◌, refl, codes, Some, None}
 use Rattle.patterns.specs.Tree.{Tree, one_of, at_start, at_end, in_turn, either, repeated, trees_of}
-use Rattle.words.specs.Position.{count_of, sets_of}
-use Rattle.words.specs.PatternState.{done, reading, pattern_state, read_flags, accepts}
+use Rattle.word_states.specs.Position.{count_of, sets_of}
+use Rattle.word_states.specs.PatternState.{done, reading, pattern_state, read_flags, accepts}
 
 abbrev letter_a : Tree
 letter_a = one_of ((97, 97) ∷ [])

@@ -3,9 +3,9 @@ use Rattle.std.proofs.lemmas.Bool.{ne_eqb, eq-eqb}
 use Rattle.std.proofs.Common.{◌≡◌, ℕ, zero, suc, ◌+◌, ◌-◌, ◌*◌, ◌<◌, Bool, true, false, ◌||◌, List, [], ◌∷◌, ◌++◌, length, flat_map, Some, None, refl, ◌∙◌, ap, subst, arith, length-append}
 use Rattle.patterns.specs.Tree.{Tree, Trees, empty, one_of, at_start, at_end, in_turn, either, repeated, no_trees, tree}
 use Rattle.patterns.specs.Decision.{ends}
-use Rattle.words.specs.Position.{count_of, count_in, copies}
-use Rattle.words.specs.LastRead.{in_copies, in_copies_on, last_read, last_read_in_turn, last_read_of_one}
-use Rattle.words.specs.PatternState.{without_end, all_without_end, numbers_from}
+use Rattle.word_states.specs.Position.{count_of, count_in, copies}
+use Rattle.word_states.specs.LastRead.{in_copies, in_copies_on, last_read, last_read_in_turn, last_read_of_one}
+use Rattle.word_states.specs.PatternState.{without_end, all_without_end, numbers_from}
 use Rattle.state_laws.specs.Flow.{flag_at, is_among}
 
 -- the flags are what a function says from `base` on

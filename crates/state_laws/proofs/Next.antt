@@ -6,9 +6,9 @@ use Rattle.patterns.specs.CharSet.{has}
 use Rattle.patterns.specs.Tree.{Tree, Trees, empty, one_of, at_start, at_end, in_turn, either, repeated, no_trees, tree}
 use Rattle.patterns.specs.Decision.{ends, is_empty}
 use Rattle.pattern_laws.proofs.Decides.{IsIn}
-use Rattle.words.specs.Position.{count_of}
-use Rattle.words.specs.LastRead.{reads_end, in_copies, in_copies_on, last_read, last_read_in_turn, last_read_of_one}
-use Rattle.words.specs.PatternState.{without_end, all_without_end}
+use Rattle.word_states.specs.Position.{count_of}
+use Rattle.word_states.specs.LastRead.{reads_end, in_copies, in_copies_on, last_read, last_read_in_turn, last_read_of_one}
+use Rattle.word_states.specs.PatternState.{without_end, all_without_end}
 use Rattle.state_laws.specs.Flow.{is_among, through_some, through_copies, through_copies_on, ends_here, ends_here_in_turn, ends_here_of_one, next_copies, next_copies_on, reads_next, reads_next_in_turn, reads_next_of_one}
 use Rattle.state_laws.proofs.Places.{same_truth, in_any, from_any, in_among, from_among, Same}
 use Rattle.state_laws.proofs.Pieces.{same_ends}

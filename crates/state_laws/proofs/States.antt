@@ -7,8 +7,8 @@ use Rattle.patterns.specs.Tree.{Tree, Trees, empty, one_of, at_start, at_end, in
 use Rattle.patterns.specs.Match.{Matches, MatchesInTurn, MatchesOne, IsFoundIn}
 use Rattle.patterns.specs.Decision.{ends, is_empty, finds}
 use Rattle.pattern_laws.proofs.Decides.{IsIn, in_left, in_right, in_append, in_flat_map, from_flat_map, sound, complete, finds-decides}
-use Rattle.words.specs.LastRead.{reads_end, in_copies, in_copies_on, last_read, last_read_in_turn, last_read_of_one}
-use Rattle.words.specs.PatternState.{done, reading, without_end, all_without_end, places_to, numbers_from, is_done, read_flags, pattern_state}
+use Rattle.word_states.specs.LastRead.{reads_end, in_copies, in_copies_on, last_read, last_read_in_turn, last_read_of_one}
+use Rattle.word_states.specs.PatternState.{done, reading, without_end, all_without_end, places_to, numbers_from, is_done, read_flags, pattern_state}
 use Rattle.state_laws.specs.Flow.{flag_at, is_among, ends_here, reads_next, state_with, next_state, is_accepted}
 use Rattle.state_laws.specs.Laws.{BeginsWith, GoesOn, Decides}
 use Rattle.state_laws.proofs.Places.{same_truth, from_any, in_among, from_among, Same, same_self}

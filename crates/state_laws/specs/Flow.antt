@@ -9,8 +9,8 @@ use Rattle.std.specs.List.{list_any}
 use Rattle.std.specs.Prelude.{nat_eq}
 use Rattle.patterns.specs.CharSet.{has}
 use Rattle.patterns.specs.Tree.{Tree, Trees, empty, one_of, at_start, at_end, in_turn, either, repeated, no_trees, tree}
-use Rattle.words.specs.Position.{count_of}
-use Rattle.words.specs.PatternState.{PatternState, done, reading, numbers_from}
+use Rattle.word_states.specs.Position.{count_of}
+use Rattle.word_states.specs.PatternState.{PatternState, done, reading, numbers_from}
 
 -- through none, or up to so many more copies, where `one` goes through the copy whose first position is given
 abbrev pub through_some : (one : ℕ → Bool → Bool) (count more : ℕ) → ℕ → Bool → Bool

@@ -4,8 +4,8 @@ use Rattle.patterns.specs.CharSet.{has}
 use Rattle.patterns.specs.Tree.{Tree}
 use Rattle.patterns.specs.Decision.{is_empty}
 use Rattle.pattern_laws.proofs.Decides.{IsIn}
-use Rattle.words.specs.Position.{sets_of}
-use Rattle.words.specs.PatternState.{pattern_state, accepts}
+use Rattle.word_states.specs.Position.{sets_of}
+use Rattle.word_states.specs.PatternState.{pattern_state, accepts}
 use Rattle.state_laws.specs.Flow.{first_state, next_state, is_accepted}
 
 -- one state begins

@@ -4,8 +4,8 @@ use Rattle.std.specs.Cmp.{IsEquivalence}
 use Rattle.std.proofs.lemmas.Bool.{and_parts, and_from, cases_lt, or_left, or_right, lt-ltb, le-leb, eq-eqb}
 use Rattle.std.proofs.lemmas.Map.Keys.{apart_from_distinct}
 use Rattle.patterns.specs.CharSet.{is_scalar, group_of, comes_no_later}
-use Rattle.words.specs.Atom.{Atom}
-use Rattle.words.specs.Classes.{are_alike, dividers, class_firsts, class_count, class_of}
+use Rattle.word_states.specs.Atom.{Atom}
+use Rattle.word_states.specs.Classes.{are_alike, dividers, class_firsts, class_count, class_of}
 use Rattle.word_laws.specs.Laws.{ClassesDivide, FirstsComeFirst, ClassesInOrder}
 use Rattle.word_laws.proofs.Lists.{IsIn, in_get}
 use Rattle.word_laws.proofs.Places.{place_below, place_same}

@@ -5,8 +5,8 @@ use Rattle.std.specs.Cmp.{IsEquivalence}
 use Rattle.std.specs.List.{list_any, IsDistinct, range_with_len}
 use Rattle.std.proofs.lemmas.Bool.{and_parts, and_from, or_cases, cases_eq, ltb-true}
 use Rattle.patterns.specs.CharSet.{has, is_within, is_scalar, group_of}
-use Rattle.words.specs.Atom.{Atom}
-use Rattle.words.specs.Classes.{are_alike, dividers, ordered_below, characters, class_firsts}
+use Rattle.word_states.specs.Atom.{Atom}
+use Rattle.word_states.specs.Classes.{are_alike, dividers, ordered_below, characters, class_firsts}
 use Rattle.word_laws.proofs.Mentions as M
 use Rattle.word_laws.proofs.Lists.{IsIn, in_flat_map, from_flat_map, in_filter, filter_in}
 

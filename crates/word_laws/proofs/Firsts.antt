@@ -4,8 +4,8 @@ use Rattle.std.specs.Cmp.{IsEquivalence}
 use Rattle.std.specs.List.{list_any, range_with_len, IsDistinct, AllByRecursion}
 use Rattle.std.proofs.lemmas.Bool.{and_parts, or_cases, ltb-true, leb-true}
 use Rattle.patterns.specs.CharSet.{is_scalar, group_of, comes_no_later}
-use Rattle.words.specs.Mention.{mention, mention_all}
-use Rattle.words.specs.Classes.{are_alike, ordered_below, characters, firsts_among}
+use Rattle.word_states.specs.Mention.{mention, mention_all}
+use Rattle.word_states.specs.Classes.{are_alike, ordered_below, characters, firsts_among}
 use Rattle.word_laws.proofs.Mentions as M
 use Rattle.word_laws.proofs.Lists.{IsIn, in_left, in_right, in_append, from_flat_map, in_filter}
 use Rattle.word_laws.proofs.Classes.{alike_laws, ordered_has, ordered_only, scalar_below, in_range}

@@ -9,7 +9,7 @@ use Rattle.std.proofs.lemmas.Bool.{or_cases, or_from, or_left, or_right, cases_B
 use Rattle.std.proofs.lemmas.List.Folds.{list_any-append}
 use Rattle.std.proofs.lemmas.Map.Keys.{IsDistinct-push}
 use Rattle.std.proofs.lemmas.Map.Steps.{list_any_congr, length-le_from_keys}
-use Rattle.words.specs.Mention.{mention, mention_all}
+use Rattle.word_states.specs.Mention.{mention, mention_all}
 use Rattle.word_laws.proofs.Lists.{IsIn, in_right, in_append}
 
 module _ {A : Type 0} (same : A → A → Bool) (laws : IsEquivalence same) where

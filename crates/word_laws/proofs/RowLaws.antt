@@ -3,10 +3,10 @@ use Rattle.std.proofs.Common.{◌≡◌, ℕ, ◌+◌, ◌<◌, ◌≤◌, inl, 
 use Rattle.std.specs.List.{list_any, list_all, IsDistinct}
 use Rattle.std.proofs.lemmas.Bool.{and_parts, and_from}
 use Rattle.patterns.specs.CharSet.{is_scalar}
-use Rattle.words.specs.Atom.{Atom}
-use Rattle.words.specs.Classes.{are_alike, dividers, class_firsts, class_of}
-use Rattle.words.specs.WordState.{word_state, have_same_state}
-use Rattle.words.specs.Rows.{AreRows, row_of, targets_of, signature_of, HaveStates}
+use Rattle.word_states.specs.Atom.{Atom}
+use Rattle.word_states.specs.Classes.{are_alike, dividers, class_firsts, class_of}
+use Rattle.word_states.specs.WordState.{word_state, have_same_state}
+use Rattle.word_states.specs.Rows.{AreRows, row_of, targets_of, signature_of, HaveStates}
 use Rattle.word_laws.specs.Laws.{RowsHaveAll, RowsGoOn}
 use Rattle.word_laws.proofs.Mentions as M
 use Rattle.word_laws.proofs.Rows as R

@@ -4,7 +4,7 @@ use Rattle.std.proofs.Common.{◌≡◌, ℕ, zero, suc, ◌+◌, ◌<◌, ◌�
 use Rattle.std.specs.Cmp.{IsEquivalence}
 use Rattle.std.specs.List.{list_any, IsDistinct}
 use Rattle.std.proofs.lemmas.List.Concat.{flat_map-append}
-use Rattle.words.specs.Mention.{mention, mention_all}
+use Rattle.word_states.specs.Mention.{mention, mention_all}
 use Rattle.word_laws.proofs.Mentions as M
 use Rattle.word_laws.proofs.Lists.{IsIn, in_right, prefixes, in_flat_map, from_flat_map, take_left, get_left, take_next, take_whole}
 

@@ -6,12 +6,12 @@ use Rattle.std.proofs.lemmas.Bool.{and_parts, and_from, or_cases, or_left, le-le
 use Rattle.patterns.specs.CharSet.{has}
 use Rattle.patterns.specs.Decision.{is_empty}
 use Rattle.patterns.specs.Tree.{Tree}
-use Rattle.words.specs.Atom.{Atom, Match, Words, LengthMin, same_word, is_true}
-use Rattle.words.specs.Classes.{are_alike, divider_sets, dividers}
-use Rattle.words.specs.Position.{sets_of}
-use Rattle.words.specs.PatternState.{pattern_state}
-use Rattle.words.specs.WordState.{is_prefix, matching, begun, atom_state, least_length, greatest_least, word_state}
-use Rattle.words.specs.Rows.{signature_of}
+use Rattle.word_states.specs.Atom.{Atom, Match, Words, LengthMin, same_word, is_true}
+use Rattle.word_states.specs.Classes.{are_alike, divider_sets, dividers}
+use Rattle.word_states.specs.Position.{sets_of}
+use Rattle.word_states.specs.PatternState.{pattern_state}
+use Rattle.word_states.specs.WordState.{is_prefix, matching, begun, atom_state, least_length, greatest_least, word_state}
+use Rattle.word_states.specs.Rows.{signature_of}
 use Rattle.state_laws.proofs.Alike.{same_state_of_same, same_truth_of_same}
 use Rattle.word_laws.proofs.Mentions as M
 use Rattle.word_laws.proofs.Lists.{IsIn, in_flat_map, map_in, filter_head, filter_none}

@@ -4,9 +4,9 @@ use Rattle.std.specs.Bool.{beq}
 use Rattle.std.specs.Cmp.{IsEquivalence, decided, unsigned_Decides}
 use Rattle.std.specs.Cmp.Lexicographic.{pointwise, pointwise_decides}
 use Rattle.std.proofs.lemmas.Bool.{and_parts, and_from}
-use Rattle.words.specs.Atom.{Atom, same_word}
-use Rattle.words.specs.PatternState.{PatternState, done, reading}
-use Rattle.words.specs.WordState.{AtomState, matching, beginning, counting, WordState, word_state, same_pattern_state, same_length, same_atom_state, same_state, have_same_state}
+use Rattle.word_states.specs.Atom.{Atom, same_word}
+use Rattle.word_states.specs.PatternState.{PatternState, done, reading}
+use Rattle.word_states.specs.WordState.{AtomState, matching, beginning, counting, WordState, word_state, same_pattern_state, same_length, same_atom_state, same_state, have_same_state}
 
 -- ---- the tests decide equality
 pub word_decides : (v w : List ℕ) → Decides (same_word v w) (v ≡ w)

@@ -1,11 +1,11 @@
 -- Classes, states and rows on worked examples. The characters are those of ASCII, since the full list is long.
 use Rattle.std.proofs.Common.{◌≡◌, ℕ, true, false, [], ◌∷◌, List, Some, None, refl, codes}
 use Rattle.patterns.specs.Tree.{one_of, at_start, at_end, in_turn, repeated, trees_of}
-use Rattle.words.specs.Atom.{Atom, Match, Words, LengthMin, is_true}
-use Rattle.words.specs.Classes.{dividers, ordered_below, firsts_among}
-use Rattle.words.specs.PatternState.{pattern_state}
-use Rattle.words.specs.WordState.{atom_state, beginning, have_same_state}
-use Rattle.words.specs.Rows.{AreRowsOver, row_of, signature_of}
+use Rattle.word_states.specs.Atom.{Atom, Match, Words, LengthMin, is_true}
+use Rattle.word_states.specs.Classes.{dividers, ordered_below, firsts_among}
+use Rattle.word_states.specs.PatternState.{pattern_state}
+use Rattle.word_states.specs.WordState.{atom_state, beginning, have_same_state}
+use Rattle.word_states.specs.Rows.{AreRowsOver, row_of, signature_of}
 
 abbrev ascii : List Atom → List ℕ
 ascii atoms = firsts_among (ordered_below 128) (dividers atoms)

@@ -2,10 +2,10 @@
 use Rattle.std.specs.Prelude.{◌≡◌, ℕ, ◌<◌, ◌≤◌, List, [], ◌∷◌, ◌++◌, true, length, get_or}
 use Rattle.std.specs.List.{list_any, list_all}
 use Rattle.patterns.specs.CharSet.{is_scalar, comes_no_later}
-use Rattle.words.specs.Atom.{Atom}
-use Rattle.words.specs.Classes.{are_alike, dividers, class_firsts, class_count, class_of, is_in_class}
-use Rattle.words.specs.WordState.{word_state, have_same_state}
-use Rattle.words.specs.Rows.{AreRows, HaveStates, row_of, signature_of, targets_of}
+use Rattle.word_states.specs.Atom.{Atom}
+use Rattle.word_states.specs.Classes.{are_alike, dividers, class_firsts, class_count, class_of, is_in_class}
+use Rattle.word_states.specs.WordState.{word_state, have_same_state}
+use Rattle.word_states.specs.Rows.{AreRows, HaveStates, row_of, signature_of, targets_of}
 
 -- a list of characters
 abbrev pub IsWord : List ℕ → Type 0

@@ -1,8 +1,8 @@
-use Rattle.std.proofs.Common.{◌+◌, length, List, ℕ, ◌<◌, ◌≤◌, Bool, false, ◌∷◌, drop, get_or, arith, subst, sym, ◌∙◌, length-drop, Bor}
+use Rattle.std.proofs.Common.{rules, ◌+◌, length, List, ℕ, ◌<◌, ◌≤◌, Bool, false, ◌∷◌, drop, get_or, arith, subst, sym, ◌∙◌, length-drop, Bor}
 use Rattle.goals.specs.Goal as G
 use Rattle.js_algebra.specs.declared.signed.Signed.{Signed}
 use Rattle.js_algebra.proofs.Sorting.{same_fields}
-use Rattle.js_algebra.proofs.Contained.{Keeps, keeps_same, keeps_later, keeps_not, keeps_end, drop-at, from_first, after_first}
+use Rattle.js_algebra.proofs.Contained.{contained-met, keeps_none, Keeps, keeps_same, keeps_later, keeps_not, keeps_end, drop-at, from_first, after_first}
 use Rattle.js_algebra.proofs.goal.contains.Goals as goal
 use Rattle.js_algebra.proofs.goal.contains.Goals.{then-eq, else-eq+else-order}
 
@@ -17,8 +17,8 @@ firsts answer all left i l m k =
     subst (λ B. Keeps answer B (get_or left 0 nothing ∷ drop 1 left)) (drop-at all i nothing l)
     (subst (λ R. Keeps answer (drop i all) R) (from_first left nothing m) k)
 
-pub returns-then-order : goal.returns-then-order
-returns-then-order c =
+pub returns-then-order-clause-value : goal.returns-then-order-clause-value
+returns-then-order-clause-value c =
     keeps_not _ _ _ _ _ (omega arith) (firsts _ c.as_slice-all.result.now c.loop-x.left.now c.loop-x.x-index
     c.loop-x-test.true c.in-len1-up.len_at_least c.loop-x.invariant)
 
@@ -43,7 +43,19 @@ loop-x-preserved c =
           (omega (arith, w.order.ensures.value, w.order-else-eq.ensures.value)) k))
     ]
 
-pub returns : goal.returns
-returns c =
+pub returns-clause-value : goal.returns-clause-value
+returns-clause-value c =
     c.is_empty.ensures ∙ keeps_end _ _ c.loop-x.left.now
     (omega (arith, length-drop c.loop-x.x-index c.as_slice-all.result.now)) c.loop-x.invariant
+
+pub returns-in-empty-clause-value : goal.returns-in-empty-clause-value
+returns-in-empty-clause-value c = search (rules, keeps_none)
+
+pub returns-in-empty-clause-meaning : goal.returns-in-empty-clause-meaning
+returns-in-empty-clause-meaning c = contained-met _ _ _ (returns-in-empty-clause-value c)
+
+pub returns-then-order-clause-meaning : goal.returns-then-order-clause-meaning
+returns-then-order-clause-meaning c = contained-met _ _ _ (returns-then-order-clause-value c)
+
+pub returns-clause-meaning : goal.returns-clause-meaning
+returns-clause-meaning c = contained-met _ _ _ (returns-clause-value c)

@@ -1,6 +1,6 @@
 use Rattle.std.proofs.Common.{◌≡◌, ◌∙◌, ◌+◌, List, map, length, refl, sym, ap, subst, arith, length-append}
 use Rattle.std.proofs.lemmas.List.{length-map, map-append}
-use Rattle.words.specs.Classes.{are_alike, dividers, class_firsts}
+use Rattle.word_states.specs.Classes.{are_alike, dividers, class_firsts}
 use Rattle.js_nfa.specs.AtomView.{atom_view}
 use Rattle.js_automaton.specs.declared.classes.Class.{Class}
 use Rattle.js_automaton.specs.Pieces.{AreNumbered}

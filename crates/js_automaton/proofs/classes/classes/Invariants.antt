@@ -1,5 +1,5 @@
 use Rattle.std.proofs.Common.{◌-◌, ◌≤◌, map, length}
-use Rattle.words.specs.Classes.{dividers}
+use Rattle.word_states.specs.Classes.{dividers}
 use Rattle.js_nfa.specs.AtomView.{atom_view}
 use Rattle.js_automaton.specs.ClassView.{AreClasses, first_of}
 use Rattle.js_automaton.proofs.ClassSteps.{Dividing}

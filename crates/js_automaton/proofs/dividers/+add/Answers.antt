@@ -1,8 +1,8 @@
 use Rattle.std.proofs.Common.{rules, ℕ, ◌≡◌, ◌∙◌, ◌+◌, ◌∷◌, [], ◌&&◌, refl, sym, ap}
 use Rattle.std.proofs.lemmas.Result.{on_ok_weaker}
 use Rattle.patterns.specs.Tree.{one_of, repeated}
-use Rattle.words.specs.Position.{sets_of, sets_in}
-use Rattle.words.specs.Classes.{are_alike}
+use Rattle.word_states.specs.Position.{sets_of, sets_in}
+use Rattle.word_states.specs.Classes.{are_alike}
 use Rattle.js_pattern.specs.declared.re.Re.{the_lemmas}
 use Rattle.js_pattern.specs.View.{view}
 use Rattle.js_nfa.proofs.Items.{rest, rest-tree}

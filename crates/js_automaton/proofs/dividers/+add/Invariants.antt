@@ -1,7 +1,7 @@
 use Rattle.std.proofs.Common.{◌≡◌, ℕ, ◌&&◌, map}
 use Rattle.patterns.specs.Tree.{trees_of}
-use Rattle.words.specs.Position.{sets_in}
-use Rattle.words.specs.Classes.{are_alike}
+use Rattle.word_states.specs.Position.{sets_in}
+use Rattle.word_states.specs.Classes.{are_alike}
 use Rattle.js_pattern.specs.View.{view}
 use Rattle.js_nfa.proofs.Items.{rest}
 use Rattle.js_automaton.proofs.dividers.+add.Given as goal

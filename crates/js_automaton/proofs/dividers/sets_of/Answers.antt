@@ -1,5 +1,5 @@
 use Rattle.std.proofs.Common.{◌∙◌, ◌+◌, ◌&&◌, map, flat_map, drop, sym, ap}
-use Rattle.words.specs.Classes.{are_alike}
+use Rattle.word_states.specs.Classes.{are_alike}
 use Rattle.js_nfa.specs.AtomView.{atom_view}
 use Rattle.js_automaton.specs.Letters.{tree_sets}
 use Rattle.js_automaton.proofs.DividerLemmas.{trees-drop, alike-added}

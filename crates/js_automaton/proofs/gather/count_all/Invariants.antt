@@ -1,6 +1,6 @@
 use Rattle.std.proofs.Common.{◌≡◌, ◌+◌, ◌≤◌, min, map, drop}
 use Rattle.js_nfa.specs.AtomView.{atom_view}
-use Rattle.js_automaton.specs.Tuple.{positions_of}
+use Rattle.word_states.specs.AtomPositions.{positions_of}
 use Rattle.js_automaton.proofs.gather.count_all.Given as goal
 
 abbrev pub invariant-loop-atom : goal.invariant-loop-atom

@@ -1,5 +1,5 @@
 use Rattle.std.proofs.Common.{◌≡◌, max, map, drop}
-use Rattle.words.specs.WordState.{greatest_least}
+use Rattle.word_states.specs.WordState.{greatest_least}
 use Rattle.js_nfa.specs.AtomView.{atom_view}
 use Rattle.js_automaton.proofs.gather.longest.Given as goal
 

@@ -1,5 +1,5 @@
 use Rattle.std.proofs.Common.{sym, subst}
-use Rattle.words.specs.Rows.{HaveStates}
+use Rattle.word_states.specs.Rows.{HaveStates}
 use Rattle.js_automaton.specs.TuplesView.{atoms_of}
 use Rattle.js_automaton.proofs.RowsLemmas.{all-few}
 use Rattle.js_automaton.proofs.rows.build.Goals as goal

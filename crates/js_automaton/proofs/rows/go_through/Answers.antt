@@ -1,5 +1,5 @@
 use Rattle.std.proofs.Common.{◌<◌, ◌+◌, [], get_or, sym, subst, arith}
-use Rattle.words.specs.Classes.{class_firsts, class_count}
+use Rattle.word_states.specs.Classes.{class_firsts, class_count}
 use Rattle.js_automaton.specs.TuplesView.{atoms_of}
 use Rattle.js_automaton.specs.Building.{IsFound}
 use Rattle.js_automaton.proofs.RowsLemmas.{found-within, found-state, found-class, found-over, first-member}

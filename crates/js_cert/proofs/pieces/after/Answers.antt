@@ -1,5 +1,5 @@
 -- A front that is the word, or isn't.
-use Rattle.js_cert.proofs.PieceLaws.{after_word-says}
+use Rattle.line_laws.proofs.PieceLaws.{after_word-says}
 use Rattle.js_cert.proofs.pieces.after.Goals as goal
 
 pub returns : goal.returns

@@ -1,6 +1,6 @@
 -- A place of the byte ends a piece, and another byte is a part of it.
 use Rattle.std.proofs.Common.{refl, ap, ◌∙◌, arith}
-use Rattle.js_cert.proofs.PieceLaws.{cut-preserved, grown-preserved}
+use Rattle.line_laws.proofs.PieceLaws.{cut-preserved, grown-preserved}
 use Rattle.js_cert.proofs.pieces.pieces.Goals as goal
 use Rattle.js_cert.proofs.pieces.pieces.Goals.{then-byte-at+in_ok-push, else-byte-at}
 

@@ -1,7 +1,7 @@
 -- The pieces that were found, and then those of the rest, are the pieces of the text.
 use Rattle.std.proofs.Common.{◌≡◌, ◌≤◌, ◌++◌, map, drop}
 use Rattle.std.specs.List.{between}
-use Rattle.js_cert.specs.Pieces.{pieces, pieces_on}
+use Rattle.certificate_lines.specs.Pieces.{pieces, pieces_on}
 use Rattle.js_cert.proofs.pieces.pieces.Given as goal
 
 abbrev pub invariant-loop-i : goal.invariant-loop-i

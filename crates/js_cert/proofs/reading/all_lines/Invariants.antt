@@ -2,7 +2,8 @@
 use Rattle.std.proofs.Common.{◌≡◌, ◌++◌, map, drop}
 use Rattle.std.specs.Option.{option_map}
 use Rattle.js_cert.specs.View.{line_view}
-use Rattle.js_cert.specs.Reading.{read_all, short_line}
+use Rattle.certificate_lines.specs.Reading.{read_all}
+use Rattle.js_cert.specs.Reading.{short_line}
 use Rattle.js_cert.proofs.reading.all_lines.Given as goal
 
 abbrev pub invariant-loop-text : goal.invariant-loop-text

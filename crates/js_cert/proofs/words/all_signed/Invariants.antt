@@ -2,7 +2,7 @@
 use Rattle.std.proofs.Common.{◌≡◌, ◌++◌, map, drop}
 use Rattle.std.specs.Option.{option_map}
 use Rattle.js_algebra.specs.View.{signed_view}
-use Rattle.js_cert.specs.Reading.{read_all, signed_of}
+use Rattle.certificate_lines.specs.Reading.{read_all, signed_of}
 use Rattle.js_cert.proofs.words.all_signed.Given as goal
 
 abbrev pub invariant-loop-word : goal.invariant-loop-word

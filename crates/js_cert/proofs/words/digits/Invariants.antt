@@ -1,6 +1,6 @@
 -- The digits that are left say the number that all of them say.
 use Rattle.std.proofs.Common.{◌≡◌, ◌<◌, drop}
-use Rattle.js_cert.specs.Reading.{digits_from}
+use Rattle.certificate_lines.specs.Reading.{digits_from}
 use Rattle.js_cert.proofs.words.digits.Given as goal
 
 abbrev pub invariant-loop-digit : goal.invariant-loop-digit

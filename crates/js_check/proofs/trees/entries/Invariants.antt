@@ -9,5 +9,4 @@ invariant-loop-number l = record {
   left : (ds : List Duty)
       → do_duties l.core.positions (entry_duties l.number (drop l.number l.goals) ++ ds) (map line_view l.rest)
       ≡ do_duties l.core.positions (entry_duties 0 l.goals ++ ds) (map line_view l.fn.lines);
-  room : l.walk.set.room ≡ l.fn.walk.set.room;
 }

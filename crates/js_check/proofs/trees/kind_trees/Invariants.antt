@@ -12,5 +12,4 @@ invariant-loop-kind l = record {
       → do_duties l.core.positions (kind_duties l.goal (map kind_view (drop l.kind-index l.kinds)) ++ ds)
       (map line_view l.rest)
       ≡ do_duties l.core.positions (kind_duties l.goal (map kind_view l.kinds) ++ ds) (map line_view l.fn.lines);
-  room : l.walk.set.room ≡ l.fn.walk.set.room;
 }

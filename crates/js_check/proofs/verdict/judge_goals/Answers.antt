@@ -18,7 +18,7 @@ returns-in-Some-2 c =
     (rest_of (option_map (λ p. map line_view p.1.now) o))) c.in-Some.is)
     (c.if-not-root_is_listed.ensures ∙ ap (root_is_listed c.args.root.now) c.as_slice.ensures.value)
     (λ ds. ap (λ gs. do_duties T (entry_duties 0 gs ++ ds) ls) (sym c.as_slice-2.ensures.value)
-    ∙ c.in_ok-last.ensures.does ds)
+    ∙ c.in_ok-last.ensures ds)
 
 pub returns : goal.returns
 returns c =
@@ -31,4 +31,4 @@ returns c =
     (rest_of (option_map (λ p. map line_view p.1.now) o))) c.in-Some.is)
     (c.if-not-root_is_listed.ensures ∙ ap (root_is_listed c.args.root.now) c.as_slice.ensures.value)
     (λ ds. ap (λ gs. do_duties T (entry_duties 0 gs ++ ds) ls) (sym c.as_slice-2.ensures.value)
-    ∙ c.in_ok-last.ensures.does ds)
+    ∙ c.in_ok-last.ensures ds)

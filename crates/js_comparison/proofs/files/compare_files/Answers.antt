@@ -1,8 +1,9 @@
-use Rattle.std.proofs.Common.{encode_utf8_all, string_bytes, refl, subst, ◌∙◌}
+use Rattle.std.proofs.Common.{[], encode_utf8_all, string_bytes, refl, subst, ◌∙◌}
 use Rattle.js_report.specs.WholeFile.{HasBytes}
 use Rattle.js_schema.specs.SchemaView.{schema_view}
 use Rattle.js_input.specs.SchemaReading.{Refused}
 use Rattle.js_input.proofs.InputLemmas.{IfOk-weaker}
+use Rattle.js_input.proofs.OrderLaws.{begins_two}
 use Rattle.js_comparison.specs.Outcome.{SecondRefused}
 use Rattle.js_comparison.proofs.OutcomeLemmas.{at_fault, comparison-first_refused, comparison-second, says-compared}
 use Rattle.js_comparison.proofs.files.compare_files.Goals as goal
@@ -52,3 +53,39 @@ returns-in-Some-Read-2-clause-memory g c =
     let second = rw c.in-Some-Read-2.is at c.in_ok-b.ensures.says in
     let (again, (others, has_others, (y, is', of'))) = rw c.in-Some-Read-2.field-0-is at second in
     at_fault _ c.compared.result (again ∙ same)
+
+pub returns-in_err-b-clause-begun : goal.returns-in_err-b-clause-begun
+returns-in_err-b-clause-begun g c =
+    let first = rw c.in-Some-Read.is at c.in_ok-schema.ensures.says in
+    let (same, (bytes, has, (j, is, of))) = rw c.in-Some-Read.field-0-is at first in
+    begins_two (g.H.Shelf.told c.args.shelf.now) (encode_utf8_all c.args.first.now) (encode_utf8_all c.args.second.now)
+    [] (g.H.Shelf.begun c.args.shelf.now) (g.H.Shelf.begun c.load_schema.new.shelf)
+    (g.H.Shelf.begun c.load_schema-2.new.shelf) c.load_schema.ensures.begun c.load_schema-2.ensures.begun
+    (bytes, has, (j, is))
+
+pub returns-in-Some-Refused-2-clause-begun : goal.returns-in-Some-Refused-2-clause-begun
+returns-in-Some-Refused-2-clause-begun g c =
+    let first = rw c.in-Some-Read.is at c.in_ok-schema.ensures.says in
+    let (same, (bytes, has, (j, is, of))) = rw c.in-Some-Read.field-0-is at first in
+    begins_two (g.H.Shelf.told c.args.shelf.now) (encode_utf8_all c.args.first.now) (encode_utf8_all c.args.second.now)
+    [] (g.H.Shelf.begun c.args.shelf.now) (g.H.Shelf.begun c.load_schema.new.shelf)
+    (g.H.Shelf.begun c.load_schema-2.new.shelf) c.load_schema.ensures.begun c.load_schema-2.ensures.begun
+    (bytes, has, (j, is))
+
+pub returns-clause-begun : goal.returns-clause-begun
+returns-clause-begun g c =
+    let first = rw c.in-Some-Read.is at c.in_ok-schema.ensures.says in
+    let (same, (bytes, has, (j, is, of))) = rw c.in-Some-Read.field-0-is at first in
+    begins_two (g.H.Shelf.told c.args.shelf.now) (encode_utf8_all c.args.first.now) (encode_utf8_all c.args.second.now)
+    [] (g.H.Shelf.begun c.args.shelf.now) (g.H.Shelf.begun c.load_schema.new.shelf)
+    (g.H.Shelf.begun c.load_schema-2.new.shelf) c.load_schema.ensures.begun c.load_schema-2.ensures.begun
+    (bytes, has, (j, is))
+
+pub returns-in-Some-Read-2-clause-begun : goal.returns-in-Some-Read-2-clause-begun
+returns-in-Some-Read-2-clause-begun g c =
+    let first = rw c.in-Some-Read.is at c.in_ok-schema.ensures.says in
+    let (same, (bytes, has, (j, is, of))) = rw c.in-Some-Read.field-0-is at first in
+    begins_two (g.H.Shelf.told c.args.shelf.now) (encode_utf8_all c.args.first.now) (encode_utf8_all c.args.second.now)
+    [] (g.H.Shelf.begun c.args.shelf.now) (g.H.Shelf.begun c.load_schema.new.shelf)
+    (g.H.Shelf.begun c.load_schema-2.new.shelf) c.load_schema.ensures.begun c.load_schema-2.ensures.begun
+    (bytes, has, (j, is))

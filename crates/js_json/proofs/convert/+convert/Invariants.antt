@@ -3,7 +3,7 @@ use Rattle.serde_json.specs.View as R
 use Rattle.serde_json.proofs.Views.{Entry}
 use Rattle.js_doc.specs.JsonView.{view, member_view}
 use Rattle.js_json.specs.Value.{json_of}
-use Rattle.js_json.proofs.Conversion.{entry_of}
+use Rattle.js_json.proofs.Conversion.{entry_of, AreTexts}
 use Rattle.js_json.proofs.convert.+convert.Given as goal
 
 abbrev pub invariant-convert_items-loop-item : goal.invariant-convert_items-loop-item
@@ -13,4 +13,4 @@ invariant-convert_items-loop-item l =
 abbrev pub invariant-convert_members-loop-key : goal.invariant-convert_members-loop-key
 invariant-convert_members-loop-key l =
     (done : List Entry) × (l.members.entries ≡ done ++ l.key-iterator)
-    × (map member_view l.made.items ≡ map entry_of done)
+    × (map member_view l.made.items ≡ map entry_of done) × AreTexts done

@@ -1,11 +1,12 @@
-use Rattle.std.proofs.Common.{◌≡◌, [], ◌+◌, map, drop, refl, subst, sym, ap, ◌∙◌}
+use Rattle.std.proofs.Common.{◌≡◌, [], ◌+◌, map, drop, subst, sym, ap, ◌∙◌}
 use Rattle.std.proofs.lemmas.List.{take_all, at_drop_all}
 use Rattle.documents.specs.Json.{items_of, members_of}
 use Rattle.js_doc.specs.View as V
-use Rattle.js_doc.specs.JsonView.{view, member_view}
+use Rattle.js_doc.specs.JsonView.{view, map_view, member_view}
+use Rattle.js_doc.proofs.JsonWellFormed.{are_members-map_view}
 use Rattle.js_json.specs.Documents.{json_of_document, json_of_items, json_of_members, unwhole_places, places_in_items, places_in_members}
 use Rattle.js_json.specs.Making.{TellsFirst}
-use Rattle.js_json.proofs.DocumentsLemmas.{json_of_member, json_of_items-items_of, json_of_members-members_of, places_in_items-drop, places_in_members-drop, made_more}
+use Rattle.js_json.proofs.DocumentsLemmas.{json_of_member, json_of_items-items_of, json_of_members-members_of, places_in_items-drop, places_in_members-drop, made_more, names_rise-made}
 use Rattle.js_json.proofs.document.+make.Goals as goal
 
 pub make_items-loop-i-preserved : goal.make_items-loop-i-preserved
@@ -44,7 +45,8 @@ make_members-loop-member-preserved t c =
     ap unwhole_places (sym c.value.ensures.view) ∙ c.in-Ok.ensures.1 in
     let named = c.in_ok-copy-in-Ok.ensures ∙ c.name-name.ensures.view in
     let valued = c.in-Ok.ensures.0 ∙ c.value.ensures.view in
-    let same : json_of_member c.new.result ≡ member_view member = rw (c.new.ensures, named, valued) refl in (
+    let same : json_of_member c.new.result ≡ member_view member =
+    ap (λ p. (p.0, json_of_document p.1)) c.new.ensures ∙ (λ i. (named i, valued i)) in (
       made_more json_of_member member_view _ _ _ i member c.new.result c.loop-member-test.true c.member-item.is
           c.in_ok-push-in-Ok.ensures.items same c.loop-member.invariant.0,
       sym (rw none at places) ∙ c.loop-member.invariant.1,
@@ -60,6 +62,14 @@ make_members-returns-in-Err t c =
     let named = c.in_member.ensures _ later c.in-Err.ensures in
     let told = rw (c.name-name.ensures.view, c.value.ensures.view) at named in
     subst (λ ps. TellsFirst ps c.in_member.result) all told
+
+pub make_members-from_vec-requires : goal.make_members-from_vec-requires
+make_members-from_vec-requires t c =
+    let members = c.as_slice-members.result.now in
+    let all = take_all c.loop-member.member-index members c.loop-member-test.false in
+    names_rise-made _ (map_view c.args.map.now)
+    (ap members_of (c.loop-member.invariant.0 ∙ ap (map member_view) all) ∙ c.as_slice-members.ensures.view)
+    (are_members-map_view c.args.map.now)
 
 pub make_members-returns : goal.make_members-returns
 make_members-returns t c =

@@ -1,6 +1,6 @@
 use Rattle.std.proofs.Common.{◌≡◌, ◌+◌, ◌-◌, ◌*◌, ◌||◌, ◌∙◌, ◌++◌, false, length, refl, sym, ap, subst, arith}
 use Rattle.patterns.specs.Tree.{one_of, either, repeated}
-use Rattle.words.specs.Position.{count_of, count_in}
+use Rattle.word_states.specs.Position.{count_of, count_in}
 use Rattle.state_laws.specs.Flow.{flag_at, ends_here, reads_next}
 use Rattle.js_pattern.specs.declared.re.Re.{fold-roll-Re}
 use Rattle.js_pattern.specs.declared.re.Re.TheVariants.{rolls-Set, rolls-Alt}

@@ -1,5 +1,5 @@
 use Rattle.std.proofs.Common.{◌≡◌, ◌+◌, ◌-◌, ◌*◌, false, length}
-use Rattle.words.specs.Position.{count_of}
+use Rattle.word_states.specs.Position.{count_of}
 use Rattle.state_laws.specs.Flow.{flag_at}
 use Rattle.js_pattern.specs.View.{view, list_view}
 use Rattle.js_nfa.specs.Walk.{nodes, list_nodes}

@@ -1,5 +1,5 @@
 use Rattle.std.proofs.Common.{◌∙◌, ◌++◌, true, length, ap, arith}
-use Rattle.words.specs.Position.{count_in}
+use Rattle.word_states.specs.Position.{count_in}
 use Rattle.state_laws.specs.Flow.{flag_at, reads_next_in_turn}
 use Rattle.js_nfa.specs.Walk.{Quiet}
 use Rattle.js_nfa.proofs.AdvanceSteps as A

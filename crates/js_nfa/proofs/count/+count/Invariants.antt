@@ -1,6 +1,6 @@
 use Rattle.std.proofs.Common.{◌≡◌, ◌+◌, ◌≤◌, min, map}
 use Rattle.patterns.specs.Tree.{trees_of}
-use Rattle.words.specs.Position.{count_in}
+use Rattle.word_states.specs.Position.{count_in}
 use Rattle.js_pattern.specs.View.{view}
 use Rattle.js_nfa.proofs.Items.{rest}
 use Rattle.js_nfa.proofs.count.+count.Given as goal

@@ -1,5 +1,5 @@
 use Rattle.std.proofs.Common.{◌≡◌, ◌+◌, ◌-◌, ◌*◌, ◌||◌, refl, sym, ◌∙◌, ap, arith}
-use Rattle.words.specs.Position.{count_of, count_in}
+use Rattle.word_states.specs.Position.{count_of, count_in}
 use Rattle.state_laws.specs.Flow.{flag_at}
 use Rattle.js_pattern.specs.View.{view}
 use Rattle.js_nfa.specs.Walk.{list_nodes}

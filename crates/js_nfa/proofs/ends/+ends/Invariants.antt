@@ -1,6 +1,6 @@
 use Rattle.std.proofs.Common.{◌≡◌, ◌+◌, ◌-◌, ◌*◌, ◌||◌, map}
 use Rattle.patterns.specs.Tree.{trees_of, repeated}
-use Rattle.words.specs.Position.{count_of, count_in}
+use Rattle.word_states.specs.Position.{count_of, count_in}
 use Rattle.state_laws.specs.Flow.{flag_at, ends_here, ends_here_in_turn, ends_here_of_one}
 use Rattle.js_pattern.specs.View.{view, list_view}
 use Rattle.js_nfa.specs.Walk.{nodes, list_nodes, ends_after}

@@ -1,6 +1,6 @@
 use Rattle.std.proofs.Common.{◌≡◌, take}
 use Rattle.patterns.specs.Decision.{is_empty}
-use Rattle.words.specs.PatternState.{reading, numbers_from, pattern_state}
+use Rattle.word_states.specs.PatternState.{reading, numbers_from, pattern_state}
 use Rattle.js_nfa.specs.View.{tree_of, HasRoom}
 use Rattle.js_nfa.proofs.find.finds.Given as goal
 

@@ -1,7 +1,7 @@
 use Rattle.std.proofs.Common.{length, false, replicate, ◌++◌, ◌∙◌, sym, ap, arith}
 use Rattle.std.proofs.lemmas.List.{length-replicate}
 use Rattle.state_laws.specs.Flow.{flag_at}
-use Rattle.flow_laws.proofs.RowsLemmas.{and_nothing}
+use Rattle.state_laws.proofs.RowsLemmas.{and_nothing}
 use Rattle.js_pattern.specs.View.{view}
 use Rattle.js_nfa.proofs.AdvanceSteps.{length-reads}
 use Rattle.js_nfa.proofs.RowsSteps as S

@@ -1,6 +1,6 @@
 use Rattle.std.proofs.Common.{◌≡◌, ◌≤◌, ◌&&◌, ℕ, false, length, take}
 use Rattle.state_laws.specs.Flow.{flag_at}
-use Rattle.flow_laws.specs.Rows.{may_follow}
+use Rattle.state_laws.specs.Rows.{may_follow}
 use Rattle.js_pattern.specs.View.{view}
 use Rattle.js_nfa.specs.Rows.{is_shown}
 use Rattle.js_nfa.proofs.followers.row.Given as goal

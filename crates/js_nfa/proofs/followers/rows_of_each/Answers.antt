@@ -1,6 +1,6 @@
 use Rattle.std.proofs.Common.{◌≡◌, ◌+◌, ◌&&◌, false, ◌∙◌, [], ◌∷◌, length, ap, arith, length-append}
 use Rattle.state_laws.specs.Flow.{flag_at, ends_here}
-use Rattle.flow_laws.specs.Rows.{only, may_follow}
+use Rattle.state_laws.specs.Rows.{only, may_follow}
 use Rattle.js_pattern.specs.View.{view}
 use Rattle.js_nfa.specs.Rows.{is_shown}
 use Rattle.js_nfa.proofs.RowsSteps as S

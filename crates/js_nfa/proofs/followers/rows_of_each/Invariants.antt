@@ -1,6 +1,6 @@
 use Rattle.std.proofs.Common.{◌≡◌, ◌≤◌, ◌<◌, ◌&&◌, ℕ, false, length}
 use Rattle.state_laws.specs.Flow.{flag_at, ends_here}
-use Rattle.flow_laws.specs.Rows.{only, may_follow}
+use Rattle.state_laws.specs.Rows.{only, may_follow}
 use Rattle.js_pattern.specs.View.{view}
 use Rattle.js_nfa.specs.Rows.{row, HaveLength, is_shown}
 use Rattle.js_nfa.proofs.followers.rows_of_each.Given as goal

@@ -1,6 +1,6 @@
 use Rattle.std.proofs.Common.{◌≡◌, drop}
 use Rattle.std.specs.List.{fold}
-use Rattle.words.specs.PatternState.{numbers_from}
+use Rattle.word_states.specs.PatternState.{numbers_from}
 use Rattle.js_nfa.specs.Fed.{fed_places}
 use Rattle.js_nfa.proofs.state.feed.Given as goal
 

@@ -1,5 +1,5 @@
 use Rattle.std.proofs.Common.{◌∙◌, false, ap}
-use Rattle.words.specs.PatternState.{PatternState}
+use Rattle.word_states.specs.PatternState.{PatternState}
 use Rattle.js_nfa.specs.View.{tree_of, after}
 use Rattle.js_nfa.proofs.StateSteps.{after-word}
 use Rattle.js_nfa.proofs.state_set.step.Goals as goal

@@ -1,7 +1,7 @@
 use Rattle.std.proofs.Common.{◌≡◌, ◌∙◌, ◌<◌, ◌^◌, Some, ap, sym, subst, pos, neg_ℤ, ◌-ℤ◌, to_z, of_z, unsigned_abs, arith}
 use Rattle.std.specs.Int.{w128}
 use Rattle.std.proofs.lemmas.Int.{ints}
-use Rattle.js_numbers.specs.Outcome.{multiple_from}
+use Rattle.number_groups.specs.Outcome.{multiple_from}
 use Rattle.js_numbers.proofs.Sizes.{opposite_is, sized-Some}
 use Rattle.js_numbers.proofs.candidates.multiple_down.Goals as goal
 

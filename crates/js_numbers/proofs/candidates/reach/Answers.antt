@@ -1,6 +1,6 @@
 use Rattle.std.proofs.Common.{◌∙◌, Some, Err, true, false, ap, sym, to_z-of_z, FitsSigned, rules}
 use Rattle.std.specs.Int.{w128}
-use Rattle.js_numbers.specs.Group.{group_of}
+use Rattle.js_numbers.specs.View.{group_of}
 use Rattle.js_numbers.proofs.Sizes.{reached-Some, reached-None}
 use Rattle.js_numbers.proofs.candidates.reach.Goals as goal
 

@@ -1,5 +1,5 @@
 use Rattle.std.proofs.Common.{◌≡◌, ◌∙◌, ◌*◌, ◌/◌, ◌<◌, ◌^◌, [], ◌∷◌, arith, subst, sym}
-use Rattle.js_numbers.specs.Multiples.{IsLcm, lcm_of}
+use Rattle.number_groups.specs.Multiples.{IsLcm, lcm_of}
 use Rattle.js_numbers.proofs.CommonMultiples.{gcd_positive, IsLcm-from_gcd, lcm_of-pair}
 use Rattle.js_numbers.proofs.factors.lcm.Goals as goal
 use Rattle.js_numbers.proofs.factors.lcm.Goals.{After-gcd}

@@ -1,6 +1,6 @@
 use Rattle.std.proofs.Common.{◌≡◌, ◌<◌, ◌≤◌, ◌+◌, ◌^◌, [], ◌∷◌, ℕ, List, get_or, take, length, lit<, subst, sym, arith, take_all, true, nat_lt}
 use Rattle.std.specs.List.{list_all}
-use Rattle.js_numbers.specs.Multiples.{IsLcmOf, lcm_of}
+use Rattle.number_groups.specs.Multiples.{IsLcmOf, lcm_of}
 use Rattle.js_numbers.proofs.CommonMultiples.{IsLcmOf-nil, IsLcmOf-take_more, IsLcm-lcm_of, lcm_of-take_le, lcm_of-unique, positive_at}
 use Rattle.js_numbers.proofs.factors.lcm_of.Goals as goal
 

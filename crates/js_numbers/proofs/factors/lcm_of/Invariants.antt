@@ -1,5 +1,5 @@
 use Rattle.std.proofs.Common.{◌<◌, ◌^◌, take}
-use Rattle.js_numbers.specs.Multiples.{IsLcmOf}
+use Rattle.number_groups.specs.Multiples.{IsLcmOf}
 use Rattle.js_numbers.proofs.factors.lcm_of.Given as goal
 
 abbrev pub invariant-loop-m : goal.invariant-loop-m

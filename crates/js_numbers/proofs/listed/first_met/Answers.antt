@@ -2,7 +2,8 @@ use Rattle.std.proofs.Common.{◌≡◌, pos, to_z, of_z, get_or, inl, inr, ap, 
 use Rattle.std.specs.Int.{w128}
 use Rattle.std.proofs.lemmas.Bool.{cases_lt}
 use Rattle.js_numbers.specs.declared.candidates.TheConstants.{MOST_STRUCK}
-use Rattle.js_numbers.specs.Group.{group_of, is_met}
+use Rattle.number_groups.specs.Group.{is_met}
+use Rattle.js_numbers.specs.View.{group_of}
 use Rattle.js_numbers.specs.Marking.{mark_of}
 use Rattle.js_numbers.proofs.listed.first_met.Goals as goal
 

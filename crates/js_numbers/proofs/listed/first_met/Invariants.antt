@@ -1,6 +1,7 @@
 use Rattle.std.proofs.Common.{◌≡◌, ℕ, ◌<◌, false, get_or, Some, pos}
 use Rattle.js_numbers.specs.declared.candidates.TheConstants.{MOST_STRUCK}
-use Rattle.js_numbers.specs.Group.{group_of, is_met}
+use Rattle.number_groups.specs.Group.{is_met}
+use Rattle.js_numbers.specs.View.{group_of}
 use Rattle.js_numbers.specs.Marking.{mark_of}
 use Rattle.js_numbers.proofs.listed.first_met.Given as goal
 

@@ -1,9 +1,10 @@
 use Rattle.std.proofs.Common.{◌≡◌, ◌∙◌, ◌&&◌, Bool, ℤ, ap, sym, to_z, of_z, to_z-of_z}
 use Rattle.std.specs.Int.{w128}
 use Rattle.std.specs.List.{list_all}
-use Rattle.js_numbers.specs.Multiples.{is_multiple}
+use Rattle.number_groups.specs.Multiples.{is_multiple}
 use Rattle.js_doc.specs.Numbers.{has}
-use Rattle.js_numbers.specs.Group.{group_of, is_above, is_asked, is_below}
+use Rattle.number_groups.specs.Group.{is_above, is_asked, is_below}
+use Rattle.js_numbers.specs.View.{group_of}
 use Rattle.js_numbers.proofs.listed.is_asked.Goals as goal
 use Rattle.js_numbers.proofs.listed.is_asked.Goals.{then-is_within, else-is_within}
 

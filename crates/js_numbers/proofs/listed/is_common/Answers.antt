@@ -1,6 +1,6 @@
 use Rattle.std.proofs.Common.{◌≡◌, ◌%◌, ◌==◌, ◌<◌, ◌^◌, SomeIff, inl, inr, unsigned_abs, ap, subst, ◌∙◌, to_z-of_z, rules, arith}
 use Rattle.std.proofs.lemmas.Bool.{cases_lt}
-use Rattle.js_numbers.specs.Multiples.{lcm_of}
+use Rattle.number_groups.specs.Multiples.{lcm_of}
 use Rattle.js_numbers.proofs.ListedLaws.{common_by_lcm, common_below_lcm}
 use Rattle.js_numbers.proofs.listed.is_common.Goals as goal
 

@@ -2,9 +2,10 @@ use Rattle.std.proofs.Common.{◌≡◌, ◌+◌, ◌*◌, ◌<◌, ◌≤◌, l
 use Rattle.std.specs.Int.{w128}
 use Rattle.std.proofs.lemmas.Grind.{div_ceil_times}
 use Rattle.js_numbers.specs.declared.candidates.TheConstants.{MOST_STRUCK}
-use Rattle.js_numbers.specs.declared.group.Cases.TheVariants.{Found}
-use Rattle.js_numbers.specs.Group.{group_of, is_met}
-use Rattle.js_numbers.specs.Outcome.{found}
+use Rattle.number_groups.specs.Cases.{Found}
+use Rattle.number_groups.specs.Group.{is_met}
+use Rattle.js_numbers.specs.View.{group_of}
+use Rattle.number_groups.specs.Outcome.{found}
 use Rattle.js_numbers.specs.Marking.{IsFirstBelow}
 use Rattle.js_numbers.proofs.BlockLaws.{IsFirstBelow-more, find-IsFirstBelow, find-IsFirstBelow_none}
 use Rattle.js_numbers.proofs.listed.search_blocks.Goals as goal

@@ -1,6 +1,7 @@
 use Rattle.std.proofs.Common.{◌*◌}
 use Rattle.js_numbers.specs.declared.candidates.TheConstants.{MOST_STRUCK}
-use Rattle.js_numbers.specs.Group.{group_of, is_met}
+use Rattle.number_groups.specs.Group.{is_met}
+use Rattle.js_numbers.specs.View.{group_of}
 use Rattle.js_numbers.specs.Marking.{IsFirstBelow}
 use Rattle.js_numbers.proofs.listed.search_blocks.Given as goal
 

@@ -1,9 +1,10 @@
 use Rattle.std.proofs.Common.{◌≡◌, ◌<◌, length, pos, to_z, of_z, get_or, inl, inr, ap, sym, subst, ◌∙◌, to_z-of_z, rules, FitsSigned, arith}
 use Rattle.std.specs.Int.{w128}
 use Rattle.std.proofs.lemmas.Bool.{cases_lt}
-use Rattle.js_numbers.specs.declared.group.Cases.TheVariants.{Found}
-use Rattle.js_numbers.specs.Group.{group_of, is_met}
-use Rattle.js_numbers.specs.Outcome.{found}
+use Rattle.number_groups.specs.Cases.{Found}
+use Rattle.number_groups.specs.Group.{is_met}
+use Rattle.js_numbers.specs.View.{group_of}
+use Rattle.number_groups.specs.Outcome.{found}
 use Rattle.js_numbers.proofs.Finding.{find-at, find-none}
 use Rattle.js_numbers.proofs.listed.search_each.Goals as goal
 

@@ -1,5 +1,6 @@
 use Rattle.std.proofs.Common.{◌≡◌, ℕ, ◌<◌, false, get_or, pos}
-use Rattle.js_numbers.specs.Group.{group_of, is_met}
+use Rattle.number_groups.specs.Group.{is_met}
+use Rattle.js_numbers.specs.View.{group_of}
 use Rattle.js_numbers.proofs.listed.search_each.Given as goal
 
 abbrev pub invariant-loop-x : goal.invariant-loop-x

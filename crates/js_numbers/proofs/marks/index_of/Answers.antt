@@ -1,7 +1,7 @@
 use Rattle.std.proofs.Common.{None, subst, sym, to_z-of_z, FitsSigned, rules}
 use Rattle.std.specs.Int.{w128}
 use Rattle.js_numbers.specs.declared.candidates.TheConstants.{MOST_STRUCK}
-use Rattle.js_numbers.specs.Outcome.{place}
+use Rattle.number_groups.specs.Outcome.{place}
 use Rattle.js_numbers.specs.Marking.{IsIndex}
 use Rattle.js_numbers.proofs.marks.index_of.Goals as goal
 

@@ -1,7 +1,7 @@
 use Rattle.std.proofs.Common.{◌≡◌, ◌∙◌, ◌≤ℤ◌, ◌-ℤ◌, ap, sym, arith, unsigned_abs, to_z, of_z, to_z-of_z, FitsSigned, rules}
 use Rattle.std.specs.Int.{w128}
 use Rattle.std.proofs.lemmas.Int.{ints}
-use Rattle.js_numbers.specs.Outcome.{multiple_from}
+use Rattle.number_groups.specs.Outcome.{multiple_from}
 use Rattle.js_numbers.proofs.Sizes.{sized-Some}
 use Rattle.js_numbers.proofs.MarkLaws.{index_up_found}
 use Rattle.js_numbers.proofs.marks.index_up.Goals as goal

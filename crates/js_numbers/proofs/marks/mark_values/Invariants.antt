@@ -1,8 +1,8 @@
 use Rattle.std.proofs.Common.{take}
 use Rattle.js_numbers.specs.declared.candidates.TheConstants.{MOST_STRUCK}
 use Rattle.js_doc.specs.Numbers.{has}
-use Rattle.js_numbers.specs.Group.{group_of}
-use Rattle.js_numbers.specs.Outcome.{candidate}
+use Rattle.js_numbers.specs.View.{group_of}
+use Rattle.number_groups.specs.Outcome.{candidate}
 use Rattle.js_numbers.specs.Marking.{AddsMarks}
 use Rattle.js_numbers.proofs.marks.mark_values.Given as goal
 

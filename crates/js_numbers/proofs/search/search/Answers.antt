@@ -1,5 +1,5 @@
 use Rattle.js_numbers.specs.declared.candidates.TheConstants.{MOST_STRUCK}
-use Rattle.js_numbers.specs.Group.{group_of}
+use Rattle.js_numbers.specs.View.{group_of}
 use Rattle.js_numbers.proofs.MarkLaws.{AreStruckMarked-from_both}
 use Rattle.js_numbers.proofs.search.search.Goals as goal
 

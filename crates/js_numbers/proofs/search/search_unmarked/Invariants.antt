@@ -1,6 +1,6 @@
 use Rattle.std.proofs.Common.{◌≡◌, ℕ, ◌<◌, false}
-use Rattle.js_numbers.specs.Group.{group_of}
-use Rattle.js_numbers.specs.Outcome.{is_last, reached}
+use Rattle.js_numbers.specs.View.{group_of}
+use Rattle.number_groups.specs.Outcome.{is_last, reached}
 use Rattle.js_numbers.proofs.search.search_unmarked.Given as goal
 
 abbrev pub invariant-loop-k : goal.invariant-loop-k

@@ -1,6 +1,6 @@
 use Rattle.std.proofs.Common.{refl}
 use Rattle.js_numbers.specs.declared.candidates.TheConstants.{MOST_STRUCK}
-use Rattle.js_numbers.specs.Group.{group_of}
+use Rattle.js_numbers.specs.View.{group_of}
 use Rattle.js_numbers.proofs.SieveLaws.{AddsMarks-none, AddsMarks-divisor, AreStepsMarked-none}
 use Rattle.js_numbers.proofs.sieve.mark_divisors.Goals as goal
 

@@ -1,9 +1,9 @@
 use Rattle.std.proofs.Common.{take}
 use Rattle.std.specs.List.{list_any}
 use Rattle.js_numbers.specs.declared.candidates.TheConstants.{MOST_STRUCK}
-use Rattle.js_numbers.specs.Multiples.{is_multiple}
-use Rattle.js_numbers.specs.Group.{group_of}
-use Rattle.js_numbers.specs.Outcome.{candidate}
+use Rattle.number_groups.specs.Multiples.{is_multiple}
+use Rattle.js_numbers.specs.View.{group_of}
+use Rattle.number_groups.specs.Outcome.{candidate}
 use Rattle.js_numbers.specs.Marking.{AddsMarks, AreStepsMarked}
 use Rattle.js_numbers.proofs.sieve.mark_divisors.Given as goal
 

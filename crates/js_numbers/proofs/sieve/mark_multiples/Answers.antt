@@ -1,9 +1,9 @@
 use Rattle.std.proofs.Common.{◌≡◌, ◌*◌, ◌%◌, ◌==◌, None, pos, neg_ℤ, ◌-ℤ◌, to_z, of_z, ap, sym, ◌∙◌, get_or, false, ◌||◌, arith}
 use Rattle.std.specs.Int.{w128}
 use Rattle.std.proofs.lemmas.Int.{ints}
-use Rattle.js_numbers.specs.Multiples.{is_multiple}
-use Rattle.js_numbers.specs.Group.{group_of}
-use Rattle.js_numbers.specs.Outcome.{multiple_from, place}
+use Rattle.number_groups.specs.Multiples.{is_multiple}
+use Rattle.js_numbers.specs.View.{group_of}
+use Rattle.number_groups.specs.Outcome.{multiple_from, place}
 use Rattle.js_numbers.proofs.Sizes.{abs-neg}
 use Rattle.js_numbers.proofs.SieveLaws.{high_near}
 use Rattle.js_numbers.proofs.sieve.mark_multiples.Goals as goal

@@ -1,5 +1,5 @@
 use Rattle.std.proofs.Common.{ap, sym, ◌∙◌, arith}
-use Rattle.js_numbers.specs.Multiples.{is_multiple}
+use Rattle.number_groups.specs.Multiples.{is_multiple}
 use Rattle.js_numbers.proofs.CommonMultiples.{gcd_positive}
 use Rattle.js_numbers.proofs.SieveLaws.{step_positive, strikes_steps}
 use Rattle.js_numbers.proofs.sieve.step_of.Goals as goal

@@ -9,6 +9,7 @@ pieces-init g c = record {
   so_far = ReadSoFar-begun _ _ _ _ c.new-bytes.ensures.items c.in-Ok.ensures.begun;
   told = c.in-Ok.ensures.told;
   counted = c.in-Ok.ensures.counted;
+  begun = c.in-Ok.ensures.named;
   room = omega (arith, c.in_ok-buffer.ensures);
 }
 
@@ -26,6 +27,7 @@ pieces-preserved g c =
           grown c.pieces.invariant.so_far c.in-Ok-read.ensures.taken.0;
       told = c.in-Ok-read.ensures.told ∙ c.pieces.invariant.told;
       counted = c.in-Ok-read.ensures.counted ∙ c.pieces.invariant.counted;
+      begun = c.in-Ok-read.ensures.named ∙ c.pieces.invariant.begun;
       room = c.pieces.invariant.room;
     }
 

@@ -6,5 +6,5 @@ use Rattle.js_schema.proofs.forms.reference_form.Goals as goal
 
 pub returns-in-Text : goal.returns-in-Text
 returns-in-Text c =
-    reference_form-leads (root_of c.args.file.now) c.args.numbers.now (view c.args.value.now) c.in-Text.field-0
+    reference_form-leads (root_of c.args.file.now) c.args.numbers.now (view c.args.value.now) c.in-Text.field-0.text
     c.args.target c.number.result (ap view c.in-Text.is ∙ view-Text c.in-Text.field-0) c.requires c.number.ensures

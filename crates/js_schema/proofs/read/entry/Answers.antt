@@ -1,14 +1,8 @@
 use Rattle.js_doc.specs.JsonView.{view}
 use Rattle.js_walk.specs.FileView.{root_of}
 use Rattle.js_schema.specs.NumbersView.{numbered, pointer_at}
-use Rattle.js_schema.proofs.ReadLemmas.{place_well_formed, place_faultless}
+use Rattle.js_schema.proofs.ReadLemmas.{place_faultless}
 use Rattle.js_schema.proofs.read.entry.Goals as goal
-
-pub form-requires-clause-well_formed : goal.form-requires-clause-well_formed
-form-requires-clause-well_formed c =
-    place_well_formed (root_of c.args.file.now) (numbered c.args.numbers.now) c.requires.places c.args.number
-    (pointer_at c.args.numbers.now c.place-pointer.result.0, view c.place-pointer.result.1.now) c.requires.number
-    c.place-pointer.ensures.place c.args.file.now.text
 
 pub form-requires-clause-faultless : goal.form-requires-clause-faultless
 form-requires-clause-faultless c =

@@ -1,4 +1,6 @@
 use Rattle.std.proofs.Common.{map, sym, ap, subst, ◌∙◌}
+use Rattle.documents.specs.WellFormed.{is_json}
+use Rattle.js_doc.proofs.JsonWellFormed.{is_json-view}
 use Rattle.js_walk.specs.FileView.{root_of}
 use Rattle.js_walk.specs.PointersView.{pointers_of}
 use Rattle.js_walk.specs.PlacesView.{pointers_in, places_view, targets_of, AreTargets}
@@ -10,7 +12,8 @@ use Rattle.js_schema.proofs.read.read_schema.Goals as goal
 pub new-numbers-requires : goal.new-numbers-requires
 new-numbers-requires c =
     let walked = c.in_ok-places.ensures.ok in
-    few_places (root_of c.new-file.result) (places_view c.in_ok-places.places) c.new-file.result.text walked.0 walked.1
+    let well = ap is_json c.new-file.ensures ∙ is_json-view c.args.json.now in
+    few_places (root_of c.new-file.result) (places_view c.in_ok-places.places) well walked.0 walked.1
 
 pub read_entries-requires-clause-targets : goal.read_entries-requires-clause-targets
 read_entries-requires-clause-targets c =
@@ -20,7 +23,8 @@ read_entries-requires-clause-targets c =
 pub new-requires-clause-table : goal.new-requires-clause-table
 new-requires-clause-table c =
     let walked = c.in_ok-places.ensures.ok in
-    table_made (root_of c.new-file.result) (numbered c.new-numbers.result) c.new-file.result.text walked.0
+    let well = ap is_json c.new-file.ensures ∙ is_json-view c.args.json.now in
+    table_made (root_of c.new-file.result) (numbered c.new-numbers.result) well walked.0
     (walked.1 ∙ sym (ap places_view c.new-numbers.ensures))
     (map (entry_view (pointers_of c.into_pointers.result)) c.in_ok-entries.entries.items)
     (ap (λ ps. map (entry_view ps) c.in_ok-entries.entries.items) c.into_pointers.ensures

@@ -2,7 +2,7 @@ use Rattle.std.proofs.Common.{◌≡◌, ◌+◌, ◌*◌, cond, not, drop, leng
 use Rattle.documents.specs.Tests.{every, some}
 use Rattle.documents.specs.Measures.{exactly_one}
 use Rattle.js_algebra.specs.View.{places}
-use Rattle.js_tableau.specs.NameTruth.{are_known, name_within}
+use Rattle.name_truths.specs.NameTruth.{are_known, name_within}
 use Rattle.js_tableau.proofs.names.+names.Given as goal
 
 abbrev pub decreases-is_held : goal.decreases-is_held

@@ -5,7 +5,7 @@ use Rattle.std.proofs.lemmas.Bool.{le-ltb}
 use Rattle.std.proofs.lemmas.List.Sorted.{IsPartitionPoint-from_clause}
 use Rattle.js_algebra.specs.declared.signed.Signed.{Signed}
 use Rattle.js_algebra.proofs.Sorting.{same_fields}
-use Rattle.js_tableau.proofs.Indexed.{same_place}
+use Rattle.js_tableau.proofs.Searched.{same_place}
 use Rattle.js_tableau.proofs.Searched.{number, parted, has_none, has_here}
 use Rattle.js_tableau.proofs.rising.has_member.Goals as goal
 

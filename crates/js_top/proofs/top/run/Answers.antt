@@ -3,6 +3,7 @@ use Rattle.js_top.specs.declared.status.Status.TheVariants.{Other, Done, Limit, 
 use Rattle.js_top.proofs.FileLaws.{prepared-means, prepared-limit, prepared-report, prepared-part, prepared-settles, prepared-limited, means-accepted, means-refusal}
 use Rattle.js_top.proofs.JudgingLaws.{means-judgement, prepared-decision, means-judged_refusal}
 use Rattle.js_top.proofs.ListingLaws.{means-table, prepared-listing, means-norm_refusal}
+use Rattle.js_top.proofs.MissingLaws.{prepared-missing, prepared-only_missing}
 use Rattle.js_top.specs.Judging.{WritesDecision}
 use Rattle.js_top.specs.Listing.{WritesListing}
 use Rattle.js_report.specs.Written.{AppendsPrefix}
@@ -136,3 +137,13 @@ returns-in-Ok-write_report-clause-norm_refusal g c = λ e i. (
       (prepared-report (g.H.Shelf.told c.args.shelf.now) c.args.words.now _ _ c.in-Ok.prepared c.text.result.now Refused
       c.in-Ok.ensures.says c.text.ensures (sym c.status.ensures ∙ e) (λ w. cc)) i,
 )
+
+pub returns-in-Ok-write_report-clause-missing : goal.returns-in-Ok-write_report-clause-missing
+returns-in-Ok-write_report-clause-missing g c = λ w m misses.
+    c.status.ensures ∙ prepared-missing (g.H.Shelf.told c.args.shelf.now) c.args.words.now _ _ c.in-Ok.prepared
+    c.in-Ok.ensures.says misses
+
+pub returns-in-Ok-write_report-clause-only_missing : goal.returns-in-Ok-write_report-clause-only_missing
+returns-in-Ok-write_report-clause-only_missing g c = λ e counts counts' below.
+    prepared-only_missing (g.H.Shelf.told c.args.shelf.now) c.args.words.now _ _ c.in-Ok.prepared _ _
+    c.in-Ok.ensures.says (sym c.status.ensures ∙ e) c.prepare.ensures.begun counts counts' below

@@ -50,7 +50,7 @@ decide_name-returns t c h e =
     c.args.requests.now.entries.items = (
     c.deref-3.ensures.value ∙ c.in_ok-answers.ensures
     ∙ ap (λ d. map (λ q. valid_at (schema_view c.args.schema.now) q d) c.deref.result.now)
-    (ap (λ w. view (C.Text w)) c.in_ok-copy.ensures ∙ view-Text c.args.name.now)
+    (view-Text c.new.result ∙ ap string (c.new.ensures ∙ c.in_ok-copy.ensures))
     ∙ ap (map (λ q. valid_at (schema_view c.args.schema.now) q (string c.args.name.now))) c.deref.ensures.value
     ) in
     let value = c.refuse_all.ensures.value e in

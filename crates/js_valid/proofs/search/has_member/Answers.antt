@@ -4,14 +4,8 @@ use Rattle.js_doc.specs.View.{view, map_view}
 use Rattle.js_valid.proofs.SameLaws.{has_name-lookup, is_some-mapped}
 use Rattle.js_valid.proofs.search.has_member.Goals as goal
 
-pub returns-then-searchable : goal.returns-then-searchable
-returns-then-searchable c =
-    c.is_some.ensures ∙ is_some-mapped (λ d. view d.now) c.find.result ∙ ap is_some c.find.ensures
-    ∙ ap (λ w. is_some (lookup w (map_view c.args.members.now))) c.as_text.ensures.text
-    ∙ sym (has_name-lookup c.args.name.now (map_view c.args.members.now))
-
 pub returns : goal.returns
 returns c =
-    c.is_some-2.ensures ∙ is_some-mapped (λ d. view d.now) c.get.result ∙ ap is_some c.get.ensures
-    ∙ ap (λ w. is_some (lookup w (map_view c.args.members.now))) c.as_text-2.ensures.text
+    c.is_some.ensures ∙ is_some-mapped (λ d. view d.now) c.get.result ∙ ap is_some c.get.ensures
+    ∙ ap (λ w. is_some (lookup w (map_view c.args.members.now))) c.as_text.ensures.text
     ∙ sym (has_name-lookup c.args.name.now (map_view c.args.members.now))

@@ -1,9 +1,11 @@
-use Rattle.std.proofs.Common.{encode_utf8_all, string_bytes, ap, subst, ◌∙◌}
+use Rattle.std.proofs.Common.{[], encode_utf8_all, string_bytes, ap, subst, ◌∙◌}
+use Rattle.std.specs.Prelude.{Result, Ok, Err, OnErr}
 use Rattle.draft06.specs.Validity.{valid}
 use Rattle.js_doc.specs.View.{view}
 use Rattle.js_keywords.specs.Reading.{rules}
 use Rattle.js_report.specs.WholeFile.{HasBytes}
 use Rattle.js_input.proofs.InputLemmas.{IfOk-weaker}
+use Rattle.js_input.proofs.OrderLaws.{begins_two}
 use Rattle.js_validation.specs.Outcome.{DocumentRefused, of_test, of_document}
 use Rattle.js_validation.proofs.OutcomeLemmas.{validation-schema_refused, validation-read, says-judged}
 use Rattle.js_validation.proofs.validation.validate.Goals as goal
@@ -43,3 +45,52 @@ returns-in-Some-Read-2-clause-says g c =
     (of_test (valid rules j (view c.in-Some-Read-2.doc))) has
     (subst (λ t. HasBytes t (encode_utf8_all c.args.document.now) others) c.in_ok-table.ensures.told has_others) is
     (ap (of_document j) read)))
+
+pub returns-in_err-doc-clause-begun : goal.returns-in_err-doc-clause-begun
+returns-in_err-doc-clause-begun g c =
+    let first = rw c.in-Some-Read.is at c.in_ok-table.ensures.says in
+    let (same, (bytes, has, (j, is, of))) = rw c.in-Some-Read.field-0-is at first in
+    begins_two (g.H.Shelf.told c.args.shelf.now) (encode_utf8_all c.args.schema.now)
+    (encode_utf8_all c.args.document.now) [] (g.H.Shelf.begun c.args.shelf.now)
+    (g.H.Shelf.begun c.load_schema.new.shelf) (g.H.Shelf.begun c.load_document.new.shelf) c.load_schema.ensures.begun
+    c.load_document.ensures.begun (bytes, has, (j, is))
+
+pub returns-in-Some-Read-2-clause-begun : goal.returns-in-Some-Read-2-clause-begun
+returns-in-Some-Read-2-clause-begun g c =
+    let first = rw c.in-Some-Read.is at c.in_ok-table.ensures.says in
+    let (same, (bytes, has, (j, is, of))) = rw c.in-Some-Read.field-0-is at first in
+    begins_two (g.H.Shelf.told c.args.shelf.now) (encode_utf8_all c.args.schema.now)
+    (encode_utf8_all c.args.document.now) [] (g.H.Shelf.begun c.args.shelf.now)
+    (g.H.Shelf.begun c.load_schema.new.shelf) (g.H.Shelf.begun c.load_document.new.shelf) c.load_schema.ensures.begun
+    c.load_document.ensures.begun (bytes, has, (j, is))
+
+pub returns-in-Some-Refused-2-clause-begun : goal.returns-in-Some-Refused-2-clause-begun
+returns-in-Some-Refused-2-clause-begun g c =
+    let first = rw c.in-Some-Read.is at c.in_ok-table.ensures.says in
+    let (same, (bytes, has, (j, is, of))) = rw c.in-Some-Read.field-0-is at first in
+    begins_two (g.H.Shelf.told c.args.shelf.now) (encode_utf8_all c.args.schema.now)
+    (encode_utf8_all c.args.document.now) [] (g.H.Shelf.begun c.args.shelf.now)
+    (g.H.Shelf.begun c.load_schema.new.shelf) (g.H.Shelf.begun c.load_document.new.shelf) c.load_schema.ensures.begun
+    c.load_document.ensures.begun (bytes, has, (j, is))
+
+pub returns-clause-begun : goal.returns-clause-begun
+returns-clause-begun g c =
+    let first = rw c.in-Some-Read.is at c.in_ok-table.ensures.says in
+    let (same, (bytes, has, (j, is, of))) = rw c.in-Some-Read.field-0-is at first in
+    begins_two (g.H.Shelf.told c.args.shelf.now) (encode_utf8_all c.args.schema.now)
+    (encode_utf8_all c.args.document.now) [] (g.H.Shelf.begun c.args.shelf.now)
+    (g.H.Shelf.begun c.load_schema.new.shelf) (g.H.Shelf.begun c.load_document.new.shelf) c.load_schema.ensures.begun
+    c.load_document.ensures.begun (bytes, has, (j, is))
+
+-- what holds anyway holds after an error
+on_err : {A E P : Type 0} (r : Result A E) → P → OnErr r P
+on_err (Ok x) p = tt
+on_err (Err e) p = p
+
+pub returns-in-Some-Read-2-clause-memory : goal.returns-in-Some-Read-2-clause-memory
+returns-in-Some-Read-2-clause-memory g c =
+    let first = rw c.in-Some-Read.is at c.in_ok-table.ensures.says in
+    let (same, (bytes, has, (j, is, of))) = rw c.in-Some-Read.field-0-is at first in
+    let second = rw c.in-Some-Read-2.is at c.in_ok-doc.ensures.says in
+    let (again, rest) = rw c.in-Some-Read-2.field-0-is at second in
+    on_err c.judged.result (again ∙ same)

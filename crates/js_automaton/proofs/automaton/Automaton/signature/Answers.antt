@@ -1,5 +1,5 @@
 use Rattle.std.proofs.Common.{◌≡◌, [], false, get_or, arith}
-use Rattle.words.specs.Rows.{signature_of}
+use Rattle.word_states.specs.Rows.{signature_of}
 use Rattle.js_automaton.specs.Tuple.{IsStateOf}
 use Rattle.js_automaton.specs.AutomatonView.{atoms_of, rows_of}
 use Rattle.js_automaton.proofs.RowsLemmas.{all-length, states-at, truth-at, truth-words}

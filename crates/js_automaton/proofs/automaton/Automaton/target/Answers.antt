@@ -1,5 +1,5 @@
 use Rattle.std.proofs.Common.{◌≡◌, ◌<◌, ◌*◌, ◌+◌, [], get_or, sym, ◌∙◌, ap, subst, arith}
-use Rattle.words.specs.Rows.{targets_of}
+use Rattle.word_states.specs.Rows.{targets_of}
 use Rattle.js_automaton.specs.AutomatonView.{atoms_of, rows_of}
 use Rattle.js_automaton.proofs.RowsLemmas.{target-within, target-at, target-below, target-words}
 use Rattle.js_automaton.proofs.automaton.Automaton.target.Goals as goal

@@ -1,12 +1,19 @@
-use Rattle.std.proofs.Common.{[], List, map, take, ◌+◌, sym, subst}
-use Rattle.js_automaton.specs.declared.part.PartState.{PartState}
-use Rattle.js_automaton.specs.Tuple.{part_view, AreParts}
-use Rattle.js_automaton.proofs.TupleLemmas.{parts-step}
+use Rattle.std.proofs.Common.{◌≤◌, List, [], length, refl, ap, subst, arith}
+use Rattle.js_nfa.specs.declared.nfa.Nfa.{Nfa}
+use Rattle.js_automaton.proofs.TupleLemmas.{AreStates, states-all}
 use Rattle.js_automaton.proofs.tuples.Tuples.start.Goals as goal
 
-pub loop-part-preserved : goal.loop-part-preserved
-loop-part-preserved c =
-    subst (λ (ss : List PartState). AreParts (map part_view (take (c.loop-part.part-index + 1) c.deref-part-items.result.now)) ss [])
-    (sym c.in_ok-push.ensures.items)
-    (parts-step c.deref-part-items.result.now c.loop-part.parts.items [] c.loop-part.part-index c.part-item.result
-    c.in_ok-start.field-0 c.loop-part-test.true c.part-item.is c.loop-part.invariant c.in_ok-start.ensures)
+pub returns : goal.returns
+returns c =
+    let t = c.args.self.now in
+    let all : length t.patterns.items ≤ c.loop-nfa.nfa-index =
+    omega (arith, c.loop-nfa-test.false, ap (length {A = Nfa}) c.deref-nfa-items.ensures.value) in
+    record {
+      empty = refl;
+      patterns =
+          states-all t.patterns.items t.parts.items t.places c.loop-nfa.patterns.items [] c.loop-nfa.nfa-index all
+          (subst (λ (ns : List Nfa). AreStates ns c.loop-nfa.patterns.items [] c.loop-nfa.nfa-index)
+          c.deref-nfa-items.ensures.value c.loop-nfa.invariant);
+      node = refl;
+      length = omega arith;
+    }

@@ -10,12 +10,12 @@ use Rattle.js_check.proofs.walk.Walk.settle.Goals as goal
 
 pub is_wrong-requires : goal.is_wrong-requires
 is_wrong-requires c =
-    every-has (is_in_table c.args.core.now.positions) c.args.self.now.set.members
+    every-has (is_in_table c.args.core.now.positions) c.args.self.now.set
     (signed_view c.in-Kind.x) c.requires.in_table (sym c.if-has-2.ensures)
 
 pub returns-then-has-clause-step : goal.returns-then-has-clause-step
 returns-then-has-clause-step c =
-    let xs = c.args.self.now.set.members in
+    let xs = c.args.self.now.set in
     clash-settles c.args.core.now.positions (kind_view c.args.kind) xs c.in-Clash.p.0 _
     (line_view c.args.line.now) c.has-then-has.result
     (ap line_view c.in-Clash.is)
@@ -24,7 +24,7 @@ returns-then-has-clause-step c =
 
 pub returns-else-has-clause-step : goal.returns-else-has-clause-step
 returns-else-has-clause-step c =
-    let xs = c.args.self.now.set.members in
+    let xs = c.args.self.now.set in
     clash-settles c.args.core.now.positions (kind_view c.args.kind) xs c.in-Clash.p.0 _
     (line_view c.args.line.now) c.has.result
     (ap line_view c.in-Clash.is)
@@ -35,7 +35,7 @@ pub returns-then-has-2-clause-step : goal.returns-then-has-2-clause-step
 returns-then-has-2-clause-step c =
     let T = c.args.core.now.positions in
     let t = kind_view c.args.kind in
-    kind-settles T t c.args.self.now.set.members (signed_view c.in-Kind.x) _
+    kind-settles T t c.args.self.now.set (signed_view c.in-Kind.x) _
     (line_view c.args.line.now) c.is_wrong.result
     (ap line_view c.in-Kind.is)
     (c.is_wrong.ensures ∙ ap (λ b. b && is_wrong T t (signed_view c.in-Kind.x)) c.if-has-2.ensures)
@@ -44,7 +44,7 @@ pub returns-else-has-2-clause-step : goal.returns-else-has-2-clause-step
 returns-else-has-2-clause-step c =
     let T = c.args.core.now.positions in
     let t = kind_view c.args.kind in
-    kind-settles T t c.args.self.now.set.members (signed_view c.in-Kind.x) _
+    kind-settles T t c.args.self.now.set (signed_view c.in-Kind.x) _
     (line_view c.args.line.now) c.has-in-Kind.result
     (ap line_view c.in-Kind.is)
     (c.has-in-Kind.ensures ∙ sym c.if-has-2.ensures

@@ -1,21 +1,15 @@
-use Rattle.std.proofs.Common.{Some, chars, sym, ap, ◌∙◌}
-use Rattle.js_doc.proofs.Lookups.{lookup-drop, same_word-named}
+use Rattle.std.proofs.Common.{map, chars, option_map, sym, ap, ◌∙◌}
+use Rattle.documents.specs.Document.{lookup}
+use Rattle.js_doc.specs.View.{view, member_view}
+use Rattle.js_doc.specs.declared.document.DocMap.{out-DocMap}
+use Rattle.js_doc.proofs.Mapped.{find_in-viewed, seen_through}
+use Rattle.js_doc.proofs.Search.{lookup-find_in}
+use Rattle.js_doc.proofs.WellFormed.{map_view-out}
 use Rattle.js_doc.proofs.document.DocMap.get.Goals as goal
 
-pub returns-then-eq : goal.returns-then-eq
-returns-then-eq c =
+pub returns : goal.returns
+returns c =
     let word = chars c.args.name.now in
-    let same = same_word-named _ _ _ _ c.utf8.name c.as_text.utf8
-    (c.as_text.ensures.text ∙ c.name.ensures.view) c.eq.ensures ∙ c.if-eq.true in
-    let here =
-    lookup-drop word _ c.loop-member.member-index c.member-item.result c.loop-member-test.true c.member-item.is in
-    ap Some c.value.ensures.view ∙ sym (rw same at here) ∙ c.loop-member.invariant
-
-pub loop-member-preserved : goal.loop-member-preserved
-loop-member-preserved c =
-    let word = chars c.args.name.now in
-    let other = same_word-named _ _ _ _ c.utf8.name c.as_text.utf8
-    (c.as_text.ensures.text ∙ c.name.ensures.view) c.eq.ensures ∙ c.if-eq.false in
-    let here =
-    lookup-drop word _ c.loop-member.member-index c.member-item.result c.loop-member-test.true c.member-item.is in
-    sym (rw other at here) ∙ c.loop-member.invariant
+    let items = (out-DocMap c.args.self.now).members.members.items in
+    seen_through view c.get.result ∙ ap (option_map view) c.get.ensures ∙ find_in-viewed view word items
+    ∙ sym (ap (lookup word) (map_view-out c.args.self.now) ∙ lookup-find_in word (map member_view items))

@@ -1,5 +1,5 @@
 use Rattle.std.proofs.Common.{◌∙◌, sym, ap, if◌then◌else◌}
-use Rattle.words.specs.PatternState.{done, reading, numbers_from}
+use Rattle.word_states.specs.PatternState.{done, reading, numbers_from}
 use Rattle.js_nfa.specs.View.{tree_of}
 use Rattle.js_nfa.proofs.StateSteps.{first-is}
 use Rattle.js_nfa.proofs.nfa.Nfa.first_state.Goals as goal

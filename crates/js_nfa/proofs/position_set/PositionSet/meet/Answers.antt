@@ -2,7 +2,7 @@ use Rattle.std.proofs.Common.{◌≡◌, ◌∙◌, ◌<◌, ◌≤◌, ◌+◌,
 use Rattle.std.specs.Prelude.{bit_and, slice_index}
 use Rattle.std.proofs.lemmas.List.{get_or_read}
 use Rattle.state_laws.specs.Flow.{flag_at}
-use Rattle.flow_laws.specs.Rows.{and_each}
+use Rattle.state_laws.specs.Rows.{and_each}
 use Rattle.js_nfa.specs.Marks.{Marks}
 use Rattle.js_nfa.specs.Bits.{flags_of}
 use Rattle.js_nfa.specs.Walk.{Quiet}

@@ -1,6 +1,6 @@
 use Rattle.std.proofs.Common.{◌≡◌, ◌<◌, ◌&&◌, ◌||◌, ℕ, false, true, ◌∙◌, sym, ap, ap₂, subst}
 use Rattle.state_laws.specs.Flow.{flag_at, ends_here}
-use Rattle.flow_laws.specs.Rows.{and_each, only, may_follow}
+use Rattle.state_laws.specs.Rows.{and_each, only, may_follow}
 use Rattle.js_pattern.specs.View.{view}
 use Rattle.js_nfa.specs.Both.{some_both}
 use Rattle.js_nfa.specs.Rows.{row, HaveLength, AreFours, is_shown, is_in_some}

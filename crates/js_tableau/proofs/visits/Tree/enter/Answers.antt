@@ -1,24 +1,25 @@
 -- The set that was added last is at hand.
 use Rattle.std.proofs.Common.{◌≡◌, map, take, reverse, true, arith, ap, sym, ◌∙◌, subst}
 use Rattle.js_algebra.specs.View.{signed_view, kind_view, are_in_table}
-use Rattle.js_tableau.specs.Trails.{with_members}
+use Rattle.js_algebra.specs.SignedSets.{with_members}
 use Rattle.js_tableau.specs.Walks.{is_clean, are_settled}
 use Rattle.js_tableau.specs.Progress.{AreFine, steps_at_hand, left, choice_of}
-use Rattle.js_tableau.proofs.Remaining.{members_in_table, both_fine, next_fine, next_clean, resumed, fewer_sets}
+use Rattle.js_algebra.proofs.Grown.{members_in_table}
+use Rattle.js_tableau.proofs.Remaining.{both_fine, next_fine, next_clean, resumed, fewer_sets}
 use Rattle.js_tableau.proofs.visits.Tree.enter.Goals as goal
 
 pub returns-in_ok-add_choice-in-Some-clause-at_hand : goal.returns-in_ok-add_choice-in-Some-clause-at_hand
 returns-in_ok-add_choice-in-Some-clause-at_hand c =
     let P = c.args.core.now.positions in
     let t = kind_view c.args.kind in
-    let xs = c.args.self.now.walk.trail.members in
+    let xs = c.args.self.now.walk.trail in
     let ys = c.args.self.now.walk.settled.items in
     let es = c.pop.new.self.items in
     let old = c.args.self.now.pending.items in
     let e = c.in-Some.next in
     let popped = c.in-Some.ensures.items in
     let fine = c.requires.stands.fine in
-    let m : c.add_choice.new.self.trail.members ≡ with_members (choice_of P t e) (take e.members xs) =
+    let m : c.add_choice.new.self.trail ≡ with_members (choice_of P t e) (take e.members xs) =
     c.in_ok-add_choice-in-Some.ensures.members
     ∙ ap (with_members (choice_of P t e)) c.in_ok-go_back-in-Some.ensures.members in
     let s : c.add_choice.new.self.settled.items ≡ take e.settled ys =
@@ -28,9 +29,6 @@ returns-in_ok-add_choice-in-Some-clause-at_hand c =
           in_table = subst (λ ms. are_in_table P ms ≡ true) (sym m)
               (members_in_table P (choice_of P t e) xs e.members c.in_ok-add_choice-in-Some.ensures.in_table
               c.requires.stands.in_table);
-          room =
-              c.in_ok-add_choice-in-Some.ensures.kept.room ∙ c.in_ok-go_back-in-Some.ensures.room
-              ∙ c.requires.stands.room;
           covered =
               c.in_ok-add_choice-in-Some.ensures.kept.covered
               (c.in_ok-go_back-in-Some.ensures.covered c.requires.stands.covered);

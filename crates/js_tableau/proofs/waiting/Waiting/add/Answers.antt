@@ -4,7 +4,7 @@ use Rattle.std.specs.Ordering.{nat_cmp}
 use Rattle.std.specs.BTreeSet.{insert_key}
 use Rattle.goals.specs.Signed.{add}
 use Rattle.js_algebra.specs.View.{signed_view}
-use Rattle.js_tableau.specs.Numbers.{signed_at, are_numbers}
+use Rattle.js_algebra.specs.Numbers.{signed_at, are_numbers}
 use Rattle.js_tableau.proofs.Kept.{insert-add, numbers-insert}
 use Rattle.js_tableau.proofs.waiting.Waiting.add.Goals as goal
 

@@ -11,5 +11,5 @@ abbrev pub invariant-loop-self : goal.invariant-loop-self
 invariant-loop-self l =
     (l.settled ≤ length l.self.settled.items) × (take l.settled l.self.settled.items ≡ take l.settled
     l.fn.self.settled.items)
-    × (l.self.trail.members ≡ take l.members l.fn.self.trail.members) × (l.self.trail.room ≡ l.fn.self.trail.room)
+    × (l.self.trail ≡ take l.members l.fn.self.trail)
     × (IsCovered l.fn.self → IsCovered l.self)

@@ -7,5 +7,5 @@ use Rattle.js_tableau.proofs.walk.Walk.least_clash.Given as goal
 
 abbrev pub invariant-loop-i : goal.invariant-loop-i
 invariant-loop-i l =
-    least_from (is_clash l.self.trail.members) (option_map signed_view l.best) (drop l.i l.self.trail.members)
-    ≡ least_from (is_clash l.self.trail.members) None (drop l.from l.self.trail.members)
+    least_from (is_clash l.self.trail) (option_map signed_view l.best) (drop l.i l.self.trail)
+    ≡ least_from (is_clash l.self.trail) None (drop l.from l.self.trail)

@@ -9,6 +9,6 @@ decreases-loop-x l = length l.self.waiting
 
 abbrev pub invariant-loop-x : goal.invariant-loop-x
 invariant-loop-x l =
-    IsCovered l.self × (are_settled l.core.positions (kind_view l.kind) l.self.trail.members
+    IsCovered l.self × (are_settled l.core.positions (kind_view l.kind) l.self.trail
     (map signed_view l.self.settled.items) ≡ true)
     × Extends l.fn.self.settled.items l.self.settled.items × (l.self.trail ≡ l.fn.self.trail)

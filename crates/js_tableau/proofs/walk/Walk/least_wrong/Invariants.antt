@@ -8,5 +8,5 @@ use Rattle.js_tableau.proofs.walk.Walk.least_wrong.Given as goal
 abbrev pub invariant-loop-i : goal.invariant-loop-i
 invariant-loop-i l =
     least_from (is_wrong l.core.positions (kind_view l.kind)) (option_map signed_view l.best)
-    (drop l.i l.self.trail.members)
-    ≡ least_from (is_wrong l.core.positions (kind_view l.kind)) None (drop l.from l.self.trail.members)
+    (drop l.i l.self.trail)
+    ≡ least_from (is_wrong l.core.positions (kind_view l.kind)) None (drop l.from l.self.trail)

@@ -6,5 +6,5 @@ use Rattle.js_tableau.proofs.walk.Walk.needs_choice.Goals as goal
 
 pub has_choice-requires-clause-in_table : goal.has_choice-requires-clause-in_table
 has_choice-requires-clause-in_table c =
-    member_in_table _ c.args.self.now.trail.members (signed_view c.args.x) c.requires
+    member_in_table _ c.args.self.now.trail (signed_view c.args.x) c.requires
     (sym c.has.ensures ∙ c.if-not-has.false)

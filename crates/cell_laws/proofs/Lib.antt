@@ -1,0 +1,23 @@
+pub mod Lists
+pub mod Upper
+pub mod Lower
+pub mod Groups
+pub mod WordLaws
+pub mod Ranks
+pub mod Greedy
+pub mod Settle
+pub mod Sums
+pub mod Settled
+pub mod Listed
+pub mod Classes
+pub mod Tables
+pub mod Labels
+pub mod FirstWords
+pub mod OneList
+pub mod WordAt
+pub mod Rows
+pub mod Characters
+pub mod Widths
+pub mod WordsInOrderLaws
+pub mod CellsOfRows
+mod Examples

@@ -1,0 +1,5 @@
+pub mod Leading
+pub mod FirstWords
+pub mod Counting
+pub mod RowTables
+pub mod RightCells

@@ -1,0 +1,2 @@
+//! Cells of names, of which the literals of a set say the same, and words in order. Definitions alone.
+#![tactic(auto)]

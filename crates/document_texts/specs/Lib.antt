@@ -1,0 +1,6 @@
+-- What a reader must believe: the text of a string, of a document and of a table of parts, and what is measured of a
+-- document before its text is written.
+pub mod Scalars
+pub mod DocumentText
+pub mod PartsText
+pub mod Measured

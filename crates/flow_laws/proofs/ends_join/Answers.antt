@@ -1,5 +1,0 @@
-use Rattle.flow_laws.proofs.ends_join.Goals as goal
-use Rattle.flow_laws.proofs.EndsUnion.{ends_join}
-
-pub returns : goal.returns
-returns c = ends_join

@@ -1,5 +1,0 @@
-use Rattle.flow_laws.proofs.ends_of_each.Goals as goal
-use Rattle.flow_laws.proofs.Each.{ends_of_each}
-
-pub returns : goal.returns
-returns c = ends_of_each

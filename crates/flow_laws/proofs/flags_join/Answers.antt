@@ -1,5 +1,0 @@
-use Rattle.flow_laws.proofs.flags_join.Goals as goal
-use Rattle.flow_laws.proofs.RowsLemmas.{flags_join}
-
-pub returns : goal.returns
-returns c = flags_join

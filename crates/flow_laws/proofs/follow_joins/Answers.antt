@@ -1,5 +1,0 @@
-use Rattle.flow_laws.proofs.follow_joins.Goals as goal
-use Rattle.flow_laws.proofs.FollowsUnion.{follow_joins}
-
-pub returns : goal.returns
-returns c = follow_joins

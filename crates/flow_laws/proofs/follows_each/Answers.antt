@@ -1,5 +1,0 @@
-use Rattle.flow_laws.proofs.follows_each.Goals as goal
-use Rattle.flow_laws.proofs.Each.{follows_each}
-
-pub returns : goal.returns
-returns c = follows_each

@@ -1,5 +1,0 @@
-use Rattle.flow_laws.proofs.next_asks_sets.Goals as goal
-use Rattle.flow_laws.proofs.Sets.{next_asks_sets}
-
-pub returns : goal.returns
-returns c = next_asks_sets

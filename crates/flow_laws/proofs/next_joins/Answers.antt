@@ -1,5 +1,0 @@
-use Rattle.flow_laws.proofs.next_joins.Goals as goal
-use Rattle.flow_laws.proofs.Sets.{next_joins}
-
-pub returns : goal.returns
-returns c = next_joins

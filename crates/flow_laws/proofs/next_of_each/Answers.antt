@@ -1,5 +1,0 @@
-use Rattle.flow_laws.proofs.next_of_each.Goals as goal
-use Rattle.flow_laws.proofs.Each.{next_of_each}
-
-pub returns : goal.returns
-returns c = next_of_each

@@ -1,5 +1,0 @@
-use Rattle.flow_laws.proofs.nothing_ends.Goals as goal
-use Rattle.flow_laws.proofs.Nothing.{nothing_ends}
-
-pub returns : goal.returns
-returns c = nothing_ends

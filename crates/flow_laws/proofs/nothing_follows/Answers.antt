@@ -1,5 +1,0 @@
-use Rattle.flow_laws.proofs.nothing_follows.Goals as goal
-use Rattle.flow_laws.proofs.Nothing.{nothing_follows}
-
-pub returns : goal.returns
-returns c = nothing_follows

@@ -1,5 +1,0 @@
-use Rattle.flow_laws.proofs.nothing_reads.Goals as goal
-use Rattle.flow_laws.proofs.Nothing.{nothing_reads}
-
-pub returns : goal.returns
-returns c = nothing_reads

@@ -1,0 +1,9 @@
+pub mod Occurrences
+pub mod Signs
+pub mod Arranged
+pub mod Refuted
+pub mod CompletePlans
+pub mod FewMembers
+pub mod FillersLaws
+pub mod Followed
+pub mod Examples

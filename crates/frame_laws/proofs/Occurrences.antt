@@ -1,0 +1,15 @@
+-- How often a cell occurs.
+use Rattle.std.proofs.Common.{◌≡◌, ℕ, suc, ◌+◌, Bool, true, false, cond, List, [], ◌∷◌, ◌++◌, map, nat_eq, arith}
+use Rattle.documents.specs.Document.{Document}
+use Rattle.frames.specs.Fillers.{times}
+
+pub times_append : (c : ℕ) (xs ys : List ℕ) → times c (xs ++ ys) ≡ times c xs + times c ys
+times_append c [] ys = omega arith
+times_append c (x ∷ xs) ys = go (nat_eq x c) (times_append c xs ys) where
+  go : (b : Bool) → times c (xs ++ ys) ≡ times c xs + times c ys
+      → cond b (suc (times c (xs ++ ys))) (times c (xs ++ ys)) ≡ cond b (suc (times c xs)) (times c xs) + times c ys
+  go true h = omega (arith, h)
+  go false h = h
+
+abbrev pub cells_of : List (ℕ × Document) → List ℕ
+cells_of vs = map (λ v. v.0) vs

@@ -1,0 +1,47 @@
+//! Texts of which it stays known that they are Unicode scalar values.
+
+ghost use Rattle.std.specs.Prelude.{◌≡◌, true, IfOk, chars, encode_utf8_all};
+ghost use Rattle.documents.specs.Tests.{every, is_scalar};
+
+use crate::text::{Memory, Str};
+use std::alloc::Global;
+
+/// A text in a document or a JSON value. A contract sees that each of its values is a Unicode scalar value, wherever
+/// the text stands.
+#[derive(Drop)]
+pub struct Word {
+    text: Str,
+    pub ghost scalar: { every is_scalar text ≡ true },
+}
+
+impl Word {
+    pub fn new(text: Str) -> Word
+        ensures { result.text ≡ text }
+    {
+        // A `Str` tells what it is as a `str`.
+        let _ = text.as_text();
+        Word { text }
+    }
+
+    pub fn as_str(&self) -> &Str
+        ensures { result.now ≡ self.now.text }
+    {
+        &self.text
+    }
+
+    pub fn as_text(&self) -> &str
+        ensures bytes { result.now ≡ encode_utf8_all self.now.text }
+        ensures text { chars result.now ≡ self.now.text }
+    {
+        self.text.as_text()
+    }
+
+    /// A copy, which takes memory of its own.
+    pub fn copy(&self, alloc: Global) -> Result<Word, Memory>
+        ensures { IfOk result (λ w. w.text ≡ self.now.text) }
+    {
+        Ok(Word {
+            text: self.text.copy(alloc)?,
+        })
+    }
+}

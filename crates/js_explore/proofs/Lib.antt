@@ -1,0 +1,6 @@
+mod Keys
+mod Turns
+mod Front
+mod Settled
+mod Going
+mod Steps

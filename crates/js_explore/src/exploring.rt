@@ -1,0 +1,57 @@
+//! The search for goals, from a root on.
+
+ghost use Rattle.std.specs.Prelude.{◌≡◌, None, true, length, IfOk};
+ghost use Rattle.search.specs.Explored.{explored};
+ghost use Rattle.js_explore.specs.Exploration.{Explores};
+ghost use Rattle.js_explore.specs.ExploredView.{explored_view};
+
+use crate::explored::Explored;
+use js_algebra::Goal;
+use js_doc::Memory;
+use js_expansion::Expander;
+use std::alloc::Global;
+
+/// Goals that get a number.
+pub const MOST_GOALS: u32 = 65_536;
+
+/// Places of the alternatives of all goals that are taken.
+pub const MOST_TOTAL: u64 = 16_777_216;
+
+/// Explores from a root: it has number 0, goals are taken by number, and what the alternatives of one name is mentioned
+/// in order, members before fillers.
+///
+/// Past 65,536 goals none gets a number. At the first goal with which the places of all would be more than 16,777,216
+/// the search ends: neither this goal nor a later one is taken. Where `over` is None all goals were taken. Each goal is
+/// expanded once, and what it names costs three hashes each at most.
+pub fn explore<E: Expander>(alloc: Global, expander: &E, root: Goal) -> Result<Explored, Memory>
+    requires { E.takes expander.now root ≡ true }
+    ensures found { IfOk result (λ e. (explored_view e).found
+        ≡ explored MOST_GOALS MOST_TOTAL (E.expansion expander.now) root) }
+    ensures answers { IfOk result (λ e. Explores (E.expansion expander.now) (explored_view e)) }
+    ensures whole { IfOk result (λ e. (explored_view e).found.over ≡ None
+        → (explored_view e).found.taken ≡ length (explored_view e).found.goals) }
+{
+    explore_within(alloc, expander, root, MOST_GOALS, MOST_TOTAL)
+}
+
+/// The same within given limits.
+pub(crate) fn explore_within<E: Expander>(
+    alloc: Global,
+    expander: &E,
+    root: Goal,
+    most_goals: u32,
+    most_total: u64,
+) -> Result<Explored, Memory>
+    requires { E.takes expander.now root ≡ true }
+    ensures found { IfOk result (λ e. (explored_view e).found
+        ≡ explored most_goals most_total (E.expansion expander.now) root) }
+    ensures answers { IfOk result (λ e. Explores (E.expansion expander.now) (explored_view e)) }
+{
+    let mut search = Explored::new(alloc, root)?;
+    for turn in 0..most_goals {
+        if !search.step(alloc, expander, most_goals, most_total)? {
+            break;
+        }
+    }
+    Ok(search)
+}

@@ -1,0 +1,11 @@
+-- What was there, the word, and the text of the part of the list that was written.
+use Rattle.std.proofs.Common.{◌≡◌, ◌++◌, map, take}
+use Rattle.std.specs.String.{string_bytes}
+use Rattle.certificate_lines.specs.Text.{list_text, signed_text}
+use Rattle.js_algebra.specs.View.{signed_view}
+use Rattle.js_lines.proofs.text.append_signed_list.Given as goal
+
+abbrev pub invariant-loop-x : goal.invariant-loop-x
+invariant-loop-x l =
+    string_bytes l.out
+    ≡ string_bytes l.fn.out ++ (l.word ++ list_text signed_text (map signed_view (take l.x-index l.list)))

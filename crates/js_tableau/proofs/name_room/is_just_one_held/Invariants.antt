@@ -1,0 +1,15 @@
+-- The positions that are left decide, and are in the room.
+use Rattle.std.proofs.Common.{◌≡◌, cond, not, drop, length, nat_lt, true}
+use Rattle.documents.specs.Tests.{every, some}
+use Rattle.documents.specs.Measures.{exactly_one}
+use Rattle.name_laws.specs.Rooms.{truth_at}
+use Rattle.js_algebra.specs.View.{places}
+use Rattle.js_tableau.proofs.name_room.is_just_one_held.Given as goal
+
+abbrev pub invariant-loop-q : goal.invariant-loop-q
+invariant-loop-q l = record {
+  decide : cond l.found (not (some (truth_at l.room) (places (drop l.q-index l.q-items))))
+      (exactly_one (truth_at l.room) (places (drop l.q-index l.q-items)))
+      ≡ exactly_one (truth_at l.room) (places l.q-items);
+  within : every (λ q. nat_lt q (length l.room)) (places (drop l.q-index l.q-items)) ≡ true;
+}

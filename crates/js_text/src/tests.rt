@@ -1,0 +1,60 @@
+//! Texts of a small table and of its documents, and what is measured of them.
+
+use crate::{Measures, doc_text, parts_text};
+use js_doc::{Part, PartId, PartIds, PartMap, PartMember, Parts, Str, unshare};
+use std::alloc::Global;
+use std::test::Fail;
+
+/// `-5`, `"é\n"`, `[]`, `[-5, []]` and `{"é\n": [-5, []]}`.
+fn table(alloc: Global) -> Result<Parts, Fail> {
+    let mut parts = Parts::new(alloc);
+    let number = parts.push(Part::Num(-5))?;
+    let _ = parts.push(Part::Text(Str::from_text(alloc, "é\n")?))?;
+    let empty = parts.push(Part::List(PartIds::from_vec(vec![in alloc;]?)))?;
+    let list = parts.push(Part::List(PartIds::from_vec(vec![in alloc; number, empty]?)))?;
+    let name = Str::from_text(alloc, "é\n")?;
+    let members = vec![in alloc; PartMember { name, part: list }]?;
+    let _ = parts.push(Part::Members(PartMap::from_vec(members)))?;
+    Ok(parts)
+}
+
+/// The document of the part has that text, and is measured as it is.
+fn is_told(
+    alloc: Global,
+    parts: &Parts,
+    number: u32,
+    text: &str,
+    depth: u32,
+) -> Result<bool, Fail> {
+    if number >= parts.len() {
+        return Ok(false);
+    }
+    let id = PartId(number);
+    let written = doc_text(alloc, &unshare(alloc, parts, id)?)?;
+    let measure = Measures::room(alloc, parts)?.measure(parts, id);
+    let measured = measure.length == text.len() as u64 && measure.depth == depth;
+    Ok(written.as_slice() == text.as_bytes() && measured && measure.short_numbers)
+}
+
+fn has_lines(alloc: Global, parts: &Parts, lines: &str) -> Result<bool, Fail> {
+    let count = parts.len();
+    if count == 0 {
+        return Ok(false);
+    }
+    let written = parts_text(alloc, parts, PartId(count - 1))?;
+    Ok(written.as_slice() == lines.as_bytes())
+}
+
+#[test]
+fn texts_and_measures_of_a_table(rt: HostRuntime) -> Result<(), Fail> {
+    let alloc = rt.alloc();
+    let parts = table(alloc)?;
+    assert!(rt; is_told(alloc, &parts, 0, "-5", 0)?);
+    assert!(rt; is_told(alloc, &parts, 1, "\"é\\n\"", 0)?);
+    assert!(rt; is_told(alloc, &parts, 2, "[]", 1)?);
+    assert!(rt; is_told(alloc, &parts, 3, "[-5,[]]", 2)?);
+    assert!(rt; is_told(alloc, &parts, 4, "{\"é\\n\":[-5,[]]}", 3)?);
+    let lines = "parts 5\n0 -5\n1 \"é\\n\"\n2 []\n3 [#0,#2]\n4 {\"é\\n\":#3}\n";
+    assert!(rt; has_lines(alloc, &parts, lines)?);
+    Ok(())
+}

@@ -1,0 +1,93 @@
+-- Where files are told: a read fault is told where a file isn't there and each before it is a schema.
+use Rattle.std.proofs.Common.{◌≡◌, inl, inr, ℕ, ◌<◌, List, [], ◌∷◌, true, Option, Some, None, encode_utf8_all, refl, ap, sym, ◌∙◌, subst}
+use Rattle.js_outside.specs.Counts.{last_count, Rose}
+use Rattle.js_outside.specs.Told.{Files, CountsMisses}
+use Rattle.js_words.specs.Commands.{Command, Include, Valid, Norm, command}
+use Rattle.js_input.specs.SchemaReading.{Read}
+use Rattle.js_input.specs.OrderOfFiles.{BeginsInOrder, Misses}
+use Rattle.js_input.proofs.SchemaReadingLemmas.{IsSchemaReading-one}
+use Rattle.js_input.proofs.OrderLaws.{rose-misses}
+use Rattle.js_comparison.specs.Outcome as C
+use Rattle.js_comparison.specs.Outcome.{IsComparison}
+use Rattle.js_validation.specs.Outcome as V
+use Rattle.js_validation.specs.Outcome.{IsValidation}
+use Rattle.js_norm.specs.Outcome as N
+use Rattle.js_norm.specs.Outcome.{IsListing}
+use Rattle.js_top.specs.Names.{files_of, file_names, MissesFile}
+use Rattle.js_top.specs.Report.{Report, compared_report, outcome_report, listed_report, IsReportOf}
+use Rattle.js_top.specs.Preparing.{report_of, is_answer, PreparedSays}
+use Rattle.js_top.specs.declared.prepare.Prepared.{Prepared}
+use Rattle.js_top.specs.declared.prepare.Prepared.TheVariants.{Usage, Unread, Made}
+use Rattle.js_top.specs.declared.status.Status.{Status}
+use Rattle.js_top.specs.declared.status.Status.TheVariants as S
+
+-- two files, of which one isn't there, come to no answer
+comparison-missing : (files : Files) (a b : List ℕ) (o : C.Outcome) → IsComparison (Some files) a b o
+    → Misses files (encode_utf8_all a ∷ encode_utf8_all b ∷ []) → o ≡ C.Unread
+comparison-missing files a b o is (inl none) =
+    let e : is.files (encode_utf8_all a) ≡ None = ap (λ f. f (encode_utf8_all a)) is.are_files.0 ∙ none in
+    subst (λ t. C.IsOutcomeOf t (is.later (encode_utf8_all b)) o) e is.outcome
+comparison-missing files a b o is (inr ((bytes, has, (j, reads)), inl none)) =
+    let e : is.files (encode_utf8_all a) ≡ Some bytes = ap (λ f. f (encode_utf8_all a)) is.are_files.0 ∙ has in
+    let e' : is.later (encode_utf8_all b) ≡ None = ap (λ f. f (encode_utf8_all b)) is.are_files.1 ∙ none in
+    let (r, reads', of) =
+    subst (λ t. C.IsOutcomeOf t None o) e
+    (subst (λ t. C.IsOutcomeOf (is.files (encode_utf8_all a)) t o) e' is.outcome) in
+    subst (λ r. C.IsOfFirst None r o) (IsSchemaReading-one bytes r (Read j) reads' reads) of
+comparison-missing files a b o is (inr (first, inr (second, rest))) = absurd rest
+
+validation-missing : (files : Files) (a d : List ℕ) (o : V.Outcome) → IsValidation (Some files) a d o
+    → Misses files (encode_utf8_all a ∷ encode_utf8_all d ∷ []) → o ≡ V.Unread
+validation-missing files a d o is (inl none) =
+    let e : is.files (encode_utf8_all a) ≡ None = ap (λ f. f (encode_utf8_all a)) is.are_files.0 ∙ none in
+    subst (λ t. V.IsOutcomeOf t (is.later (encode_utf8_all d)) o) e is.outcome
+validation-missing files a d o is (inr ((bytes, has, (j, reads)), inl none)) =
+    let e : is.files (encode_utf8_all a) ≡ Some bytes = ap (λ f. f (encode_utf8_all a)) is.are_files.0 ∙ has in
+    let e' : is.later (encode_utf8_all d) ≡ None = ap (λ f. f (encode_utf8_all d)) is.are_files.1 ∙ none in
+    let (r, reads', of) =
+    subst (λ t. V.IsOutcomeOf t None o) e
+    (subst (λ t. V.IsOutcomeOf (is.files (encode_utf8_all a)) t o) e' is.outcome) in
+    sym (subst (λ r. V.of_schema None r ≡ o) (IsSchemaReading-one bytes r (Read j) reads' reads) of)
+validation-missing files a d o is (inr (first, inr (second, rest))) = absurd rest
+
+listing-missing : (files : Files) (a : List ℕ) (o : N.Outcome) → IsListing (Some files) a o
+    → Misses files (encode_utf8_all a ∷ []) → o ≡ N.Unread
+listing-missing files a o is (inl none) =
+    let e : is.files (encode_utf8_all a) ≡ None = ap (λ f. f (encode_utf8_all a)) is.are_files.0 ∙ none in
+    subst (λ t. N.IsOutcomeOf t o) e is.outcome
+listing-missing files a o is (inr (first, rest)) = absurd rest
+
+report-missing : (files : Files) (c : Option Command) (r : Report) → IsReportOf (Some files) c r
+    → Misses files (files_of c) → r.status ≡ S.ReadFault
+report-missing files None r is misses = absurd misses
+report-missing files (Some (Include a b)) r (o, comes, means, e) misses =
+    ap (λ x. x.status) (sym e) ∙ ap (λ x. (compared_report x).status) (comparison-missing files a b o comes misses)
+report-missing files (Some (Valid a d)) r (o, comes, e) misses =
+    ap (λ x. x.status) (sym e) ∙ ap (λ x. (outcome_report x).status) (validation-missing files a d o comes misses)
+report-missing files (Some (Norm a)) r (o, comes, e) misses =
+    ap (λ x. x.status) (sym e) ∙ ap (λ x. (listed_report x).status) (listing-missing files a o comes misses)
+
+-- a file that isn't there is told as a read fault
+pub prepared-missing : (told : Option Files) (words : List (List ℕ)) (before after : ℕ) (p : Prepared)
+    → PreparedSays told words before after p → MissesFile told words → (report_of p).status ≡ S.ReadFault
+prepared-missing None words before after p says misses = absurd misses
+prepared-missing (Some files) words before after Usage says misses =
+    let none : Misses files [] = subst (λ c. Misses files (files_of c)) says.1 misses in absurd none
+prepared-missing (Some files) words before after Unread says misses = refl
+prepared-missing (Some files) words before after (Made bytes status) says misses =
+    report-missing files (command words) (record { text = bytes.items; status = status }) says.2 misses
+
+answer-read_fault : (s : Status) → s ≡ S.ReadFault → is_answer s ≡ true → ⊥
+answer-read_fault s e is = let wrong : is_answer S.ReadFault ≡ true = ap is_answer (sym e) ∙ is in cc
+
+-- and where the count of faults is that of names that aren't there, nothing else is told as one
+pub prepared-only_missing : (told : Option Files) (words : List (List ℕ)) (before after : ℕ) (p : Prepared)
+    (names later : List (List ℕ)) → PreparedSays told words before after p → (report_of p).status ≡ S.ReadFault
+    → BeginsInOrder told (file_names words) names later → CountsMisses told names before
+    → CountsMisses told later after → before < last_count → MissesFile told words
+prepared-only_missing None words before after p names later says e begins counts counts' below = absurd counts
+prepared-only_missing (Some files) words before after Usage names later says e begins counts counts' below = cc
+prepared-only_missing (Some files) words before after Unread names later says e begins counts counts' below =
+    rose-misses files (file_names words) names later before after begins counts counts' below says.0
+prepared-only_missing (Some files) words before after (Made bytes s) names later says e begins counts counts' below =
+    absurd (answer-read_fault s e says.1)

@@ -1,0 +1,69 @@
+-- What is in a list, and in lists that are made of it.
+use Rattle.std.proofs.Common.{◌≡◌, ℕ, zero, suc, ◌⊎◌, inl, inr, ⊎_elim, Bool, true, false, cond, List, [], ◌∷◌, ◌++◌, map, filter, flat_map, take, refl, ap, sym, subst}
+use Rattle.std.proofs.lemmas.Bool.{and_parts, and_from}
+use Rattle.documents.specs.Tests.{every}
+use Rattle.list_laws.specs.In.{IsIn}
+
+pub every_at : {A : Type 0} (p : A → Bool) (x : A) (xs : List A) → every p xs ≡ true → IsIn x xs → p x ≡ true
+every_at p x [] e i = absurd i
+every_at p x (y ∷ xs) e (inl q) = subst (λ z. p z ≡ true) (sym q) (and_parts (p y) (every p xs) e).0
+every_at p x (y ∷ xs) e (inr i) = every_at p x xs (and_parts (p y) (every p xs) e).1 i
+
+pub every_from : {A : Type 0} (p : A → Bool) (xs : List A) → ((x : A) → IsIn x xs → p x ≡ true) → every p xs ≡ true
+every_from p [] h = refl
+every_from p (x ∷ xs) h = and_from (p x) (every p xs) (h x (inl refl)) (every_from p xs (λ y i. h y (inr i)))
+
+pub in_left : {A : Type 0} (x : A) (xs ys : List A) → IsIn x xs → IsIn x (xs ++ ys)
+in_left x [] ys h = absurd h
+in_left x (a ∷ xs) ys (inl e) = inl e
+in_left x (a ∷ xs) ys (inr h) = inr (in_left x xs ys h)
+
+pub in_right : {A : Type 0} (x : A) (xs ys : List A) → IsIn x ys → IsIn x (xs ++ ys)
+in_right x [] ys h = h
+in_right x (a ∷ xs) ys h = inr (in_right x xs ys h)
+
+pub in_append : {A : Type 0} (x : A) (xs ys : List A) → IsIn x (xs ++ ys) → IsIn x xs ⊎ IsIn x ys
+in_append x [] ys h = inr h
+in_append x (a ∷ xs) ys (inl e) = inl (inl e)
+in_append x (a ∷ xs) ys (inr h) = ⊎_elim (λ l. inl (inr l)) (λ r. inr r) (in_append x xs ys h)
+
+pub in_flat_map : {A B : Type 0} (f : A → List B) (y : B) (x : A) (xs : List A) → IsIn x xs → IsIn y (f x)
+    → IsIn y (flat_map f xs)
+in_flat_map f y x [] h k = absurd h
+in_flat_map f y x (a ∷ xs) (inl e) k = in_left y (f a) (flat_map f xs) (subst (λ z. IsIn y (f z)) e k)
+in_flat_map f y x (a ∷ xs) (inr h) k = in_right y (f a) (flat_map f xs) (in_flat_map f y x xs h k)
+
+pub from_flat_map : {A B : Type 0} (f : A → List B) (y : B) (xs : List A) → IsIn y (flat_map f xs)
+    → (x : A) × IsIn x xs × IsIn y (f x)
+from_flat_map f y [] h = absurd h
+from_flat_map f y (a ∷ xs) h =
+    elim (in_append y (f a) (flat_map f xs) h) [
+      | inl l ↦ (a, inl refl, l)
+      | inr r ↦ let (x, i, k) = from_flat_map f y xs r in (x, inr i, k)
+    ]
+
+pub from_map : {A B : Type 0} (f : A → B) (y : B) (xs : List A) → IsIn y (map f xs) → (x : A) × IsIn x xs × (y ≡ f x)
+from_map f y [] h = absurd h
+from_map f y (a ∷ xs) (inl e) = (a, inl refl, e)
+from_map f y (a ∷ xs) (inr h) = let (x, i, e) = from_map f y xs h in (x, inr i, e)
+
+pub in_map : {A B : Type 0} (f : A → B) (x : A) (xs : List A) → IsIn x xs → IsIn (f x) (map f xs)
+in_map f x [] i = absurd i
+in_map f x (y ∷ xs) (inl e) = inl (ap f e)
+in_map f x (y ∷ xs) (inr i) = inr (in_map f x xs i)
+
+pub to_filter : {A : Type 0} (p : A → Bool) (x : A) (xs : List A) → IsIn x xs → p x ≡ true → IsIn x (filter p xs)
+to_filter p x [] i e = absurd i
+to_filter p x (y ∷ xs) i e = go (p y) refl i (λ j. to_filter p x xs j e) where
+  go : (b : Bool) → p y ≡ b → IsIn x (y ∷ xs) → (IsIn x xs → IsIn x (filter p xs))
+      → IsIn x (cond b (y ∷ filter p xs) (filter p xs))
+  go true f (inl q) more = inl q
+  go true f (inr i) more = inr (more i)
+  go false f (inl q) more = cc (subst (λ z. p z ≡ true) q e)
+  go false f (inr i) more = more i
+
+pub in_take : {A : Type 0} (n : ℕ) (x : A) (xs : List A) → IsIn x (take n xs) → IsIn x xs
+in_take zero x xs h = absurd h
+in_take (suc n) x [] h = absurd h
+in_take (suc n) x (a ∷ xs) (inl e) = inl e
+in_take (suc n) x (a ∷ xs) (inr h) = inr (in_take n x xs h)

@@ -1,0 +1,78 @@
+-- Tests of some and of all of a list, and what passes a filter.
+use Rattle.std.proofs.Common.{◌≡◌, ℕ, zero, suc, ◌+◌, ◌<◌, ◌≤◌, inl, inr, Bool, true, false, ◌&&◌, cond, not, nat_eq, List, [], ◌∷◌, filter, refl, ap₂, sym, subst, arith}
+use Rattle.std.proofs.lemmas.Bool.{and_parts, or_cases, or_left, or_right, or_from, or_parts, cases_lt, eqb-true}
+use Rattle.std.specs.List.{range_with_len}
+use Rattle.documents.specs.Tests.{every, some, same_word}
+use Rattle.list_laws.specs.In.{IsIn}
+
+pub not_true : (b : Bool) → not b ≡ true → b ≡ false
+not_true true e = sym e
+not_true false e = refl
+
+pub not_false : (b : Bool) → not b ≡ false → b ≡ true
+not_false true e = refl
+not_false false e = cc
+
+pub some_find : {A : Type 0} (p : A → Bool) (xs : List A) → some p xs ≡ true → (x : A) × IsIn x xs × (p x ≡ true)
+some_find p [] e = cc
+some_find p (x ∷ xs) e = elim (or_cases (p x) (some p xs) e) [
+  | inl h ↦ (x, inl refl, h)
+  | inr h ↦ let (y, i, k) = some_find p xs h in (y, inr i, k)
+]
+
+pub some_from : {A : Type 0} (p : A → Bool) (x : A) (xs : List A) → IsIn x xs → p x ≡ true → some p xs ≡ true
+some_from p x [] i e = absurd i
+some_from p x (y ∷ xs) (inl q) e = or_left (p y) (some p xs) (subst (λ z. p z ≡ true) q e)
+some_from p x (y ∷ xs) (inr i) e = or_right (p y) (some p xs) (some_from p x xs i e)
+
+pub some_none : {A : Type 0} (p : A → Bool) (xs : List A) → ((x : A) → IsIn x xs → p x ≡ false) → some p xs ≡ false
+some_none p [] h = refl
+some_none p (x ∷ xs) h = or_from (p x) (some p xs) (h x (inl refl)) (some_none p xs (λ y i. h y (inr i)))
+
+pub none_at : {A : Type 0} (p : A → Bool) (x : A) (xs : List A) → some p xs ≡ false → IsIn x xs → p x ≡ false
+none_at p x [] e i = absurd i
+none_at p x (y ∷ xs) e (inl q) = subst (λ z. p z ≡ false) (sym q) (or_parts (p y) (some p xs) e).0
+none_at p x (y ∷ xs) e (inr i) = none_at p x xs (or_parts (p y) (some p xs) e).1 i
+
+pub every_fails : {A : Type 0} (p : A → Bool) (xs : List A) → every p xs ≡ false → (x : A) × IsIn x xs × (p x ≡ false)
+every_fails p [] e = cc
+every_fails {A = A} p (x ∷ xs) e = go (p x) refl e (every_fails p xs) where
+  go : (b : Bool) → p x ≡ b → (b && every p xs) ≡ false
+      → (every p xs ≡ false → (y : A) × IsIn y xs × (p y ≡ false)) → (y : A) × IsIn y (x ∷ xs) × (p y ≡ false)
+  go false h e more = (x, inl refl, h)
+  go true h e more = let (y, i, k) = more e in (y, inr i, k)
+
+pub from_filter : {A : Type 0} (p : A → Bool) (x : A) (xs : List A) → IsIn x (filter p xs) → IsIn x xs × (p x ≡ true)
+from_filter p x [] i = absurd i
+from_filter p x (y ∷ xs) i = go (p y) refl i (from_filter p x xs) where
+  go : (b : Bool) → p y ≡ b → IsIn x (cond b (y ∷ filter p xs) (filter p xs))
+      → (IsIn x (filter p xs) → IsIn x xs × (p x ≡ true)) → IsIn x (y ∷ xs) × (p x ≡ true)
+  go true e (inl q) more = (inl q, subst (λ z. p z ≡ true) (sym q) e)
+  go true e (inr j) more = let (a, b) = more j in (inr a, b)
+  go false e j more = let (a, b) = more j in (inr a, b)
+
+pub in_range : (n j : ℕ) → j < n → IsIn j (range_with_len 0 n)
+in_range n j l = go 0 n j (omega arith) (omega arith) where
+  go : (a n j : ℕ) → a ≤ j → j < a + n → IsIn j (range_with_len a n)
+  go a zero j x y = absurd (omega arith)
+  go a (suc n) j x y = elim (cases_lt a j) [
+    | inl l ↦ inr (subst (λ z. IsIn j (range_with_len z n)) (plus a) (go (suc a) n j (omega arith) (omega arith)))
+    | inr l ↦ inl (omega arith)
+  ] where
+    plus : (a : ℕ) → suc a ≡ a + 1
+    plus a = omega arith
+
+pub from_range : (n j : ℕ) → IsIn j (range_with_len 0 n) → j < n
+from_range n j i = let r = go 0 n j i in omega (arith, r) where
+  go : (a n j : ℕ) → IsIn j (range_with_len a n) → j < a + n
+  go a zero j i = absurd i
+  go a (suc n) j (inl e) = omega (arith, e)
+  go a (suc n) j (inr i) = omega (arith, go (a + 1) n j i)
+
+pub same_word-true : (v w : List ℕ) → same_word v w ≡ true → v ≡ w
+same_word-true [] [] e = refl
+same_word-true [] (d ∷ w) e = cc
+same_word-true (c ∷ v) [] e = cc
+same_word-true (c ∷ v) (d ∷ w) e =
+    let (a, b) = and_parts (nat_eq c d) (same_word v w) e in
+    ap₂ (λ x xs. x ∷ xs) (eqb-true c d a) (same_word-true v w b)

@@ -1,0 +1,9 @@
+pub mod SortedMembersLaws
+pub mod Literals
+pub mod Sets
+pub mod Names
+pub mod Numbered
+pub mod Building
+pub mod Slots
+pub mod Halves
+pub mod Examples

@@ -1,0 +1,7 @@
+pub mod Numbers
+pub mod Whole
+pub mod Rounds
+pub mod Rise
+pub mod Settled
+pub mod Decided
+pub mod Examples

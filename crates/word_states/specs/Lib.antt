@@ -1,0 +1,13 @@
+-- What a reader must believe: how many characters a pattern reads in how many places, which of these places a partial
+-- match read last, and what is kept of a word.
+pub mod Position
+pub mod LastRead
+pub mod PatternState
+-- And what can be asked of a word, which characters no atom tells apart, the state of a word, and the rows that the
+-- states of all words make, each list in order of first mention.
+pub mod Atom
+pub mod AtomPositions
+pub mod Mention
+pub mod Classes
+pub mod WordState
+pub mod Rows
