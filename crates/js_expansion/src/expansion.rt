@@ -1,4 +1,4 @@
-//! Expansions of goals, and the limits that cut them.
+//! Alternatives of branches, expansions of goals, and the limits that cut them.
 
 use crate::lists::AlternativeList;
 
@@ -37,4 +37,10 @@ pub enum LimitKind {
 pub struct Expansion {
     pub alternatives: AlternativeList,
     pub hole: Option<LimitKind>,
+}
+
+/// The alternatives of one branch, in order.
+#[derive(Drop)]
+pub struct Leaf {
+    pub alternatives: AlternativeList,
 }

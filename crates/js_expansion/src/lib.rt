@@ -15,7 +15,7 @@ mod lists;
 pub use alternative::{Alternative, Filler, Placed, Shape, Slot};
 pub use dead::Dead;
 pub use expander::Expander;
-pub use expansion::{Expansion, LimitKind};
+pub use expansion::{Expansion, Leaf, LimitKind};
 pub use lists::{AlternativeList, FillerList, PlacedList};
 
 #[cfg(test)]
