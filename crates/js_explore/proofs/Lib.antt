@@ -4,3 +4,5 @@ mod Front
 mod Settled
 mod Going
 mod Steps
+-- The words of the expander that the tests have.
+pub mod NoWords

@@ -35,7 +35,7 @@ module _ (a b c : List Signed) where
   in_branches true = refl
   in_branches false = refl
 
-  pub words_found : (first : Bool) → every (λ e. has_words [] e) (small first a b c).alternatives ≡ true
+  pub words_found : (first : Bool) → every (λ e. has_words ([] ∷ []) e) (small first a b c).alternatives ≡ true
   words_found true = refl
   words_found false = refl
 
@@ -48,6 +48,6 @@ module _ (a b c : List Signed) where
   different_slots false = refl
 
   pub different_words : (first : Bool)
-      → every (λ e. has_different_words []) (small first a b c).alternatives ≡ true
+      → every (λ e. has_different_words ([] ∷ [])) (small first a b c).alternatives ≡ true
   different_words true = refl
   different_words false = refl

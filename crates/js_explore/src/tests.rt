@@ -82,7 +82,7 @@ impl Expander for Small {
 
     ghost branches = { λ x g t. 1 };
 
-    ghost cells = { λ x g t k. [] };
+    ghost cells = { λ x g t k. [] ∷ [] };
 
     fn expand(&self, alloc: Global, goal: &Goal) -> Result<Expansion, Memory> {
         if *goal == self.first {
@@ -92,14 +92,16 @@ impl Expander for Small {
         }
     }
 
+    #[tactic(auto, using(crate::proofs::NoWords::no_words))]
     fn words(
         &self,
         alloc: Global,
         _: &Goal,
         _: BranchId,
-        _: u32,
-        _: u32,
+        cell: u32,
+        count: u32,
     ) -> Result<StrList, Memory> {
+        let _ = (cell, count);
         Ok(StrList::from_vec(Vec::new(alloc)))
     }
 
