@@ -1,7 +1,7 @@
 -- An array meets a literal exactly where its count is within the literal's bounds, its elements meet what it asks of
 -- each at its place, and some element serves it where it asks for one.
 use Rattle.std.proofs.Common.{◌≡◌, ℕ, suc, ◌<◌, ◌≤◌, Bool, true, false, not, List, length, None, refl, ap, sym, subst, arith}
-use Rattle.std.proofs.lemmas.Bool.{and_parts, and_from, leb-true, leb-false, le-leb, lt-leb, not-false}
+use Rattle.std.proofs.lemmas.Bool.{and_parts, and_from, leb-true, leb-false, le-leb, lt-leb, not-false, not-true}
 use Rattle.documents.specs.Tests.{some}
 use Rattle.documents.specs.Kind as K
 use Rattle.documents.specs.Kind.{same_kind}
@@ -13,7 +13,7 @@ use Rattle.goals.specs.Signed.{meets}
 use Rattle.goals.specs.Choices.{plus_choices, minus_choices, plus_wrong, minus_wrong}
 use Rattle.frames.specs.Frame.{is_at_end}
 use Rattle.frames.specs.ArrayFrame.{prefix_of, index_of, item_at, is_empty, plus_each, minus_each, plus_serving, minus_serving, plus_lower, minus_lower, plus_below, minus_below}
-use Rattle.list_laws.proofs.Tests.{not_true, some_find, some_from, some_none, none_at}
+use Rattle.list_laws.proofs.Tests.{some_find, some_from, some_none, none_at}
 use Rattle.array_laws.specs.ArrayValues.{stand, doc_at}
 use Rattle.array_laws.proofs.Lists.{doc_in, in_doc, item_stand, items_at, items_from, items_fail, items_not}
 
@@ -77,19 +77,19 @@ module _ (T : List Position) (here : ℕ → Bool) (ds : D.Items) (n : ℕ) wher
       record { low = low_plus P e; high = high_plus P e; each = each_plus P p e; served = served_plus P e }
 
   low_minus : (P : Position) → (minus_choices K.Array P ≡ None → not (Asks P) ≡ true) → minus_lower P ≤ count
-  low_minus (CountMax m) e = leb-false count m (not_true (Asks (CountMax m)) (e refl))
+  low_minus (CountMax m) e = leb-false count m (not-true (Asks (CountMax m)) (e refl))
   low_minus _ e = omega arith
 
   high_minus : (P : Position) → (minus_choices K.Array P ≡ None → not (Asks P) ≡ true)
       → is_at_end count (minus_below P) ≡ false
-  high_minus (CountMin m) e = not_true (Asks (CountMin m)) (e refl)
+  high_minus (CountMin m) e = not-true (Asks (CountMin m)) (e refl)
   high_minus _ e = refl
 
   each_minus : (P : Position) → (minus_choices K.Array P ≡ None → not (Asks P) ≡ true) → (j : ℕ) → j < count
       → meets T (minus_each P) (doc_at (elements ds) j) ≡ true
   each_minus (Contains q) e j l =
       and_from (not (holds T q (doc_at (elements ds) j))) true
-      (ap not (none_at (holds T q) (doc_at (elements ds) j) (elements ds) (not_true (Asks (Contains q)) (e refl))
+      (ap not (none_at (holds T q) (doc_at (elements ds) j) (elements ds) (not-true (Asks (Contains q)) (e refl))
       (doc_in (elements ds) j l))) refl
   each_minus _ e j l = refl
 
@@ -97,7 +97,7 @@ module _ (T : List Position) (here : ℕ → Bool) (ds : D.Items) (n : ℕ) wher
       → not (is_empty (minus_serving 0 P)) ≡ true
       → (j : ℕ) × (j < count) × (meets T (minus_serving (number_of j) P) (doc_at (elements ds) j) ≡ true)
   served_minus (Items ps r) p e d =
-      let (j, l, h) = items_fail (holds T) ps r (elements ds) (not_true (Asks (Items ps r)) (e refl)) in (
+      let (j, l, h) = items_fail (holds T) ps r (elements ds) (not-true (Asks (Items ps r)) (e refl)) in (
         j,
         l,
         and_from (not (holds T (item_at ps r (number_of j)) (doc_at (elements ds) j))) true
@@ -141,12 +141,12 @@ module _ (T : List Position) (here : ℕ → Bool) (ds : D.Items) (n : ℕ) wher
       let (j, l, h) = k.served refl in
       ap not (items_not (holds T) ps r (elements ds) j l
       (subst (λ i. holds T i (doc_at (elements ds) j) ≡ false) (item_stand ps r n j p)
-      (not_true (holds T (item_at ps r (number_of j)) (doc_at (elements ds) j))
+      (not-true (holds T (item_at ps r (number_of j)) (doc_at (elements ds) j))
       (and_parts (not (holds T (item_at ps r (number_of j)) (doc_at (elements ds) j))) true h).0)))
   from_minus (Contains q) p c w k = ap not (some_none (holds T q) (elements ds) (λ J i.
       let (j, l, e) = in_doc J (elements ds) i in
       subst (λ z. holds T q z ≡ false) e
-      (not_true (holds T q (doc_at (elements ds) j))
+      (not-true (holds T q (doc_at (elements ds) j))
       (and_parts (not (holds T q (doc_at (elements ds) j))) true (k.each j l)).0)))
   from_minus (CountMin m) p c w k = ap not k.high
   from_minus (CountMax m) p c w k = ap not (lt-leb count m k.low)

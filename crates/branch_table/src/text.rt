@@ -11,22 +11,13 @@ use std::alloc::Global;
 /// Of this many branches the sets are printed.
 const SHOWN: usize = 40;
 
-const KINDS: [JsonKind; 6] = [
-    JsonKind::Null,
-    JsonKind::Boolean,
-    JsonKind::Number,
-    JsonKind::Text,
-    JsonKind::Array,
-    JsonKind::Object,
-];
-
 /// A line for the goal, and then for each kind its branches.
 pub(crate) fn goal_text(alloc: Global, core: &Core, goal: &Goal) -> Result<String, Memory>
     requires { are_in_table core.now.positions goal.now ≡ true }
 {
     let mut text = String::new(alloc);
     push_set(&mut text, "goal", goal.as_slice())?;
-    for kind in KINDS {
+    for kind in JsonKind::ALL {
         push_branches(alloc, core, goal, kind, &mut text)?;
     }
     Ok(text)
@@ -41,7 +32,7 @@ fn push_branches(
 ) -> Result<(), Memory>
     requires { are_in_table core.now.positions goal.now ≡ true }
 {
-    text.push_str(kind_word(kind))?;
+    text.push_str(kind.as_word())?;
     match branches(alloc, core, goal, kind) {
         Ok(found) => push_found(text, found.as_slice()),
         Err(TableauFault::LimitBranches) => {
@@ -74,15 +65,4 @@ fn push_set(text: &mut String, word: &str, set: &[Signed]) -> Result<(), Memory>
     }
     text.push('\n')?;
     Ok(())
-}
-
-fn kind_word(kind: JsonKind) -> &'static str {
-    match kind {
-        JsonKind::Null => "null",
-        JsonKind::Boolean => "boolean",
-        JsonKind::Number => "number",
-        JsonKind::Text => "string",
-        JsonKind::Array => "array",
-        JsonKind::Object => "object",
-    }
 }

@@ -15,22 +15,16 @@ use Rattle.list_laws.proofs.Lists.{in_left, in_right, in_map}
 use Rattle.cells.specs.Cells.{meets_formula, says, naming, vector, same_vector, place, vector_at, told, vectors_of, cells}
 use Rattle.name_truths.specs.NameAtoms.{formula_of}
 use Rattle.cells.specs.WordsInOrder.{shorter}
-use Rattle.list_laws.proofs.Tests.{from_filter}
+use Rattle.list_laws.proofs.Tests.{from_filter, beq-true}
 use Rattle.cell_laws.specs.RightCells.{IsOf, AreCells, AreWords}
 use Rattle.cell_laws.proofs.WordsInOrderLaws.{differ_filter, shorter_is, shorter_differ}
-
-beq_true : (a b : Bool) → beq a b ≡ true → a ≡ b
-beq_true true true e = refl
-beq_true true false e = cc
-beq_true false true e = cc
-beq_true false false e = refl
 
 same_true : (u v : List Bool) → same_vector u v ≡ true → u ≡ v
 same_true [] [] e = refl
 same_true [] (b ∷ v) e = cc
 same_true (a ∷ u) [] e = cc
 same_true (a ∷ u) (b ∷ v) e =
-    let (h, k) = and_parts (beq a b) (same_vector u v) e in ap₂ (λ x xs. x ∷ xs) (beq_true a b h) (same_true u v k)
+    let (h, k) = and_parts (beq a b) (same_vector u v) e in ap₂ (λ x xs. x ∷ xs) (beq-true a b h) (same_true u v k)
 
 same_self : (u : List Bool) → same_vector u u ≡ true
 same_self [] = refl
@@ -145,7 +139,8 @@ module _ (characters : List ℕ) (different : Distinct characters)
       of_cell = λ c w i.
           let (a, b) = from_filter (λ w. nat_eq (place (vector T (naming T S) w) (vectors_of T (naming T S) rows)) c)
           w (shorter characters far) i in
-          ((shorter_is characters different scalars far w a).1, eqb-true (place (vector T (naming T S) w) (vectors_of T (naming T S) rows)) c b);
+          ((shorter_is characters different scalars far w a).1, eqb-true
+              (place (vector T (naming T S) w) (vectors_of T (naming T S) rows)) c b);
       differ = λ c. differ_filter (λ w. nat_eq (place (vector T (naming T S) w) (vectors_of T (naming T S) rows)) c)
           (shorter characters far) (shorter_differ characters different scalars far);
       all = exact_count;

@@ -1,17 +1,7 @@
 use Rattle.std.proofs.Common.{ℕ, zero, suc, ◌⊎◌, inl, inr, ⊎_elim, List, [], ◌∷◌, ◌++◌, map, take, Bool, refl, sym, subst}
 use Rattle.cell_laws.specs.Leading.{Leads, AllLead}
 use Rattle.list_laws.specs.In.{Distinct, IsIn}
-
-pub in_append : {A : Type 0} (x : A) (xs ys : List A) → IsIn x (xs ++ ys) → IsIn x xs ⊎ IsIn x ys
-in_append x [] ys h = inr h
-in_append x (a ∷ xs) ys (inl e) = inl (inl e)
-in_append x (a ∷ xs) ys (inr h) = ⊎_elim (λ l. inl (inr l)) (λ r. inr r) (in_append x xs ys h)
-
-pub in_take : {A : Type 0} (n : ℕ) (x : A) (xs : List A) → IsIn x (take n xs) → IsIn x xs
-in_take zero x xs h = absurd h
-in_take (suc n) x [] h = absurd h
-in_take (suc n) x (a ∷ xs) (inl e) = inl e
-in_take (suc n) x (a ∷ xs) (inr h) = inr (in_take n x xs h)
+use Rattle.list_laws.proofs.Lists.{in_append, in_take}
 
 pub distinct_take : {A : Type 0} (n : ℕ) (xs : List A) → Distinct xs → Distinct (take n xs)
 distinct_take zero xs d = tt

@@ -2,9 +2,10 @@ use Rattle.std.proofs.Common.{◌≡◌, ℕ, zero, suc, ◌+◌, ◌≤◌, ◌
 use Rattle.std.proofs.lemmas.List.{length-take, length-append, length-map}
 use Rattle.cell_laws.specs.Leading.{Leads, AllLead, HasWords, AtMost, IsCapacity, asked, IsStable}
 use Rattle.list_laws.proofs.Counts.{sum_over}
-use Rattle.cell_laws.proofs.Lists.{in_append, distinct_take, distinct_append, lead_take, lead_append, lead_map}
+use Rattle.cell_laws.proofs.Lists.{distinct_take, distinct_append, lead_take, lead_append, lead_map}
 use Rattle.cell_laws.proofs.Upper.{upper}
 use Rattle.list_laws.specs.In.{Distinct, IsIn}
+use Rattle.list_laws.proofs.Lists.{in_append, from_map}
 
 abbrev head_or : ℕ → List ℕ → ℕ
 head_or d [] = d
@@ -14,16 +15,10 @@ abbrev rest : List ℕ → List ℕ
 rest [] = []
 rest (c ∷ w) = w
 
-from_map : (c : ℕ) (w : List ℕ) (ws : List (List ℕ)) → IsIn w (map (λ w. c ∷ w) ws)
-    → (v : List ℕ) × (w ≡ c ∷ v) × IsIn v ws
-from_map c w [] i = absurd i
-from_map c w (v ∷ ws) (inl e) = (v, e, inl refl)
-from_map c w (v ∷ ws) (inr i) = let (u, e, k) = from_map c w ws i in (u, e, inr k)
-
 distinct_map : (c : ℕ) (ws : List (List ℕ)) → Distinct ws → Distinct (map (λ w. c ∷ w) ws)
 distinct_map c [] d = tt
 distinct_map c (w ∷ ws) d = (
-  (λ i. let (v, e, k) = from_map c (c ∷ w) ws i in d.0 (subst (λ z. IsIn z ws) (sym (ap rest e)) k)),
+  (λ i. let (v, k, e) = from_map (λ w. c ∷ w) (c ∷ w) ws i in d.0 (subst (λ z. IsIn z ws) (sym (ap rest e)) k)),
   distinct_map
       c ws d.1,
 )
@@ -58,12 +53,12 @@ module _ (letters : List ℕ) (to : ℕ → ℕ → ℕ) (in_cell : ℕ → Bool
         map (λ w. c ∷ w) ws ++ vs,
         length-append (map (λ w. c ∷ w) ws) vs ∙ ap₂ (λ a b. a + b) (length-map ws (λ w. c ∷ w) ∙ e) f,
         distinct_append (map (λ w. c ∷ w) ws) vs (distinct_map c ws k) m (λ x i j.
-            let (v, p, _) = from_map c x ws i in
+            let (v, _, p) = from_map (λ w. c ∷ w) x ws i in
             let (a, u, q, s) = b x j in
             d.0 (subst (λ z. IsIn z cs) (ap (head_or 0) (sym q ∙ p)) s)),
         lead_append letters to in_cell r (map (λ w. c ∷ w) ws) vs
             (lead_map letters to in_cell r c ws (sub c (inl refl)) h) g,
-        (λ w i. ⊎_elim (λ l. let (v, p, _) = from_map c w ws l in (c, v, p, inl refl))
+        (λ w i. ⊎_elim (λ l. let (v, _, p) = from_map (λ w. c ∷ w) w ws l in (c, v, p, inl refl))
             (λ j. let (a, u, q, s) = b w j in (a, u, q, inr s)) (in_append w (map (λ w. c ∷ w) ws) vs i)),
       )
 

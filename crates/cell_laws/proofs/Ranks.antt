@@ -1,31 +1,14 @@
 use Rattle.std.proofs.Common.{◌≡◌, ℕ, zero, suc, ◌+◌, ◌-◌, ◌≤◌, ◌<◌, ◌⊎◌, inl, inr, ⊎_elim, List, [], ◌∷◌, ◌++◌, map, get_or, nat_lt, Bool, true, false, cond, length, refl, ap, ap₂, sym, ◌∙◌, subst, arith}
 use Rattle.std.specs.List.{flat_map}
-use Rattle.std.proofs.lemmas.List.{length-append, length-map, append_assoc}
+use Rattle.std.proofs.lemmas.List.{length-append, length-map, append_assoc, get_or_append_left, get_or-map}
 use Rattle.std.proofs.lemmas.Bool.{ltb-true, ltb-false}
+use Rattle.std.proofs.Math.Seq.{get_or-append_right}
 use Rattle.cell_laws.specs.Leading.{Leads}
 use Rattle.list_laws.proofs.Counts.{sum_over}
-use Rattle.cell_laws.proofs.Lists.{lead_at, in_append}
+use Rattle.cell_laws.proofs.Lists.{lead_at}
 use Rattle.cell_laws.specs.FirstWords.{Lex, Before, IsOrdered, AreFirst, of_length, pick, word_at, count_of}
 use Rattle.list_laws.specs.In.{IsIn}
-
-get_left : {A : Type 0} (xs ys : List A) (k : ℕ) (d : A) → k < length xs → get_or (xs ++ ys) k d ≡ get_or xs k d
-get_left [] ys k d l = absurd (omega (arith, l))
-get_left (x ∷ xs) ys zero d l = refl
-get_left (x ∷ xs) ys (suc k) d l = get_left xs ys k d (omega (arith, l))
-
-get_right : {A : Type 0} (xs ys : List A) (k : ℕ) (d : A) → length xs ≤ k
-    → get_or (xs ++ ys) k d ≡ get_or ys (k - length xs) d
-get_right [] ys k d l = ap (λ z. get_or ys z d) (let e : k ≡ k - 0 = omega arith in e)
-get_right (x ∷ xs) ys zero d l = absurd (omega (arith, l))
-get_right (x ∷ xs) ys (suc k) d l =
-    get_right xs ys k d (omega (arith, l))
-    ∙ ap (λ z. get_or ys z d) (let e : k - length xs ≡ suc k - suc (length xs) = omega arith in e)
-
-get_map : (c : ℕ) (ws : List (List ℕ)) (k : ℕ) → k < length ws
-    → get_or (map (λ w. c ∷ w) ws) k [] ≡ c ∷ get_or ws k []
-get_map c [] k l = absurd (omega (arith, l))
-get_map c (w ∷ ws) zero l = refl
-get_map c (w ∷ ws) (suc k) l = get_map c ws k (omega (arith, l))
+use Rattle.list_laws.proofs.Lists.{in_append, in_right}
 
 module _ (letters : List ℕ) (to : ℕ → ℕ → ℕ) (in_cell : ℕ → Bool) where
   pub counted : (m r : ℕ) → length (of_length letters to in_cell m r) ≡ count_of letters to in_cell m r
@@ -83,14 +66,16 @@ module _ (letters : List ℕ) (to : ℕ → ℕ → ℕ) (in_cell : ℕ → Bool
           let j = ltb-true k (count m (to r c)) e in
           let q : k < count_of letters to in_cell m (to r c) =
           ⊎_elim (λ a. omega (arith, j, a)) (λ a. omega (arith, b, a.1)) (cut m (to r c)) in
-          get_left (map (λ w. c ∷ w) (of_length letters to in_cell m (to r c))) _ k [] (omega (arith, n, q))
-          ∙ get_map c (of_length letters to in_cell m (to r c)) k (let z = counted m (to r c) in omega (arith, z, q))
+          get_or_append_left (map (λ w. c ∷ w) (of_length letters to in_cell m (to r c))) _ [] k (omega (arith, n, q))
+          ∙ get_or-map (λ w. c ∷ w) (of_length letters to in_cell m (to r c)) k [] []
+              (let z = counted m (to r c) in omega (arith, z, q))
           ∙ ap (λ z. c ∷ z) (h (to r c) k b q)
       at false e more =
           let j = ltb-false k (count m (to r c)) e in
           let q : count m (to r c) ≡ count_of letters to in_cell m (to r c) =
           ⊎_elim (λ a. a) (λ a. absurd (omega (arith, b, j, a.0))) (cut m (to r c)) in
-          get_right (map (λ w. c ∷ w) (of_length letters to in_cell m (to r c))) _ k [] (omega (arith, n, j, q))
+          get_or-append_right (map (λ w. c ∷ w) (of_length letters to in_cell m (to r c))) _ k []
+              (omega (arith, n, j, q))
           ∙ ap (λ z. get_or (flat_map (λ c. map (λ w. c ∷ w) (of_length letters to in_cell m (to r c))) cs) (k - z)
           []) (n ∙ sym q)
           ∙ more (omega (arith, b)) (omega (arith, l, j, q)) h
@@ -130,10 +115,6 @@ module _ (rank : ℕ → ℕ) (letters : List ℕ)
 
   module _ (asym : (v w : List ℕ) → Before rank v w → Before rank w v → ⊥) (to : ℕ → ℕ → ℕ) (in_cell : ℕ → Bool)
       (r : ℕ) where
-    in_right : (x : List ℕ) (P V : List (List ℕ)) → IsIn x V → IsIn x (P ++ V)
-    in_right x [] V i = i
-    in_right x (p ∷ P) V i = inr (in_right x P V i)
-
     ordered_parts : (P V : List (List ℕ)) → IsOrdered (Before rank) (P ++ V)
         → ((x y : List ℕ) → IsIn x P → IsIn y V → Before rank x y) × IsOrdered (Before rank) V
     ordered_parts [] V o = ((λ x y i j. absurd i), o)

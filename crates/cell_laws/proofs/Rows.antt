@@ -8,22 +8,16 @@ use Rattle.word_states.specs.Atom.{Atom}
 use Rattle.word_states.specs.Classes.{class_firsts}
 use Rattle.word_states.specs.WordState.{have_same_state}
 use Rattle.word_states.specs.Rows.{AreRows, row_of, targets_of, longer_by_one}
-use Rattle.word_laws.proofs.Lists.{in_get, get_map}
+use Rattle.std.proofs.lemmas.List.{get_or-map}
+use Rattle.list_laws.proofs.Lists.{in_get}
 use Rattle.word_laws.proofs.Places.{place_below, place_same}
 use Rattle.word_laws.proofs.Mentions as M
 use Rattle.word_laws.proofs.Classes.{firsts_scalar}
 use Rattle.word_laws.proofs.States.{same_laws}
-use Rattle.word_laws.proofs.RowLaws.{rows_apart, rows_words, rows_all}
+use Rattle.word_laws.proofs.RowLaws.{rows_apart, rows_words, rows_all, all_end}
 use Rattle.cell_laws.specs.Leading.{walk}
 use Rattle.cell_laws.specs.RowTables.{IsRowOf, LeadsOn}
 use Rattle.cell_laws.proofs.Tables as T
-
-all_end : (w : List ℕ) (c : ℕ) → list_all is_scalar w ≡ true → is_scalar c ≡ true
-    → list_all is_scalar (w ++ c ∷ []) ≡ true
-all_end [] c e f = and_from (is_scalar c) true f refl
-all_end (d ∷ w) c e f =
-    let (g, h) = and_parts (is_scalar d) (list_all is_scalar w) e in
-    and_from (is_scalar d) (list_all is_scalar (w ++ c ∷ [])) g (all_end w c h f)
 
 -- a row's target by the number of a class
 abbrev pub target_in : List Atom → List (List ℕ) → ℕ → ℕ → ℕ
@@ -44,7 +38,7 @@ module _ (atoms : List Atom) (L : List (List ℕ)) (rows : AreRows atoms L) wher
       let v = get_or L r [] in
       let f = get_or (class_firsts atoms) k 0 in
       subst (λ z. IsRowOf atoms L (v ++ f ∷ []) z)
-      (sym (get_map (λ c. row_of atoms L (v ++ c ∷ [])) (class_firsts atoms) k 0 0 m))
+      (sym (get_or-map (λ c. row_of atoms L (v ++ c ∷ [])) (class_firsts atoms) k 0 0 m))
       (row_is (v ++ f ∷ [])
       (all_end v f (rows_words atoms L rows v (in_get L r [] l))
       (firsts_scalar atoms f (in_get (class_firsts atoms) k 0 m))))

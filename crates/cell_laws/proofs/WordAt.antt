@@ -1,19 +1,12 @@
 -- The k-th word of the list, found by counts: first its length, and then letter by letter.
 use Rattle.std.proofs.Common.{◌≡◌, ℕ, zero, suc, ◌-◌, ◌≤◌, ◌<◌, ◌⊎◌, inl, inr, List, [], ◌∷◌, ◌++◌, length, get_or, Bool, ap, sym, ◌∙◌, subst, arith}
 use Rattle.std.proofs.lemmas.Bool.{cases_eq}
-use Rattle.word_laws.proofs.Lists.{get_left}
+use Rattle.std.proofs.lemmas.List.{get_or_append_left}
+use Rattle.std.proofs.Math.Seq.{get_or-append_right}
 use Rattle.cell_laws.specs.FirstWords.{of_length, shorter, count_of, word_at}
 use Rattle.cell_laws.proofs.Ranks.{word_is}
 use Rattle.cell_laws.specs.Counting.{count}
 use Rattle.cell_laws.proofs.Settled.{count_is}
-
-get_right : {A : Type 0} (xs ys : List A) (k : ℕ) (d : A) → length xs ≤ k
-    → get_or (xs ++ ys) k d ≡ get_or ys (k - length xs) d
-get_right [] ys k d l = ap (λ z. get_or ys z d) (let e : k ≡ k - 0 = omega arith in e)
-get_right (x ∷ xs) ys zero d l = absurd (omega (arith, l))
-get_right (x ∷ xs) ys (suc k) d l =
-    get_right xs ys k d (omega (arith, l))
-    ∙ ap (λ z. get_or ys z d) (let e : k - length xs ≡ suc k - suc (length xs) = omega arith in e)
 
 module _ (letters : List ℕ) (to : ℕ → ℕ → ℕ) (in_cell : ℕ → Bool) where
   count_rises : (m n r : ℕ) → m ≤ n → count letters to in_cell m r ≤ count letters to in_cell n r
@@ -40,13 +33,15 @@ module _ (letters : List ℕ) (to : ℕ → ℕ → ℕ) (in_cell : ℕ → Bool
       | inr ne ↦
           let h = count_rises (suc m) n r (omega (arith, l, ne)) in
           let q = count_is letters to in_cell n r in
-          get_left k (shorter letters to in_cell n r) (of_length letters to in_cell n r) [] (omega (arith, h, q, b))
+          get_or_append_left (shorter letters to in_cell n r) (of_length letters to in_cell n r) [] k
+              (omega (arith, h, q, b))
           ∙ nth n m r k (omega (arith, l, ne)) a b c
     ] where
       here : get_or (shorter letters to in_cell m r ++ of_length letters to in_cell m r) k [] ≡ word_at letters to
           counts m r (k - count letters to in_cell m r)
       here =
           let q = count_is letters to in_cell m r in
-          get_right (shorter letters to in_cell m r) (of_length letters to in_cell m r) k [] (omega (arith, q, a))
+          get_or-append_right (shorter letters to in_cell m r) (of_length letters to in_cell m r) k []
+              (omega (arith, q, a))
           ∙ ap (λ z. get_or (of_length letters to in_cell m r) (k - z) []) q
           ∙ word_is letters to in_cell counts bound cut m r (k - count letters to in_cell m r) c (omega (arith, a, b))

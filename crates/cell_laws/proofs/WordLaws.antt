@@ -1,29 +1,10 @@
 use Rattle.std.proofs.Common.{◌≡◌, ℕ, zero, suc, ◌≤◌, ◌<◌, ◌⊎◌, inl, inr, ⊎_elim, List, [], ◌∷◌, ◌++◌, map, take, Bool, true, false, cond, length, refl, ap, sym, subst, arith}
 use Rattle.std.specs.List.{flat_map}
 use Rattle.cell_laws.specs.Leading.{walk, Leads}
-use Rattle.cell_laws.proofs.Lists.{in_append, in_take, lead_all}
+use Rattle.cell_laws.proofs.Lists.{lead_all}
 use Rattle.cell_laws.specs.FirstWords.{Lex, Before, IsOrdered, AreFirst, of_length, shorter, IsRelaxed, IsGreedy}
 use Rattle.list_laws.specs.In.{IsIn}
-
-in_left : {A : Type 0} (x : A) (xs ys : List A) → IsIn x xs → IsIn x (xs ++ ys)
-in_left x [] ys h = absurd h
-in_left x (a ∷ xs) ys (inl e) = inl e
-in_left x (a ∷ xs) ys (inr h) = inr (in_left x xs ys h)
-
-in_right : {A : Type 0} (x : A) (xs ys : List A) → IsIn x ys → IsIn x (xs ++ ys)
-in_right x [] ys h = h
-in_right x (a ∷ xs) ys h = inr (in_right x xs ys h)
-
-in_map : (c : ℕ) (w : List ℕ) (ws : List (List ℕ)) → IsIn w ws → IsIn (c ∷ w) (map (λ w. c ∷ w) ws)
-in_map c w [] i = absurd i
-in_map c w (v ∷ ws) (inl e) = inl (ap (λ z. c ∷ z) e)
-in_map c w (v ∷ ws) (inr i) = inr (in_map c w ws i)
-
-from_map : (c : ℕ) (w : List ℕ) (ws : List (List ℕ)) → IsIn w (map (λ w. c ∷ w) ws)
-    → (v : List ℕ) × (w ≡ c ∷ v) × IsIn v ws
-from_map c w [] i = absurd i
-from_map c w (v ∷ ws) (inl e) = (v, e, inl refl)
-from_map c w (v ∷ ws) (inr i) = let (u, e, k) = from_map c w ws i in (u, e, inr k)
+use Rattle.list_laws.proofs.Lists.{in_left, in_right, in_append, in_map, from_map, in_take}
 
 ordered_append : {A : Type 0} (R : A → A → Type 0) (xs ys : List A) → IsOrdered R xs → IsOrdered R ys
     → ((x y : A) → IsIn x xs → IsIn y ys → R x y) → IsOrdered R (xs ++ ys)
@@ -76,7 +57,8 @@ module _ (rank : ℕ → ℕ) where
     Of zero r [] h e = rw h.1 (inl refl)
     Of zero r (c ∷ w) h e = absurd (omega (arith, e))
     Of (suc m) r [] h e = absurd (omega (arith, e))
-    Of (suc m) r (c ∷ w) h e = go letters h.0.0 (in_map c w _ (Of m (to r c) w (h.0.1, h.1) (omega (arith, e)))) where
+    Of (suc m) r (c ∷ w) h e = go letters h.0.0 (in_map (λ w. c ∷ w) w _
+        (Of m (to r c) w (h.0.1, h.1) (omega (arith, e)))) where
       go : (cs : List ℕ) → IsIn c cs → IsIn (c ∷ w) (map (λ w. c ∷ w) (of_length letters to in_cell m (to r c)))
           → IsIn (c ∷ w) (flat_map (λ c. map (λ w. c ∷ w) (of_length letters to in_cell m (to r c))) cs)
       go [] i k = absurd i
@@ -101,7 +83,7 @@ module _ (rank : ℕ → ℕ) where
       go [] s i more = absurd i
       go (c ∷ cs) s i more =
           ⊎_elim
-          (λ l. let (v, q, k) = from_map c w _ l in
+          (λ l. let (v, k, q) = from_map (λ w. c ∷ w) w _ l in
           let (g, e) = more (to r c) v k in
           let n : length w ≡ suc (length v) = ap length q in
           (subst (λ z. Leads letters to in_cell r z) (sym q) ((s c (inl refl), g.0), g.1), omega (arith, n, e)))
@@ -121,8 +103,8 @@ module _ (rank : ℕ → ℕ) where
         mapped : (c : ℕ) (ws : List (List ℕ)) → IsOrdered (Lex rank) ws → IsOrdered (Lex rank) (map (λ w. c ∷ w) ws)
         mapped c [] h = tt
         mapped c (w ∷ ws) h = (
-          (λ y i. let (v, q, k) =
-              from_map c y ws i in subst (λ z. Lex rank (c ∷ w) z) (sym q) (inr (refl, h.0 v k))),
+          (λ y i. let (v, k, q) =
+              from_map (λ w. c ∷ w) y ws i in subst (λ z. Lex rank (c ∷ w) z) (sym q) (inr (refl, h.0 v k))),
           mapped c ws h.1,
         )
 
@@ -131,7 +113,7 @@ module _ (rank : ℕ → ℕ) where
             → (c : ℕ) × (v : List ℕ) × (y ≡ c ∷ v) × IsIn c cs
         begins y [] i = absurd i
         begins y (c ∷ cs) i =
-            ⊎_elim (λ l. let (v, q, k) = from_map c y _ l in (c, v, q, inl refl))
+            ⊎_elim (λ l. let (v, k, q) = from_map (λ w. c ∷ w) y _ l in (c, v, q, inl refl))
             (λ j. let (b, v, q, k) = begins y cs j in (b, v, q, inr k)) (in_append y _ _ i)
 
         go : (cs : List ℕ) → IsOrdered (λ c d. rank c < rank d) cs
@@ -141,7 +123,7 @@ module _ (rank : ℕ → ℕ) where
         go (c ∷ cs) o more =
             ordered_append (Lex rank) _ _ (mapped c _ (more (to r c))) (go cs o.1 more)
             (λ x y i j.
-            let (v, p, _) = from_map c x _ i in
+            let (v, _, p) = from_map (λ w. c ∷ w) x _ i in
             let (b, u, q, k) = begins y cs j in
             subst (λ z. Lex rank z y) (sym p) (subst (λ z. Lex rank (c ∷ v) z) (sym q) (inl (o.0 b k))))
 

@@ -3,10 +3,11 @@ use Rattle.std.specs.Prelude.{ℕ, ◌+◌, ◌-◌, ◌*◌, List, [], ◌∷�
 use Rattle.std.specs.Prelude.{Option, Some, None, option_map, option_and_then}
 use Rattle.std.specs.Char.{is_ascii_digit}
 use Rattle.documents.specs.Kind.{Kind, all_kinds}
+use Rattle.documents.specs.KindWords.{kind_word}
 use Rattle.goals.specs.Signed.{Signed, Plus, Minus}
 use Rattle.certificate_lines.specs.Line.{Line, Ending, Clashes, Cites, ShortEntry, Kept, Ends}
 use Rattle.certificate_lines.specs.Line as L
-use Rattle.certificate_lines.specs.Text.{kind_word, words_text}
+use Rattle.certificate_lines.specs.Text.{words_text}
 use Rattle.certificate_lines.specs.Pieces.{pieces, split_at, after_word, is_word}
 
 -- a list of what each text stands for; none where one stands for nothing

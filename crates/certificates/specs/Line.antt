@@ -2,7 +2,8 @@
 use Rattle.std.specs.Prelude.{◌≡◌, ℕ, List, [], ◌∷◌, ◌++◌, flat_map, Bool, true, nat_lt, nat_le, length, codes}
 use Rattle.std.specs.Fmt.{decimal}
 use Rattle.documents.specs.Tests.{every}
-use Rattle.documents.specs.Kind.{Kind, Null, Boolean, Number, Text, Array, Object}
+use Rattle.documents.specs.Kind.{Kind}
+use Rattle.documents.specs.KindWords.{kind_word}
 use Rattle.goals.specs.Signed.{Signed, Plus, Minus, position_of}
 
 pub data Line : Type 0 where
@@ -15,14 +16,6 @@ pub data Line : Type 0 where
   Clash : ℕ → Line
   OfKind : Signed → Line
   End : Line
-
-abbrev pub kind_word : Kind → List ℕ
-kind_word Null = codes "null"
-kind_word Boolean = codes "boolean"
-kind_word Number = codes "number"
-kind_word Text = codes "string"
-kind_word Array = codes "array"
-kind_word Object = codes "object"
 
 -- a sign and a position in decimal
 abbrev pub signed_text : Signed → List ℕ

@@ -67,4 +67,5 @@ below_child p (Some u) v child below e = below u (child u refl) e
 pub value_well_formed : (p : List (List ℕ)) (j v : Json) → is_json j ≡ true → value_at p j ≡ Some v → is_json v ≡ true
 value_well_formed [] j v h e = ap is_json (sym (same_Some j v e)) ∙ h
 value_well_formed (t ∷ p) j v h e =
-    below_child p (child_at t j) v (λ u is. child_well_formed t j u h is) (λ u well at. value_well_formed p u v well at) e
+    below_child p (child_at t j) v (λ u is. child_well_formed t j u h is)
+        (λ u well at. value_well_formed p u v well at) e

@@ -1,6 +1,7 @@
 -- What a reader must believe: what a document is, which values a JSON text can have, and which stands at a place.
 pub mod Tests
 pub mod Kind
+pub mod KindWords
 pub mod Document
 pub mod Json
 pub mod WellFormed

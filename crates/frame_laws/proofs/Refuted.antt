@@ -9,6 +9,7 @@ use Rattle.frames.specs.PlanLines.{Ending, Entry, Kept, Ends, PlanLine, Count, S
 use Rattle.list_laws.specs.In.{IsIn, Distinct}
 use Rattle.list_laws.proofs.Counts.{sum_over, up_from, subset_length, with_key, from_key, distinct_key, keyed, all_keyed, up_from_low, up_from_distinct, up_from_length}
 use Rattle.frame_laws.proofs.Arranged.{Arrangement, Meets, IsArranged, Stand, Fits, chosen, chosen_count, size_le, option_fits, placed_met, list_met}
+use Rattle.list_laws.proofs.Lists.{in_slice}
 
 module _ (T : List Position) (frame : Frame) (A : Arrangement) (k : IsArranged T frame A)
     (cite : ℕ → List Signed → Bool)
@@ -126,11 +127,6 @@ module _ (T : List Position) (frame : Frame) (A : Arrangement) (k : IsArranged T
       let d : length others ≡ A.count - frame.heads = up_from_length frame.heads (A.count - frame.heads) in
       omega (arith, a, b, c, d, k.low, size_le T frame A k p f)
 
-  slice_in : {S : Type 0} (x : S) (xs : List S) (i : ℕ) → slice_get xs i ≡ Some x → IsIn x xs
-  slice_in x [] i e = cc
-  slice_in x (y ∷ xs) zero e = inl cc
-  slice_in x (y ∷ xs) (suc i) e = inr (slice_in x xs i e)
-
   -- nothing is arranged by a plan that is shown dead
   abbrev pub IsFree : List Signed → Plan → Type 0
   IsFree left p = Fits T frame A p → ((d : Signed) → IsIn d left → IsIn d frame.demands) → ⊥
@@ -166,7 +162,7 @@ module _ (T : List Position) (frame : Frame) (A : Arrangement) (k : IsArranged T
             → is_refuted_at T cite frame o x ≡ true → ⊥
         go None q r = cc
         go (Some s) q r =
-            let (j, l, at, m) = placed_met T frame A k p f s (slice_in s (placed frame p) n q) in
+            let (j, l, at, m) = placed_met T frame A k p f s (in_slice s (placed frame p) n q) in
             let y : true ≡ false = sym r ∙ safe j (list_at frame s.0 s.1) x l m in cc
   after_free p [] (Short es) qs e more f w =
       go (rooms T cite frame p.members frame.cells es) refl

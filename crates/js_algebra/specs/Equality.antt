@@ -10,7 +10,8 @@ use Rattle.std.proofs.lemmas.Bool.{and_parts, true≢false}
 use Rattle.patterns.specs.Tree.{Tree}
 use Rattle.positions.specs.Position.{Pattern}
 use Rattle.goals.specs.Signed.{Signed, Plus, Minus, position_of, same_signed}
-use Rattle.js_pattern.specs.SameTree.{same_tree, same_tree-Decides}
+use Rattle.patterns.specs.SameTree.{same_tree}
+use Rattle.pattern_laws.proofs.SameTrees.{same_tree-Decides}
 use Rattle.js_pattern.specs.Fingerprint.{tree_print}
 
 abbrev is_plus : Signed → Bool

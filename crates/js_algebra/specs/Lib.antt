@@ -1,7 +1,6 @@
 -- What a reader must believe: the positions, kinds and signed positions that the program's values stand for.
 pub mod View
--- The words of the kinds, and when two goals or patterns are the same.
-pub mod KindWords
+-- When two goals or patterns are the same.
 pub mod Equality
 -- Sets of signed positions in the order in which their members came, and the rising list that each stands for.
 pub mod SignedSets

@@ -1,7 +1,7 @@
 //! The kinds of document in order, and their words.
 
 ghost use Rattle.std.specs.Prelude.{◌≡◌};
-ghost use Rattle.js_algebra.specs.KindWords.{kind_word};
+ghost use Rattle.documents.specs.KindWords.{kind_word};
 ghost use Rattle.js_algebra.specs.View.{kind_view};
 
 use crate::node::JsonKind;

@@ -8,7 +8,10 @@ use Rattle.std.proofs.lemmas.List.Folds.{list_any-append}
 use Rattle.std.proofs.lemmas.Map.Keys.{IsDistinct-push}
 use Rattle.patterns.specs.CharSet.{has, is_scalar, comes_no_later}
 use Rattle.word_states.specs.Classes.{are_alike, characters, firsts_among}
-use Rattle.word_laws.proofs.Lists.{IsIn, in_left, in_right, in_append, get_left, get_end}
+use Rattle.std.proofs.Math.Seq.{get_or-append_seam}
+use Rattle.std.proofs.lemmas.List.{get_or_append_left}
+use Rattle.list_laws.proofs.Lists.{in_left, in_right, in_append}
+use Rattle.list_laws.specs.In.{IsIn}
 use Rattle.word_laws.proofs.Mentions as M
 use Rattle.word_laws.proofs.Classes.{alike_laws}
 use Rattle.word_laws.proofs.Firsts.{Before, Rising, before_or_same, firsts_are, firsts_one}
@@ -208,14 +211,15 @@ classes-none sets k c within at = absurd (omega (arith, within))
 pub classes-push : (sets : List (List (ℕ × ℕ))) (cs : List Class) (c : Class) → AreClasses sets cs
     → IsClass sets c.set c.first → AreClasses sets (cs ++ c ∷ [])
 classes-push sets cs c a i = λ k e within at. elim (cases_lt k (length cs)) [
-  | inl l ↦ a k e l (at ∙ get_left k cs (c ∷ []) e l)
+  | inl l ↦ a k e l (at ∙ get_or_append_left cs (c ∷ []) e k l)
   | inr m ↦
       let q : k ≡ length cs = omega (arith, m, within, length-append cs (c ∷ [])) in
-      let p : e ≡ c = at ∙ ap (λ n. get_or (cs ++ c ∷ []) n e) q ∙ get_end cs c e in
+      let p : e ≡ c = at ∙ ap (λ n. get_or (cs ++ c ∷ []) n e) q ∙ get_or-append_seam cs c [] e in
       subst (λ z. IsClass sets z.set z.first) (sym p) i
 ]
 
-pub less-is : (after left rest set : List (ℕ × ℕ)) → ((c : ℕ) → has after c ≡ (is_scalar c && (has left c && has rest c)))
+pub less-is : (after left rest set : List (ℕ × ℕ)) → ((c : ℕ)
+    → has after c ≡ (is_scalar c && (has left c && has rest c)))
     → ((c : ℕ) → has rest c ≡ (is_scalar c && not (has set c)))
     → (c : ℕ) → has after c ≡ (is_scalar c && (has left c && (is_scalar c && not (has set c))))
 less-is after left rest set e f c = e c ∙ ap (λ r. is_scalar c && (has left c && r)) (f c)

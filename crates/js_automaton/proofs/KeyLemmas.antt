@@ -8,7 +8,8 @@ use Rattle.std.proofs.lemmas.Bool.{and_parts, and_from}
 use Rattle.word_states.specs.Atom.{Atom, Match, Words, LengthMin}
 use Rattle.word_states.specs.PatternState.{pattern_state}
 use Rattle.word_states.specs.WordState.{atom_state, matching, word_state, have_same_state}
-use Rattle.word_laws.proofs.Lists.{IsIn, in_left, in_right}
+use Rattle.list_laws.proofs.Lists.{in_left, in_right}
+use Rattle.list_laws.specs.In.{IsIn}
 use Rattle.word_laws.proofs.States.{state_decides, whole_state}
 use Rattle.js_nfa.specs.declared.state.PatternState as kept
 use Rattle.js_nfa.specs.View.{state_view}

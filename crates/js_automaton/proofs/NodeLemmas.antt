@@ -7,7 +7,8 @@ use Rattle.std.specs.Cmp.{both_ways}
 use Rattle.patterns.specs.Decision.{is_empty}
 use Rattle.word_states.specs.Atom.{Atom, Match, Words, LengthMin, same_word}
 use Rattle.word_states.specs.WordState.{is_prefix, begun, atom_state}
-use Rattle.word_laws.proofs.Lists.{IsIn, in_left, in_right, filter_head, filter_none}
+use Rattle.list_laws.proofs.Lists.{in_left, in_right, filter_head, filter_none}
+use Rattle.list_laws.specs.In.{IsIn}
 use Rattle.word_laws.proofs.States.{word_decides}
 use Rattle.word_laws.proofs.StateSteps.{begun_cases, whole_prefix}
 use Rattle.js_automaton.specs.Letters.{letters_of}

@@ -7,7 +7,8 @@ use Rattle.std.proofs.lemmas.Option.{get_or_from_slice_get, slice_get_cases}
 use Rattle.std.proofs.lemmas.Bool.Decides.{nat_tests}
 use Rattle.std.proofs.lemmas.Bool.{eqb-true, and_parts, cases_lt}
 use Rattle.std.proofs.lemmas.Map.Keys.{apart_from_distinct}
-use Rattle.word_laws.proofs.Lists.{get_left, get_end}
+use Rattle.std.proofs.Math.Seq.{get_or-append_seam}
+use Rattle.std.proofs.lemmas.List.{get_or_append_left}
 use Rattle.patterns.specs.CharSet.{has, is_within}
 use Rattle.word_states.specs.Classes.{are_alike}
 use Rattle.js_automaton.specs.Pieces.{AreRising, AreNumbers, AreSides, are_same_letter, are_like}
@@ -80,11 +81,12 @@ keyed-next old sides keys after new more i place x h is distinct longer stay wit
   ];
 } where
   first : (k : ℕ) → k < i → get_or more k 0 ≡ get_or new k 0
-  first k l = ap (λ xs. get_or xs k 0) pushed ∙ get_left k new (place ∷ []) 0 (omega (arith, l, h.long))
+  first k l = ap (λ xs. get_or xs k 0) pushed ∙ get_or_append_left new (place ∷ []) 0 k (omega (arith, l, h.long))
 
   last : (k : ℕ) → k ≡ i → get_or more k 0 ≡ place
   last k q =
-      ap (λ xs. get_or xs k 0) pushed ∙ ap (λ n. get_or (new ++ place ∷ []) n 0) (q ∙ sym h.long) ∙ get_end new place 0
+      ap (λ xs. get_or xs k 0) pushed ∙ ap (λ n. get_or (new ++ place ∷ []) n 0) (q ∙ sym h.long)
+          ∙ get_or-append_seam new place [] 0
 
 pub keyed-none : (old sides : List ℕ) (keys : List (ℕ × ℕ)) (new : List ℕ) → IsDistinct pair_eq keys → new ≡ []
     → AreKeyed old sides keys new 0
@@ -116,7 +118,7 @@ keyed-insert old sides keys after new more i place x h is distinct inserted (y, 
       stay : (b : Bool) → after ≡ (if b then keys else keys ++ x ∷ []) → (k : ℕ) → k < length keys
           → get_or after k (0, 0) ≡ get_or keys k (0, 0)
       stay true e k l = ap (λ ks. get_or ks k (0, 0)) e
-      stay false e k l = ap (λ ks. get_or ks k (0, 0)) e ∙ get_left k keys (x ∷ []) (0, 0) l
+      stay false e k l = ap (λ ks. get_or ks k (0, 0)) e ∙ get_or_append_left keys (x ∷ []) (0, 0) k l
 
       inside : ((z : ℕ × ℕ) × (place < length after) × (slice_get after place ≡ Some z) × (get_or after place z ≡ z))
           ⊎ ((length after ≤ place) × (slice_get after place ≡ None)) → place < length after

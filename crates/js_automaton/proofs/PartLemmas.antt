@@ -1,11 +1,11 @@
 -- Parts and patterns: the parts of patterns have their places in order, so the patterns' states are those of the atoms.
 use Rattle.std.proofs.Common.{◌≡◌, ℕ, zero, suc, ◌+◌, ◌<◌, ◌≤◌, true, nat_eq, List, [], ◌∷◌, ◌++◌, map, flat_map, length, drop, get_or, refl, sym, ◌∙◌, ap, ap₂, arith}
 use Rattle.std.proofs.lemmas.Bool.{eqb-true, eq-eqb, and_parts, and_from}
-use Rattle.std.proofs.lemmas.List.{map-append, length-map}
+use Rattle.std.proofs.lemmas.List.{map-append, length-map, get_or_append_left}
 use Rattle.patterns.specs.Tree.{Tree, empty}
 use Rattle.word_states.specs.Atom.{Match, Words, LengthMin}
 use Rattle.word_states.specs.PatternState.{pattern_state}
-use Rattle.word_laws.proofs.Lists.{get_left, get_end}
+use Rattle.std.proofs.Math.Seq.{get_or-append_seam}
 use Rattle.js_nfa.specs.declared.nfa.Nfa.{Nfa}
 use Rattle.js_nfa.specs.View.{tree_of}
 use Rattle.js_automaton.specs.declared.part.Part.{Part}
@@ -94,7 +94,8 @@ atoms-grow ts t k (P.Match i ∷ ps) e =
     let (a, b) = and_parts (nat_eq i k) (are_placed (suc k) ps (length ts)) e in
     let l = placed-le (suc k) ps (length ts) b in
     let q = eqb-true i k a in
-    ap₂ (λ x xs. Match x ∷ xs) (get_left i ts (t ∷ []) empty (omega (arith, l, q))) (atoms-grow ts t (suc k) ps b)
+    ap₂ (λ x xs. Match x ∷ xs) (get_or_append_left ts (t ∷ []) empty i (omega (arith, l, q)))
+        (atoms-grow ts t (suc k) ps b)
 atoms-grow ts t k (P.Words w ∷ ps) e = ap (λ xs. Words w ∷ xs) (atoms-grow ts t k ps e)
 atoms-grow ts t k (P.Length n ∷ ps) e = ap (λ xs. LengthMin n ∷ xs) (atoms-grow ts t k ps e)
 
@@ -106,7 +107,7 @@ atoms-match ns ps n e =
     ap (λ us. map (part_view us) (ps ++ P.Match (length ns) ∷ [])) (map-append tree_of ns (n ∷ []))
     ∙ map-append (part_view (ts ++ tree_of n ∷ [])) ps (P.Match (length ns) ∷ [])
     ∙ ap₂ (λ xs x. xs ++ Match x ∷ []) (atoms-grow ts (tree_of n) 0 ps (ap (are_placed 0 ps) long ∙ e))
-    (ap (λ i. get_or (ts ++ tree_of n ∷ []) i empty) (sym long) ∙ get_end ts (tree_of n) empty)
+    (ap (λ i. get_or (ts ++ tree_of n ∷ []) i empty) (sym long) ∙ get_or-append_seam ts (tree_of n) [] empty)
 
 pub atoms-part : (ns : List Nfa) (ps : List Part) (p : Part)
     → atoms_made ns (ps ++ p ∷ []) ≡ atoms_made ns ps ++ part_view (map tree_of ns) p ∷ []

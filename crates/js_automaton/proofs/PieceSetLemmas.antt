@@ -3,8 +3,8 @@ use Rattle.std.proofs.Common.{◌≡◌, ℕ, zero, suc, ◌+◌, ◌-◌, ◌<�
 use Rattle.std.specs.List.{Contains}
 use Rattle.std.proofs.lemmas.Bool.Decides.{nat_tests}
 use Rattle.std.proofs.lemmas.Bool.{cases_lt, cases_Bool}
-use Rattle.std.proofs.lemmas.List.{get_or_default, length-drop, take_all, take-append-drop}
-use Rattle.word_laws.proofs.Lists.{get_left, get_end}
+use Rattle.std.proofs.lemmas.List.{get_or_default, length-drop, take_all, take-append-drop, get_or_append_left}
+use Rattle.std.proofs.Math.Seq.{get_or-append_seam}
 use Rattle.patterns.specs.CharSet.{has, is_within, is_scalar, is_range}
 use Rattle.js_automaton.specs.Pieces.{AreTogether, AreRising, ArePlaces, AreNumbered, IsInPiece, HavePieces, AreRanges}
 
@@ -155,10 +155,10 @@ has_push (x ∷ rs) r d =
 
 ranges_push : (rs : List (ℕ × ℕ)) (r : ℕ × ℕ) → AreRanges rs → is_range r ≡ true → AreRanges (rs ++ r ∷ [])
 ranges_push rs r all is i l = elim (cases_lt i (length rs)) [
-  | inl less ↦ ap is_range (get_left i rs (r ∷ []) (0, 0) less) ∙ all i less
+  | inl less ↦ ap is_range (get_or_append_left rs (r ∷ []) (0, 0) i less) ∙ all i less
   | inr more ↦
       let q : i ≡ length rs = omega (arith, more, l, length-append rs (r ∷ [])) in
-      ap (λ n. is_range (get_or (rs ++ r ∷ []) n (0, 0))) q ∙ ap is_range (get_end rs r (0, 0)) ∙ is
+      ap (λ n. is_range (get_or (rs ++ r ∷ []) n (0, 0))) q ∙ ap is_range (get_or-append_seam rs r [] (0, 0)) ∙ is
 ]
 
 -- the pieces before i

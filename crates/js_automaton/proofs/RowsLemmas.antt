@@ -2,7 +2,7 @@
 use Rattle.std.proofs.Common.{◌≡◌, ℕ, zero, suc, ◌+◌, ◌*◌, ◌<◌, ◌≤◌, ◌⊎◌, inl, inr, List, [], ◌∷◌, ◌++◌, Bool, true, false, ◌||◌, not, cond, if◌then◌else◌, Some, slice_get, map, flat_map, take, get_or, length, refl, sym, ◌∙◌, ap, ap₂, subst, append-nil, append_assoc, length-append, arith}
 use Rattle.std.specs.List.{list_any, list_all, position_or_len}
 use Rattle.std.proofs.lemmas.Bool.{and_parts, and_from}
-use Rattle.std.proofs.lemmas.List.{map-append, length-map}
+use Rattle.std.proofs.lemmas.List.{map-append, length-map, get_or-map, take-append-le, get_or_append_left}
 use Rattle.std.proofs.lemmas.List.Concat.{flat_map-append}
 use Rattle.std.proofs.lemmas.List.Sums.{position_or_len_is}
 use Rattle.std.proofs.lemmas.Map.Keys.{apart_from_distinct}
@@ -16,7 +16,9 @@ use Rattle.word_states.specs.Rows.{HaveStates, row_of, targets_of, signature_of}
 use Rattle.word_laws.proofs.Mentions as M
 use Rattle.word_laws.proofs.Rows as R
 use Rattle.word_laws.proofs.RowLaws.{rows_bound, rows_words, rows_apart, row_below, row_truth, row_next}
-use Rattle.word_laws.proofs.Lists.{IsIn, in_get, get_map, take_left, get_left, take_next, take_whole}
+use Rattle.std.proofs.Math.Seq.{take-suc, take-length}
+use Rattle.list_laws.proofs.Lists.{in_get}
+use Rattle.list_laws.specs.In.{IsIn}
 use Rattle.word_laws.proofs.Classes.{alike_laws, firsts_scalar}
 use Rattle.word_laws.proofs.States.{same_laws}
 use Rattle.indexmap.specs.IndexSet.{insert_key}
@@ -84,7 +86,7 @@ flat-get f n e [] r k d a l m = absurd (omega (arith, l))
 flat-get f n e (x ∷ xs) zero k d a l m =
     let q : 0 * n + k ≡ k = omega arith in
     let b = e x in
-    ap (λ j. get_or (f x ++ flat_map f xs) j d) q ∙ get_left k (f x) (flat_map f xs) d (omega (arith, b, m))
+    ap (λ j. get_or (f x ++ flat_map f xs) j d) q ∙ get_or_append_left (f x) (flat_map f xs) d k (omega (arith, b, m))
 flat-get f n e (x ∷ xs) (suc r) k d a l m =
     ap (λ j. get_or (f x ++ flat_map f xs) j d) (more r n (length (f x)) k (e x))
     ∙ get-past (f x) (flat_map f xs) (r * n + k) d
@@ -210,7 +212,7 @@ module _ (atoms : List Atom) where
 
   word-next : (rows : List (List ℕ)) (i k : ℕ) → k < class_count atoms
       → next_word rows i k ≡ get_or (longer_words atoms (get_or rows i [])) k []
-  word-next rows i k l = sym (get_map (λ c. get_or rows i [] ++ c ∷ []) (class_firsts atoms) k 0 [] l)
+  word-next rows i k l = sym (get_or-map (λ c. get_or rows i [] ++ c ∷ []) (class_firsts atoms) k 0 [] l)
 
   longer-length : (w : List ℕ) → length (longer_words atoms w) ≡ class_count atoms
   longer-length w = length-map (class_firsts atoms) (λ c. w ++ c ∷ [])
@@ -222,14 +224,16 @@ module _ (atoms : List Atom) where
   before-next rows i k x within l f =
       let row = get_or rows i [] in
       let (X, p) = M.mention_grows same (same_laws atoms) rows x in
-      let t : take i (mention same rows x) ≡ take i rows = ap (λ z. take i z) p ∙ take_left i rows X within in
-      let g : get_or (mention same rows x) i [] ≡ row = ap (λ z. get_or z i []) p ∙ get_left i rows X [] within in
+      let t : take i (mention same rows x) ≡ take i rows = ap (λ z. take i z) p
+          ∙ take-append-le i rows X (omega (arith, within)) in
+      let g : get_or (mention same rows x) i [] ≡ row = ap (λ z. get_or z i []) p
+          ∙ get_or_append_left rows X [] i within in
       let n : k + 1 ≡ suc k = omega arith in
       let b : k < length (longer_words atoms row) = omega (arith, l, longer-length row) in
       ap (λ j. words_before atoms (mention same rows x) i j) n
       ∙ ap₂ (λ u v. flat_map (longer_words atoms) u ++ take (suc k) (longer_words atoms v)) t g
       ∙ ap (λ z. flat_map (longer_words atoms) (take i rows) ++ z)
-      (take_next k (longer_words atoms row) [] b
+      (take-suc (longer_words atoms row) k [] b
       ∙ ap (λ z. take k (longer_words atoms row) ++ z ∷ []) (sym (f ∙ word-next rows i k l)))
       ∙ sym (append_assoc (flat_map (longer_words atoms) (take i rows)) (take k (longer_words atoms row)) (x ∷ []))
 
@@ -324,11 +328,11 @@ module _ (atoms : List Atom) where
     before-row =
         let row = get_or f.rows i [] in
         let whole : take (class_count atoms) (longer_words atoms row) ≡ longer_words atoms row =
-        ap (λ n. take n (longer_words atoms row)) (sym (longer-length row)) ∙ take_whole (longer_words atoms row) in
+        ap (λ n. take n (longer_words atoms row)) (sym (longer-length row)) ∙ take-length (longer_words atoms row) in
         ap (λ z. flat_map (longer_words atoms) (take i f.rows) ++ z)
         (whole ∙ sym (append-nil (longer_words atoms row)))
         ∙ sym (flat_map-append (longer_words atoms) (take i f.rows) (row ∷ []))
-        ∙ ap (λ z. flat_map (longer_words atoms) z) (sym (take_next i f.rows [] f.within))
+        ∙ ap (λ z. flat_map (longer_words atoms) z) (sym (take-suc f.rows i [] f.within))
 
     pub found-row : i + 1 < length keys → IsFound atoms keys numbers (i + 1) 0
     found-row l =
@@ -350,7 +354,7 @@ module _ (atoms : List Atom) where
     found-all e few =
         let size = states-length keys f.rows f.states in
         let last : suc i ≡ length f.rows = omega (arith, e, size) in
-        let whole : take (suc i) f.rows ≡ f.rows = ap (λ n. take n f.rows) last ∙ take_whole f.rows in (
+        let whole : take (suc i) f.rows ≡ f.rows = ap (λ n. take n f.rows) last ∙ take-length f.rows in (
           f.rows,
           (
             R.end_building same (same_laws atoms) (longer_words atoms) [] f.rows i building last,
@@ -428,7 +432,7 @@ module _ (atoms : List Atom) where
         let f : ℕ → ℕ = λ c. row_of atoms h.0 (get_or h.0 r [] ++ c ∷ []) in
         e ∙ ap (λ ns. get_or ns (r * class_count atoms + k) x) h.1.2
         ∙ flat-get (targets_of atoms h.0) (class_count atoms) targets-length h.0 r k x [] l m
-        ∙ get_map f (class_firsts atoms) k 0 x m ∙ sym (get_map f (class_firsts atoms) k 0 0 m)
+        ∙ get_or-map f (class_firsts atoms) k 0 x m ∙ sym (get_or-map f (class_firsts atoms) k 0 0 m)
 
     pub target-below : (r k x : ℕ) → r < length h.0 → k < class_count atoms
         → x ≡ get_or (targets_of atoms h.0 (get_or h.0 r [])) k 0 → x < length h.0
@@ -436,7 +440,7 @@ module _ (atoms : List Atom) where
         let w = get_or h.0 r [] in
         let c = get_or (class_firsts atoms) k 0 in
         let q : x ≡ row_of atoms h.0 (w ++ c ∷ []) =
-        e ∙ get_map (λ c. row_of atoms h.0 (w ++ c ∷ [])) (class_firsts atoms) k 0 0 m in
+        e ∙ get_or-map (λ c. row_of atoms h.0 (w ++ c ∷ [])) (class_firsts atoms) k 0 0 m in
         let b = all-below (w ++ c ∷ [])
         (all-end is_scalar w c (rows_words atoms h.0 h.1.0 w (in_get h.0 r [] l)) (first-scalar k m)) in
         omega (arith, q, b)
@@ -449,7 +453,7 @@ module _ (atoms : List Atom) where
 
     pub truth-at : (i : ℕ) (w : List ℕ) (b : Bool) → i < length atoms → b ≡ is_true (get_or atoms i (LengthMin 0)) w
         → b ≡ get_or (signature_of atoms w) i false
-    truth-at i w b l e = e ∙ sym (get_map (λ a. is_true a w) atoms i (LengthMin 0) false l)
+    truth-at i w b l e = e ∙ sym (get_or-map (λ a. is_true a w) atoms i (LengthMin 0) false l)
 
     pub truth-words : (r i : ℕ) (b : Bool) → i < length atoms
         → b ≡ get_or (signature_of atoms (get_or h.0 r [])) i false
@@ -458,4 +462,4 @@ module _ (atoms : List Atom) where
     truth-words r i b l e w s p =
         e ∙ ap (λ j. get_or (signature_of atoms (get_or h.0 j [])) i false) p
         ∙ ap (λ bs. get_or bs i false) (row_truth atoms h.0 h.1.0 w s)
-        ∙ get_map (λ a. is_true a w) atoms i (LengthMin 0) false l
+        ∙ get_or-map (λ a. is_true a w) atoms i (LengthMin 0) false l

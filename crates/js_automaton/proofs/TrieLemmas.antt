@@ -2,11 +2,12 @@
 use Rattle.std.proofs.Common.{◌≡◌, ℕ, suc, ◌+◌, ◌<◌, ◌≤◌, ◌⊎◌, inl, inr, Bool, true, false, ◌||◌, not, nat_eq, nat_lt, cond, if◌then◌else◌, List, [], ◌∷◌, ◌++◌, Option, Some, None, length, reverse, get_or, refl, sym, ◌∙◌, ap, ap₂, subst, arith, append-nil, append_assoc, length-append}
 use Rattle.std.specs.List.{list_any, position, position_or_len}
 use Rattle.std.proofs.lemmas.Bool.{eqb-true, eq-eqb, and_parts, and_from}
-use Rattle.std.proofs.lemmas.List.{reverse-append, reverse-reverse}
+use Rattle.std.proofs.lemmas.List.{reverse-append, reverse-reverse, get_or_append_left}
 use Rattle.std.proofs.lemmas.List.Quantifiers.{position-Some}
 use Rattle.word_states.specs.Mention.{mention}
 use Rattle.word_states.specs.WordState.{is_prefix}
-use Rattle.word_laws.proofs.Lists.{IsIn, get_left, get_end}
+use Rattle.std.proofs.Math.Seq.{get_or-append_seam}
+use Rattle.list_laws.specs.In.{IsIn}
 use Rattle.js_automaton.specs.Trie.{same_edge, after_edge, child, child_of, walk, with_word, with_words, edges_of, node_of}
 
 -- ---- places
@@ -330,10 +331,11 @@ module _ (P : List ℕ → Type 0) where
           bounded i (inl h) =
               let g = length-append E ((n, c) ∷ []) in
               let s = b i h in
-              let x = ap (λ y. y.0) (get_left i E ((n, c) ∷ []) (0, 0) h) in omega (arith, g, s, x)
+              let x = ap (λ y. y.0) (get_or_append_left E ((n, c) ∷ []) (0, 0) i h) in omega (arith, g, s, x)
           bounded i (inr h) =
               let g = length-append E ((n, c) ∷ []) in
-              let x = ap (λ j. (get_or (E ++ (n, c) ∷ []) j (0, 0)).0) h ∙ ap (λ y. y.0) (get_end E (n, c) (0, 0)) in
+              let x = ap (λ j. (get_or (E ++ (n, c) ∷ []) j (0, 0)).0) h
+                  ∙ ap (λ y. y.0) (get_or-append_seam E (n, c) [] (0, 0)) in
               omega (arith, g, x, l)
 
   word-known : (q r : List ℕ) (E : List (ℕ × ℕ)) (n : ℕ) → Bounded E → n ≤ length E → back E r ≡ Some n → Known E

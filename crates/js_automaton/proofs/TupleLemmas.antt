@@ -12,8 +12,9 @@ use Rattle.word_states.specs.Classes.{are_alike, dividers, class_firsts, class_c
 use Rattle.word_states.specs.PatternState.{pattern_state}
 use Rattle.word_states.specs.WordState.{atom_state, least_length, greatest_least, word_state}
 use Rattle.state_laws.specs.Flow.{next_state, is_accepted}
-use Rattle.state_laws.proofs.States.{state_goes_on, state_decides}
-use Rattle.word_laws.proofs.Lists.{IsIn, in_get}
+use Rattle.state_laws.proofs.States.{state_goes_on, state_decides, not_empty}
+use Rattle.list_laws.proofs.Lists.{in_get}
+use Rattle.list_laws.specs.In.{IsIn}
 use Rattle.word_laws.proofs.StateSteps.{state_next, whole_prefix}
 use Rattle.js_nfa.specs.declared.nfa.Nfa.{Nfa}
 use Rattle.js_nfa.specs.declared.state.PatternState as kept
@@ -218,10 +219,7 @@ step-done atoms s made first c w h e p n l a =
           n ∙ ap (λ o. child_of (edges_of (listed atoms)) o first) h.node
           ∙ sym (walk-append (edges_of (listed atoms)) (Some 0) w (first ∷ []));
       length = omega (arith, l, h.length, length-append w (first ∷ []));
-    }) where
-      not_empty : (w : List ℕ) (c : ℕ) → is_empty (w ++ c ∷ []) ≡ false
-      not_empty [] c = refl
-      not_empty (d ∷ w) c = refl
+    })
 
 -- the first character of a class is like each of it
 pub first-alike : (atoms : List Atom) (classes : List Class) (k : ℕ) (x : Class) (d : ℕ)

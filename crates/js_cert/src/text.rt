@@ -1,7 +1,7 @@
 //! The text of lines: each has one spelling, and ends with a line feed.
 
 ghost use Rattle.std.specs.Prelude.{◌≡◌, ◌++◌, map, IfOk, OnOk, string_bytes};
-ghost use Rattle.certificates.specs.Line.{line_text, lines_text, words_text, signed_text, signed_list_text, kind_word};
+ghost use Rattle.certificates.specs.Line.{line_text, lines_text, words_text, signed_text, signed_list_text};
 ghost use Rattle.js_algebra.specs.View.{signed_view, kind_view};
 ghost use Rattle.js_cert.specs.View.{line_view};
 
@@ -53,7 +53,7 @@ fn append_words(out: &mut String, line: &CertLine) -> Result<(), Memory>
         CertLine::Entry(number) => write!(out, "entry {number}")?,
         CertLine::At(kind) => {
             out.push_str("at ")?;
-            out.push_str(word(*kind))?;
+            out.push_str(kind.as_word())?;
         }
         CertLine::Rule(x) => {
             out.push_str("rule ")?;
@@ -93,18 +93,4 @@ fn append_signed(out: &mut String, x: Signed) -> Result<(), Memory>
         write!(out, "-{place}")?;
     }
     Ok(())
-}
-
-/// The word of a kind, as the keyword `type` writes it.
-fn word(kind: JsonKind) -> &'static str
-    ensures { result.now ≡ kind_word (kind_view kind) }
-{
-    match kind {
-        JsonKind::Null => "null",
-        JsonKind::Boolean => "boolean",
-        JsonKind::Number => "number",
-        JsonKind::Text => "string",
-        JsonKind::Array => "array",
-        JsonKind::Object => "object",
-    }
 }

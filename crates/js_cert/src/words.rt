@@ -85,21 +85,12 @@ pub fn signed_after(text: &[u8], word: &[u8]) -> Option<Signed>
 pub fn kind(text: &[u8]) -> Option<JsonKind>
     ensures { option_map kind_view result ≡ kind_of_word text.now }
 {
-    if is_word(text, b"null") {
-        Some(JsonKind::Null)
-    } else if is_word(text, b"boolean") {
-        Some(JsonKind::Boolean)
-    } else if is_word(text, b"number") {
-        Some(JsonKind::Number)
-    } else if is_word(text, b"string") {
-        Some(JsonKind::Text)
-    } else if is_word(text, b"array") {
-        Some(JsonKind::Array)
-    } else if is_word(text, b"object") {
-        Some(JsonKind::Object)
-    } else {
-        None
+    for kind in JsonKind::ALL {
+        if is_word(text, kind.as_word().as_bytes()) {
+            return Some(kind);
+        }
     }
+    None
 }
 
 /// Signed positions, each after a blank.

@@ -2,7 +2,7 @@
 -- ASCII.
 use Rattle.std.specs.Prelude.{ℕ, suc, List, [], ◌∷◌, ◌++◌, length, map, flat_map, Bool, true, false, codes}
 use Rattle.std.specs.Fmt.{decimal, signed_decimal}
-use Rattle.documents.specs.Kind.{Kind, Null, Boolean, Number, Text, Array, Object}
+use Rattle.documents.specs.KindWords.{kind_word}
 use Rattle.positions.specs.Position.{NameSet, Named, Matching, Others, Position, True, False, Same, Not, All, Any, One, Depends, Types, BoolIs, NumMin, NumMax, Multiple, NumIn, Words, Match, LengthMin, LengthMax, Items, Contains, CountMin, CountMax, MembersOf, Has, PropsMin, PropsMax, NamesIn}
 use Rattle.js_json.specs.Pointer.{quoted}
 
@@ -19,15 +19,6 @@ string_text w = 32 ∷ quoted w
 
 abbrev pub strings_text : List (List ℕ) → List ℕ
 strings_text ws = flat_map string_text ws
-
--- the word of a kind is the one that `type` has for it
-abbrev pub kind_word : Kind → List ℕ
-kind_word Null = codes "null"
-kind_word Boolean = codes "boolean"
-kind_word Number = codes "number"
-kind_word Text = codes "string"
-kind_word Array = codes "array"
-kind_word Object = codes "object"
 
 abbrev pub truth_word : Bool → List ℕ
 truth_word true = codes "true"

@@ -1,6 +1,7 @@
 //! The lines of a table.
 
 ghost use Rattle.std.specs.Prelude.{◌≡◌, ◌++◌, ◌∷◌, IfOk, OnOk, flat_map, map, string_bytes};
+ghost use Rattle.documents.specs.KindWords.{kind_word};
 ghost use Rattle.js_algebra.specs.View.{kind_view, node_view, name_set_view};
 ghost use Rattle.js_core_text.specs.CoreText as T;
 
@@ -109,7 +110,7 @@ fn word(node: &Node) -> &'static str
 
 fn push_kinds(out: &mut String, kinds: &[JsonKind]) -> Result<(), Memory>
     ensures { OnOk result (string_bytes out.new
-        ≡ string_bytes out.old ++ flat_map (λ t. 32 ∷ T.kind_word t) (map kind_view kinds.now)) }
+        ≡ string_bytes out.old ++ flat_map (λ t. 32 ∷ kind_word t) (map kind_view kinds.now)) }
 {
     for kind in kinds {
         push_kind(out, *kind)?;
@@ -118,25 +119,11 @@ fn push_kinds(out: &mut String, kinds: &[JsonKind]) -> Result<(), Memory>
 }
 
 fn push_kind(out: &mut String, kind: JsonKind) -> Result<(), Memory>
-    ensures { OnOk result (string_bytes out.new ≡ string_bytes out.old ++ 32 ∷ T.kind_word (kind_view kind)) }
+    ensures { OnOk result (string_bytes out.new ≡ string_bytes out.old ++ 32 ∷ kind_word (kind_view kind)) }
 {
     out.push_str(" ")?;
-    out.push_str(kind_word(kind))?;
+    out.push_str(kind.as_word())?;
     Ok(())
-}
-
-/// The word that `type` has for a kind.
-fn kind_word(kind: JsonKind) -> &'static str
-    ensures { result.now ≡ T.kind_word (kind_view kind) }
-{
-    match kind {
-        JsonKind::Null => "null",
-        JsonKind::Boolean => "boolean",
-        JsonKind::Number => "number",
-        JsonKind::Text => "string",
-        JsonKind::Array => "array",
-        JsonKind::Object => "object",
-    }
 }
 
 fn push_truth(out: &mut String, truth: bool) -> Result<(), Memory>

@@ -11,7 +11,6 @@ ghost use Rattle.certificate_lines.specs.Text.{
   ending_text,
   entry_text,
   list_text,
-  kind_word,
 };
 ghost use Rattle.js_algebra.specs.View.{signed_view, kind_view};
 ghost use Rattle.js_lines.specs.View.{line_view, end_view, entry_view};
@@ -192,20 +191,6 @@ fn append_kind(out: &mut String, kind: JsonKind) -> Result<(), Memory>
     ensures { OnOk result (string_bytes out.new ≡ string_bytes out.old ++ words_text (At (kind_view kind))) }
 {
     out.push_str("at ")?;
-    out.push_str(word(kind))?;
+    out.push_str(kind.as_word())?;
     Ok(())
-}
-
-/// The word of a kind, as the keyword `type` writes it.
-fn word(kind: JsonKind) -> &'static str
-    ensures { result.now ≡ kind_word (kind_view kind) }
-{
-    match kind {
-        JsonKind::Null => "null",
-        JsonKind::Boolean => "boolean",
-        JsonKind::Number => "number",
-        JsonKind::Text => "string",
-        JsonKind::Array => "array",
-        JsonKind::Object => "object",
-    }
 }

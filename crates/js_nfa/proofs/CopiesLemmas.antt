@@ -163,7 +163,8 @@ module _ (read : ℕ → Bool) where
       → flags_of ((bits * 2 + first) ∷ []) count ≡ moved count base begins
   flags_of-copies zero base bits first begins some one h e = absurd (omega (arith, some))
   flags_of-copies (suc count) base bits first begins some one h e =
-      ext_get_or false _ _ (length-flags_of ((bits * 2 + first) ∷ []) (suc count) ∙ sym (length-moved (suc count) base begins))
+      ext_get_or false _ _ (length-flags_of ((bits * 2 + first) ∷ []) (suc count)
+          ∙ sym (length-moved (suc count) base begins))
       (λ p l. let within : p < suc count = rw length-flags_of at l in
       get_or-flags_of ((bits * 2 + first) ∷ []) (suc count) p within ∙ each p within) where
         inside : (p : ℕ) → p < 64 → bit_of ((bits * 2 + first) ∷ []) p ≡ eqb (bit_at (bits * 2 ^ 1 + first) p) 1
@@ -180,7 +181,8 @@ module _ (read : ℕ → Bool) where
         least true = omega arith
         least false = omega arith
 
-        each : (p : ℕ) → p < suc count → bit_of ((bits * 2 + first) ∷ []) p ≡ get_or (moved (suc count) base begins) p false
+        each : (p : ℕ) → p < suc count → bit_of ((bits * 2 + first) ∷ []) p
+            ≡ get_or (moved (suc count) base begins) p false
         each zero l =
             inside 0 (omega arith)
             ∙ ap (λ x. eqb x 1) (bit_at_cat_low bits 1 first 0 (omega arith) ∙ ap (λ f. bit_at f 0) e)

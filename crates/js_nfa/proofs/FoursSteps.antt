@@ -141,8 +141,10 @@ choice-read : (read : ℕ → Bool) (first i : ℕ) → i < 4 → eqb (bit_at (c
 choice-read read first zero h =
     four-first (read first) (read (first + 1)) (read (first + 2)) (read (first + 3)) ∙ ap read (omega arith)
 choice-read read first (suc zero) h = four-second (read first) (read (first + 1)) (read (first + 2)) (read (first + 3))
-choice-read read first (suc (suc zero)) h = four-third (read first) (read (first + 1)) (read (first + 2)) (read (first + 3))
-choice-read read first (suc (suc (suc zero))) h = four-fourth (read first) (read (first + 1)) (read (first + 2)) (read (first + 3))
+choice-read read first (suc (suc zero)) h = four-third (read first) (read (first + 1)) (read (first + 2))
+    (read (first + 3))
+choice-read read first (suc (suc (suc zero))) h = four-fourth (read first) (read (first + 1)) (read (first + 2))
+    (read (first + 3))
 choice-read read first (suc (suc (suc (suc i)))) h = absurd (omega (arith, h))
 
 -- ---- unions
@@ -240,7 +242,8 @@ chosen_rows-more rows first bits n x before after e bit is f =
     ∙ sym (ap (λ b. or_each (chosen_rows rows first bits n) (if b then row rows (first + n) else [])) bit)
     ∙ ap (chosen_rows rows first bits) next
 
-pub chosen_rows-still : (rows : List Marks) (first bits n : ℕ) (before : List Bool) → before ≡ chosen_rows rows first bits n
+pub chosen_rows-still : (rows : List Marks) (first bits n : ℕ) (before : List Bool)
+    → before ≡ chosen_rows rows first bits n
     → (if eqb (bit_at bits n) 1 then row rows (first + n) else []) ≡ [] → before ≡ chosen_rows rows first bits (n + 1)
 chosen_rows-still rows first bits n before e none =
     let next : suc n ≡ n + 1 = omega arith in

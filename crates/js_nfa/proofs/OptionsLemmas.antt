@@ -19,7 +19,8 @@ use Rattle.js_nfa.proofs.CopiesLemmas.{next_after-same}
 use Rattle.js_nfa.proofs.Through.{ends_repeated, reads_repeated}
 
 -- ---- ones
-pub flags_of-ones : (count : ℕ) → count ≤ 64 → flags_of (((2 ^ 64 - 1) / 2 ^ (64 - count)) ∷ []) count ≡ replicate count true
+pub flags_of-ones : (count : ℕ) → count ≤ 64 → flags_of (((2 ^ 64 - 1) / 2 ^ (64 - count)) ∷ []) count
+    ≡ replicate count true
 flags_of-ones count h =
     let back : 64 - (64 - count) ≡ count = omega (arith, h) in
     ap (λ x. flags_of (x ∷ []) count) (ones_shr 64 (64 - count) (omega arith) ∙ ap (λ k. 2 ^ k - 1) back)
@@ -68,7 +69,8 @@ options-next read (suc left) flags after here was some e f g =
     ∙ sym (ap (λ b. flags ++ options_begun read (suc left) (length flags) b) e)
 
 -- ---- all copies
-module _ (t : Tree) (c : ℕ) (within : Bool) (set : IsOptionThat within t c) (first : Bool) (read : ℕ → Bool) (low n : ℕ) where
+module _ (t : Tree) (c : ℕ) (within : Bool) (set : IsOptionThat within t c) (first : Bool) (read : ℕ → Bool)
+    (low n : ℕ) where
   option-next : (at : ℕ) (b : Bool) → reads_next t first read c at b ≡ (b && within) ∷ []
   option-next at b =
       ap (λ s. reads_next s first read c at b) set.1 ∙ ap (λ w. (b && w) ∷ []) (sym set.2)
@@ -96,7 +98,8 @@ module _ (t : Tree) (c : ℕ) (within : Bool) (set : IsOptionThat within t c) (f
   options-reads_some flags after begins e f =
       f ∙ ap (λ z. flags ++ z)
       (sym (next_after-same false (λ at some. (some && within) ∷ []) (λ at some. some ∷ []) (λ at some. some || read at)
-      (λ at some. some || read at) 1 (λ at b. ap (λ w. (b && w) ∷ []) e ∙ ap (λ x. x ∷ []) (and-true b)) (λ at b. refl) n
+      (λ at some. some || read at) 1 (λ at b. ap (λ w. (b && w) ∷ []) e ∙ ap (λ x. x ∷ []) (and-true b))
+          (λ at b. refl) n
       (length flags) begins)
       ∙ options-whole flags begins)
 
@@ -129,7 +132,8 @@ module _ (t : Tree) (c : ℕ) (within : Bool) (set : IsOptionThat within t c) (f
         more : (low i : ℕ) → nat_le low i ≡ true → nat_le low (suc i) ≡ true
         more low i e = le-leb low (suc i) (omega (arith, leb-true low i e))
 
-        later : (x y here was : Bool) → (x ≡ true → y ≡ true) → ((x && here) || (y && (here || was))) ≡ (y && (here || was))
+        later : (x y here was : Bool) → (x ≡ true → y ≡ true)
+            → ((x && here) || (y && (here || was))) ≡ (y && (here || was))
         later true true true was h = refl
         later true true false was h = refl
         later true false here was h = absurd (cc (h refl))
@@ -143,6 +147,7 @@ module _ (t : Tree) (c : ℕ) (within : Bool) (set : IsOptionThat within t c) (f
       sym (ends_after-options (λ at some. ends_here t first last read at some) (option-one last) n 0 base begins
       (nat_le low 0 && begins) refl
       ∙ ap (λ j. nat_le low j && (begins || some_in read n base)) all)
-      ∙ ap (λ k. ends_after (λ at some. ends_here t first last read at some) k low n 0 base begins (nat_le low 0 && begins))
+      ∙ ap (λ k. ends_after (λ at some. ends_here t first last read at some) k low n 0 base begins
+          (nat_le low 0 && begins))
       (sym option-count)
       ∙ ends_repeated first last read t low (Some n) base begins

@@ -118,7 +118,8 @@ ends-none first last read t base begins e q =
     sym (ap (ends_here t first last read base) e ∙ ends-quiet first read last t base q)
 
 pub reads-none : (first : Bool) (read : ℕ → Bool) (c : ℕ) (t : Tree) (flags after : List Bool) (begins : Bool)
-    (count : ℕ) → begins ≡ false → Quiet read (length flags) → count ≡ count_of t → after ≡ flags ++ replicate count false
+    (count : ℕ) → begins ≡ false → Quiet read (length flags) → count ≡ count_of t → after ≡ flags
+        ++ replicate count false
     → after ≡ flags ++ reads_next t first read c (length flags) begins
 reads-none first read c t flags after begins count e q size f =
     f ∙ ap (λ k. flags ++ replicate k false) size

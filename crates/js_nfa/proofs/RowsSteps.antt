@@ -4,14 +4,14 @@
 -- characters; that is enough where those characters have every position that some character of ASCII has.
 use Rattle.std.proofs.Common.{◌≡◌, ℕ, zero, suc, ◌+◌, ◌<◌, ◌≤◌, inl, inr, Bool, true, false, ◌&&◌, ◌||◌, if◌then◌else◌, List, [], ◌∷◌, ◌++◌, length, replicate, get_or, take, refl, sym, ◌∙◌, ap, ap₂, subst, arith}
 use Rattle.std.proofs.Math.Path.{fun_ext}
-use Rattle.std.proofs.Math.Bool.{or_assoc}
+use Rattle.std.proofs.Math.Bool.{or_assoc, or-false, or-true}
 use Rattle.std.proofs.lemmas.List.{take_more, get_or_read}
 use Rattle.std.proofs.lemmas.Bool.{eq-eqb, ne_eqb, cases_eq, cases_lt}
 use Rattle.patterns.specs.Tree.{Tree}
 use Rattle.word_states.specs.Position.{count_of, sets_of}
 use Rattle.state_laws.specs.Flow.{flag_at, ends_here, reads_next}
 use Rattle.state_laws.specs.Rows.{or_each, and_each, sets_have, none_read, only, may_follow, follow_each, ends_each}
-use Rattle.state_laws.proofs.RowsLemmas.{or_nothing, or_true, and_joined, or_each_none, flags_join}
+use Rattle.state_laws.proofs.RowsLemmas.{and_joined, or_each_none, flags_join}
 use Rattle.state_laws.proofs.Sets.{next_asks_sets}
 use Rattle.state_laws.proofs.Each.{ends_of_each, next_of_each}
 use Rattle.js_nfa.specs.Marks.{Marks}
@@ -89,14 +89,14 @@ flag-last (x ∷ xs) b = flag-last xs b
 -- ---- characters that are shown
 pub shown-append : (t : Tree) (cs : List ℕ) (c q : ℕ)
     → is_shown t (cs ++ c ∷ []) q ≡ (is_shown t cs q || flag_at (sets_have (sets_of t) c) q)
-shown-append t [] c q = or_nothing (flag_at (sets_have (sets_of t) c) q)
+shown-append t [] c q = or-false (flag_at (sets_have (sets_of t) c) q)
 shown-append t (d ∷ cs) c q =
     ap (λ b. flag_at (sets_have (sets_of t) d) q || b) (shown-append t cs c q)
     ∙ sym (or_assoc (flag_at (sets_have (sets_of t) d) q) (is_shown t cs q) (flag_at (sets_have (sets_of t) c) q))
 
 pub in_some-append : (rows : List Marks) (cs : List ℕ) (c q : ℕ)
     → is_in_some rows (cs ++ c ∷ []) q ≡ (is_in_some rows cs q || flag_at (row rows c) q)
-in_some-append rows [] c q = or_nothing (flag_at (row rows c) q)
+in_some-append rows [] c q = or-false (flag_at (row rows c) q)
 in_some-append rows (d ∷ cs) c q =
     ap (λ b. flag_at (row rows d) q || b) (in_some-append rows cs c q)
     ∙ sym (or_assoc (flag_at (row rows d) q) (is_in_some rows cs q) (flag_at (row rows c) q))
@@ -131,7 +131,8 @@ module _ (t : Tree) (read : ℕ → Bool) (q : ℕ) where
       (flag_at (if read n then may_follow t false (only n) 0 false else []) q)
       (flag_at (follow_each t false all true n) q) after (follow-more all n (λ p l. h p (omega (arith, l))))
       (some (read n))
-      (sym (flags_join (follow_each t false read true n) (if read n then may_follow t false (only n) 0 false else []) q).0
+      (sym (flags_join (follow_each t false read true n) (if read n then may_follow t false
+          (only n) 0 false else []) q).0
       ∙ e) where
         some : (b : Bool) → flag_at (if b then may_follow t false (only n) 0 false else []) q ≡ true
             → flag_at (may_follow t false (only n) 0 false) q ≡ true
@@ -208,7 +209,8 @@ module _ (t : Tree) (count : ℕ) (counted : count ≡ count_of t) (always : Lis
             (follow-more t read q all (count_of t) (λ p l. flag-all count p (omega (arith, l, counted))))
             (λ e. shows c q ascii (all-is q ∙ e)))
             ∙ ap₂ (λ a b. a && b)
-            (sym (joined-shown t read q always rows shown count (first q) (λ p. each p q) (count_of t) (omega (arith, counted)))
+            (sym (joined-shown t read q always rows shown count (first q) (λ p. each p q) (count_of t)
+                (omega (arith, counted)))
             ∙ ap (λ n. flag_at (joined always rows read n) q) (sym counted ∙ sym as-many))
             (sym (all-is q))
             ∙ sym ((flags_join (joined always rows read (length rows)) (row having c) q).1)
@@ -224,7 +226,7 @@ done_by_rows t count counted ends done is each read =
     ∙ up_to count (omega arith) where
       up_to : (n : ℕ) → n ≤ count
           → ends_each t false false read true n ≡ (done || some_both read (flag_at ends) n)
-      up_to zero h = sym is ∙ sym (or_nothing done)
+      up_to zero h = sym is ∙ sym (or-false done)
       up_to (suc n) h =
           ap₂ (λ a b. a || (read n && b)) (up_to n (omega (arith, h))) (sym (each n (omega (arith, h))))
           ∙ or_assoc done (some_both read (flag_at ends) n) (read n && flag_at ends n)
@@ -345,7 +347,7 @@ module _ (having : List Marks) (seen : List Bool) (shown : List ℕ) (n : ℕ) (
     seen_more : (c q : ℕ) → c < n + 1 → flag_at (row having c) q ≡ true → flag_at after q ≡ true
     seen_more c q l e = flag q ∙ elim (cases_eq c n) as (λ _. (flag_at seen q || flag_at (row having n) q) ≡ true) [
       | inl same ↦
-          ap (λ b. flag_at seen q || b) (sym (ap (λ k. flag_at (row having k) q) same) ∙ e) ∙ or_true (flag_at seen q)
+          ap (λ b. flag_at seen q || b) (sym (ap (λ k. flag_at (row having k) q) same) ∙ e) ∙ or-true (flag_at seen q)
       | inr other ↦ ap (λ b. b || flag_at (row having n) q) (sees c q (omega (arith, l, other)) e)
     ]
 

@@ -8,9 +8,10 @@ use Rattle.std.specs.Int.{bit_at}
 use Rattle.std.proofs.lemmas.Bool.{cases_lt}
 use Rattle.std.proofs.lemmas.Nat.{and_le_l}
 use Rattle.std.proofs.lemmas.Nat.Bits.{bit_at-zero, bit_at-trailing_zeros, same_from_bits_below, bit_at-lt, bit_at_or, bit_at_and}
+use Rattle.std.proofs.Math.Bool.{or-false, or-true}
 use Rattle.state_laws.specs.Flow.{flag_at}
 use Rattle.state_laws.specs.Rows.{or_each, and_each}
-use Rattle.state_laws.proofs.RowsLemmas.{or_nothing, or_true, flags_join}
+use Rattle.state_laws.proofs.RowsLemmas.{flags_join}
 use Rattle.js_nfa.specs.Marks.{Marks}
 use Rattle.js_nfa.specs.Bits.{bit_of, flags_of}
 use Rattle.js_nfa.specs.Both.{some_both}
@@ -163,7 +164,7 @@ module _ (old new : List ℕ) (flags : List Bool) (len top count index : ℕ) (b
       | inl low ↦ joined.1 p low
       | inr high ↦
           joined.2 p high
-          ∙ sym (or_nothing (bit_of old p))
+          ∙ sym (or-false (bit_of old p))
           ∙ ap (λ x. bit_of old p || x) (sym (quiet p (omega (arith, high, ended))))
     ]
 
@@ -268,7 +269,7 @@ some_both-true ours theirs (suc n) p l e = elim (cases_lt p n) as (λ _. true �
   | inl low ↦ ap (λ x. x || (ours n && theirs n)) (some_both-true ours theirs n p low e)
   | inr high ↦
       let here : p ≡ n = omega (arith, l, high) in
-      sym (or_true (some_both ours theirs n))
+      sym (or-true (some_both ours theirs n))
       ∙ ap (λ x. some_both ours theirs n || x) (sym e ∙ ap (λ k. ours k && theirs k) here)
 ]
 

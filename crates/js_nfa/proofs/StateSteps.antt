@@ -11,7 +11,7 @@ use Rattle.word_states.specs.PatternState.{PatternState, done, reading, numbers_
 use Rattle.state_laws.specs.Flow.{flag_at, is_among, ends_here, reads_next, state_with, next_state, is_accepted}
 use Rattle.js_nfa.specs.View.{after, state_of}
 use Rattle.state_laws.proofs.Flags.{numbers_flag}
-use Rattle.state_laws.proofs.States.{state_goes_on, state_decides, state_begins}
+use Rattle.state_laws.proofs.States.{state_goes_on, state_decides, state_begins, not_empty}
 
 flags_are : (flags : List Bool) → is_among (numbers_from 0 flags) ≡ flag_at flags
 flags_are flags = fun_ext (λ p. sym (ap (is_among (numbers_from 0 flags)) (zero-add p)) ∙ numbers_flag 0 p flags)
@@ -89,10 +89,6 @@ state-next t w c flags after d s e f =
     next-reading t (is_empty w) c flags after d e f
     ∙ sym (state_goes_on t w c ∙ ap (next_state t (is_empty w) c) s)
 
-not_empty : (w : List ℕ) (c : ℕ) → is_empty (w ++ c ∷ []) ≡ false
-not_empty [] c = refl
-not_empty (d ∷ w) c = refl
-
 module _ (t : Tree) (w : List ℕ) (i c : ℕ) (within : i < length w) (is : c ≡ get_or w i c) where
   longer : take i w ++ c ∷ [] ≡ take (i + 1) w
   longer = ap (λ k. take i w ++ k ∷ []) is ∙ sym (take_more w i c within)
@@ -130,7 +126,8 @@ read-all t w i first flags d past start s f =
 
 -- at the beginning of a word
 pub read-none : (t : Tree) (flags : List Bool) (d : Bool) → flags ≡ []
-    → d ≡ ends_here t true false (flag_at flags) 0 true → d ≡ false → pattern_state t [] ≡ reading (numbers_from 0 flags)
+    → d ≡ ends_here t true false (flag_at flags) 0 true → d ≡ false
+        → pattern_state t [] ≡ reading (numbers_from 0 flags)
 read-none t flags d e f g =
     sym (first-none t flags d e f) ∙ ap (λ x. if x then done else reading (numbers_from 0 flags)) g
 

@@ -68,7 +68,8 @@ module _ (first last : Bool) (read : ℕ → Bool) where
         keeps_if (nat_lt high low)
         (through_copies (λ at some. ends_here t first last read at some) (count_of t) (high - low) low base a)
         (through_copies (λ at some. ends_here t first last read at some) (count_of t) (high - low) low base b)
-        (keeps_copies (λ at some. ends_here t first last read at some) (keeps t) (count_of t) (high - low) low base a b f)
+        (keeps_copies (λ at some. ends_here t first last read at some) (keeps t) (count_of t)
+            (high - low) low base a b f)
 
     keeps_in_turn : (ts : Trees) → Keeps (ends_here_in_turn ts first last read)
     keeps_in_turn no_trees base a b f = f
@@ -121,7 +122,8 @@ module _ (one : ℕ → Bool → Bool) (count : ℕ) where
       → ends_after one count low more i base here (ends || here) ≡ (ends || through_some one count more base here)
   after_some low zero i base here ends h = refl
   after_some low (suc more) i base here ends h =
-      ap (λ x. ends_after one count low more (suc i) (base + count) (one base here) ((ends || here) || (x && one base here)))
+      ap (λ x. ends_after one count low more (suc i) (base + count) (one base here)
+          ((ends || here) || (x && one base here)))
       (le-leb low (suc i) (omega (arith, h)))
       ∙ after_some low more (suc i) (base + count) (one base here) (ends || here) (omega (arith, h))
       ∙ or_assoc ends here (through_some one count more (base + count) (one base here))
@@ -207,7 +209,8 @@ module _ (first last : Bool) (read : ℕ → Bool) where
         if_same (nat_lt (suc high) low) _ (copies_still (λ at some. ends_here t first last read at some)
         (still t (product_zero (suc high) (count_of t) e (omega arith))) (count_of t) (suc high - low) low base)
 
-    still_in_turn : (ts : Trees) → count_in ts ≡ 0 → (base : ℕ) → ends_here_in_turn ts first last read base false ≡ false
+    still_in_turn : (ts : Trees) → count_in ts ≡ 0 → (base : ℕ)
+        → ends_here_in_turn ts first last read base false ≡ false
     still_in_turn no_trees e base = refl
     still_in_turn (tree t ts) e base =
         ap (ends_here_in_turn ts first last read (base + count_of t)) (still t (omega (arith, e)) base)
@@ -331,7 +334,8 @@ module _ (next : ℕ → Bool → List Bool) (one : ℕ → Bool → Bool) (coun
       (ne_eqb (suc n) 0 (λ h. omega (arith, h)))
       ∙ ap (λ z. next base b ++ z) (next_copies_on_is n (base + count) (one base b))
 
-pub reads_repeated : (first : Bool) (read : ℕ → Bool) (c : ℕ) (t : Tree) (low : ℕ) (high : Option ℕ) (base : ℕ) (b : Bool)
+pub reads_repeated : (first : Bool) (read : ℕ
+    → Bool) (c : ℕ) (t : Tree) (low : ℕ) (high : Option ℕ) (base : ℕ) (b : Bool)
     → next_after (is_none high) (λ at some. reads_next t first read c at some)
     (λ at some. ends_here t first false read at some) (count_of t) (copies low high) base b
     ≡ reads_next (repeated t low high) first read c base b

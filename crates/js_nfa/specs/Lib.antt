@@ -3,7 +3,7 @@ pub mod View
 pub mod Counted
 -- What it sees of an atom.
 pub mod AtomView
-pub mod SameAtom
+pub mod AtomFed
 -- Sets of positions, and the copies of a repeated tree, gone through one by one.
 pub mod Marks
 pub mod Bits

@@ -4,7 +4,9 @@ ghost use Rattle.std.specs.Prelude.{◌≡◌, IfOk};
 ghost use Rattle.std.specs.Cmp.{on_equiv, partial_equiv_from_equiv};
 ghost use Rattle.std.specs.Hash as fed;
 ghost use Rattle.js_nfa.specs.AtomView.{atom_view};
-ghost use Rattle.js_nfa.specs.SameAtom.{same_atom, same_atom_equiv, atom_writes, atoms_Alike};
+ghost use Rattle.word_states.specs.SameAtom.{same_atom};
+ghost use Rattle.state_laws.proofs.SameAtoms.{same_atom_equiv};
+ghost use Rattle.js_nfa.specs.AtomFed.{atom_writes, atoms_Alike};
 
 use crate::atom::Atom;
 use js_doc::Memory;

@@ -3,7 +3,8 @@ use Rattle.std.specs.Prelude.{ℕ, suc, ◌+◌, ◌*◌, ◌%◌, ◌^◌, List
 use Rattle.std.specs.Hash as fed
 use Rattle.std.specs.Hash.{Alike, same_Alike}
 use Rattle.patterns.specs.Tree.{Tree, Trees, empty, one_of, at_start, at_end, in_turn, either, repeated, no_trees, tree}
-use Rattle.js_pattern.specs.SameTree.{same_tree, same_tree-Decides}
+use Rattle.patterns.specs.SameTree.{same_tree}
+use Rattle.pattern_laws.proofs.SameTrees.{same_tree-Decides}
 
 -- one number of 64 bits for two
 unfoldable pub mix : ℕ → ℕ → ℕ

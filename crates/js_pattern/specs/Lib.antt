@@ -6,8 +6,7 @@ pub mod Quantifiers
 pub mod Grammar
 pub mod Correct
 pub mod Names
--- When two trees are the same, and the number by which a tree is looked for among others.
-pub mod SameTree
+-- The number by which a tree is looked for among others.
 pub mod Fingerprint
 -- What a contract sees of the reader's own types.
 pub mod View

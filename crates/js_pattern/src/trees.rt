@@ -5,7 +5,8 @@
 ghost use Rattle.std.specs.Prelude.{◌≡◌, ◌↔◌, IfOk, IsTrue};
 ghost use Rattle.std.specs.Cmp.{on_equiv, partial_equiv_from_equiv};
 ghost use Rattle.std.specs.Hash as fed;
-ghost use Rattle.js_pattern.specs.SameTree.{same_tree, same_tree_equiv};
+ghost use Rattle.patterns.specs.SameTree.{same_tree};
+ghost use Rattle.pattern_laws.proofs.SameTrees.{same_tree_equiv};
 ghost use Rattle.js_pattern.specs.Fingerprint.{mix, tree_print, trees_from, ranges_from, bound_print, prints_Alike};
 ghost use Rattle.js_pattern.specs.View.{view, list_view};
 

@@ -2,10 +2,10 @@
 use Rattle.std.proofs.Common.{◌≡◌, ℕ, zero, suc, ◌-◌, ◌<◌, ◌≤◌, List, [], ◌∷◌, ◌++◌, map, take, length, reverse, get_or, nat_lt, Bool, true, false, not, refl, ap, sym, ◌∙◌, arith}
 use Rattle.std.proofs.lemmas.Bool.{and_parts, ltb-true, lt-ltb}
 use Rattle.documents.specs.Tests.{every}
-use Rattle.name_laws.proofs.Tests.{every-weaker}
 use Rattle.js_algebra.specs.declared.node.Pos.{Pos}
 use Rattle.js_algebra.specs.View.{places}
 use Rattle.js_tableau.proofs.Remaining.{reverse-push}
+use Rattle.position_laws.proofs.Lists.{every-weaker}
 
 places-push : (w : List Pos) (p : Pos) → places (w ++ p ∷ []) ≡ places w ++ p.0 ∷ []
 places-push [] p = refl

@@ -1,17 +1,18 @@
 -- What reads a text exactly: a text is read as x just where it is the text of x.
-use Rattle.std.proofs.Common.{◌≡◌, ℕ, ◌⊎◌, inl, inr, ⊎_elim, Bool, true, false, ◌&&◌, not, cond, nat_eq, List, [], ◌∷◌, ◌++◌, map, flat_map, Option, Some, None, option_map, refl, ap, sym, ◌∙◌, subst}
+use Rattle.std.proofs.Common.{◌≡◌, ℕ, ◌+◌, ◌<◌, ◌⊎◌, inl, inr, ⊎_elim, Bool, true, false, ◌&&◌, not, cond, nat_eq, List, [], ◌∷◌, ◌++◌, length, get_or, drop, map, flat_map, Option, Some, None, option_map, refl, ap, sym, ◌∙◌, subst}
 use Rattle.std.specs.Prelude.{codes, option_and_then}
 use Rattle.std.specs.Char.{is_ascii_digit}
 use Rattle.std.specs.Fmt.{decimal}
-use Rattle.std.proofs.lemmas.List.{append-nil}
+use Rattle.std.proofs.lemmas.List.{append-nil, at_drop_more}
 use Rattle.std.proofs.lemmas.List.Folds.{flat_map-map}
 use Rattle.std.proofs.lemmas.Bool.{true≢false, and_parts, and_from}
 use Rattle.documents.specs.Tests.{every}
 use Rattle.documents.specs.Kind.{Kind, Null, Boolean, Number, Text, Array, Object, all_kinds}
+use Rattle.documents.specs.KindWords.{kind_word}
 use Rattle.position_laws.proofs.Lists.{every-append}
 use Rattle.goals.specs.Signed.{Signed, Plus, Minus}
 use Rattle.certificate_lines.specs.Line.{Ending, Clashes, Cites, ShortEntry, Kept, Ends}
-use Rattle.certificate_lines.specs.Text.{kind_word, signed_text, ending_text, entry_text, list_text, is_small, is_small_signed, is_small_ending, is_small_entry}
+use Rattle.certificate_lines.specs.Text.{signed_text, ending_text, entry_text, list_text, is_small, is_small_signed, is_small_ending, is_small_entry}
 use Rattle.certificate_lines.specs.Pieces.{pieces, split_at, after_word, is_at_end, is_word}
 use Rattle.certificate_lines.specs.Reading.{read_all, number_of, or_else, both, headed, signed_of, kind_among, kind_of_word, ending_of, after_first, listed, list_of, parted, some_of, beside_number, bare_entry, entries_on, entries_of}
 use Rattle.line_laws.proofs.PieceLaws.{after_word-text, pieces-begun, pieces-of_begun, split_at-text, split_at-of, lacks}
@@ -117,6 +118,14 @@ kind_of_word-of Number e = refl
 kind_of_word-of Text e = refl
 kind_of_word-of Array e = refl
 kind_of_word-of Object e = refl
+
+-- a kind that another word is for says nothing
+pub kind_among-on : {A : Type 0} (kind : A → Kind) (ks : List A) (i : ℕ) (d : A) (xs : List ℕ) → i < length ks
+    → is_word (kind_word (kind (get_or ks i d))) xs ≡ false
+    → kind_among (map kind (drop (i + 1) ks)) xs ≡ kind_among (map kind (drop i ks)) xs
+kind_among-on kind ks i d xs l other =
+    sym (ap (λ b. cond b (Some (kind (get_or ks i d))) (kind_among (map kind (drop (i + 1) ks)) xs)) other)
+    ∙ sym (at_drop_more (λ left. kind_among (map kind left) xs) ks i d l)
 
 pub kind-reads : Reads kind_of_word kind_word (λ t. true)
 kind-reads = record { text = λ xs t e. (kind_among-text all_kinds xs t e, refl); of = kind_of_word-of }

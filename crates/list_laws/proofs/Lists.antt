@@ -1,5 +1,5 @@
 -- What is in a list, and in lists that are made of it.
-use Rattle.std.proofs.Common.{◌≡◌, ℕ, zero, suc, ◌⊎◌, inl, inr, ⊎_elim, Bool, true, false, cond, List, [], ◌∷◌, ◌++◌, map, filter, flat_map, take, refl, ap, sym, subst}
+use Rattle.std.proofs.Common.{◌≡◌, ℕ, zero, suc, ◌<◌, ◌⊎◌, inl, inr, ⊎_elim, Bool, true, false, cond, List, [], ◌∷◌, ◌++◌, map, filter, flat_map, take, get_or, slice_get, length, Some, refl, ap, ap₂, sym, subst, arith}
 use Rattle.std.proofs.lemmas.Bool.{and_parts, and_from}
 use Rattle.documents.specs.Tests.{every}
 use Rattle.list_laws.specs.In.{IsIn}
@@ -67,3 +67,40 @@ in_take zero x xs h = absurd h
 in_take (suc n) x [] h = absurd h
 in_take (suc n) x (a ∷ xs) (inl e) = inl e
 in_take (suc n) x (a ∷ xs) (inr h) = inr (in_take n x xs h)
+
+pub in_slice : {A : Type 0} (x : A) (xs : List A) (i : ℕ) → slice_get xs i ≡ Some x → IsIn x xs
+in_slice x [] i e = cc
+in_slice x (y ∷ xs) zero e = inl cc
+in_slice x (y ∷ xs) (suc i) e = inr (in_slice x xs i e)
+
+pub in_get : {A : Type 0} (L : List A) (i : ℕ) (d : A) → i < length L → IsIn (get_or L i d) L
+in_get [] i d l = absurd (omega (arith, l))
+in_get (x ∷ L) zero d l = inl refl
+in_get (x ∷ L) (suc i) d l = inr (in_get L i d (omega (arith, l)))
+
+-- what stands first of those that pass a test; none passes where none is left
+pub filter_head : {A : Type 0} (test : A → Bool) (xs : List A) (y : A) (ys : List A)
+    → filter test xs ≡ y ∷ ys → (test y ≡ true) × IsIn y xs
+filter_head test [] y ys e = cc e
+filter_head test (x ∷ xs) y ys e = go (test x) refl e (filter_head test xs y ys) where
+  go : (b : Bool) → test x ≡ b → cond b (x ∷ filter test xs) (filter test xs) ≡ y ∷ ys
+      → (filter test xs ≡ y ∷ ys → (test y ≡ true) × IsIn y xs) → (test y ≡ true) × IsIn y (x ∷ xs)
+  go true t f more = let q : x ≡ y = cc f in (subst (λ z. test z ≡ true) q t, inl (sym q))
+  go false t f more = let (a, i) = more f in (a, inr i)
+
+pub filter_none : {A : Type 0} (test : A → Bool) (xs : List A) (x : A)
+    → filter test xs ≡ [] → IsIn x xs → test x ≡ true → ⊥
+filter_none test xs x e i t = subst (λ z. IsIn x z) e (to_filter test x xs i t)
+
+-- two beginnings of one list: the second goes on past the first, or the first has the second at its head
+pub prefixes : {A : Type 0} (a b c d : List A) → a ++ b ≡ c ++ d
+    → ((z : A) × (e : List A) × (c ≡ a ++ z ∷ e) × (b ≡ z ∷ e ++ d)) ⊎ ((e : List A) × (a ≡ c ++ e))
+prefixes a b [] d q = inr (a, refl)
+prefixes [] b (x ∷ c) d q = inl (x, c, refl, q)
+prefixes (y ∷ a) b (x ∷ c) d q =
+    let e : y ≡ x = cc q in
+    let t : a ++ b ≡ c ++ d = cc q in
+    elim (prefixes a b c d t) [
+      | inl (z, r, p, s) ↦ inl (z, r, ap₂ (λ u v. u ∷ v) (sym e) p, s)
+      | inr (r, p) ↦ inr (r, ap₂ (λ u v. u ∷ v) e p)
+    ]

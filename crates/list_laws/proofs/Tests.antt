@@ -1,17 +1,16 @@
 -- Tests of some and of all of a list, and what passes a filter.
-use Rattle.std.proofs.Common.{◌≡◌, ℕ, zero, suc, ◌+◌, ◌<◌, ◌≤◌, inl, inr, Bool, true, false, ◌&&◌, cond, not, nat_eq, List, [], ◌∷◌, filter, refl, ap₂, sym, subst, arith}
+use Rattle.std.proofs.Common.{◌≡◌, ℕ, zero, suc, ◌+◌, ◌<◌, ◌≤◌, inl, inr, Bool, true, false, ◌&&◌, cond, nat_eq, List, [], ◌∷◌, filter, refl, ap₂, sym, subst, arith}
 use Rattle.std.proofs.lemmas.Bool.{and_parts, or_cases, or_left, or_right, or_from, or_parts, cases_lt, eqb-true}
 use Rattle.std.specs.List.{range_with_len}
+use Rattle.std.specs.Bool.{beq}
 use Rattle.documents.specs.Tests.{every, some, same_word}
 use Rattle.list_laws.specs.In.{IsIn}
 
-pub not_true : (b : Bool) → not b ≡ true → b ≡ false
-not_true true e = sym e
-not_true false e = refl
-
-pub not_false : (b : Bool) → not b ≡ false → b ≡ true
-not_false true e = refl
-not_false false e = cc
+pub beq-true : (a b : Bool) → beq a b ≡ true → a ≡ b
+beq-true true true e = refl
+beq-true true false e = cc e
+beq-true false true e = cc e
+beq-true false false e = refl
 
 pub some_find : {A : Type 0} (p : A → Bool) (xs : List A) → some p xs ≡ true → (x : A) × IsIn x xs × (p x ≡ true)
 some_find p [] e = cc

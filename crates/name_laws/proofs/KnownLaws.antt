@@ -5,13 +5,7 @@ use Rattle.documents.specs.Tests.{every}
 use Rattle.word_states.specs.Atom.{Atom}
 use Rattle.positions.specs.Position.{Position, Same, Not, All, Any, One, position_at, of_parts, names_below}
 use Rattle.name_truths.specs.NameTruth.{asked_of_string, own_atoms, atoms_within, are_known}
-
-every-parts : {A : Type 0} (p : A → Bool) (xs ys : List A) → every p (xs ++ ys) ≡ true
-    → (every p xs ≡ true) × (every p ys ≡ true)
-every-parts p [] ys h = (refl, h)
-every-parts p (x ∷ xs) ys h =
-    let (one, more) = and_parts (p x) (every p (xs ++ ys)) h in
-    let (left, right) = every-parts p xs ys more in (and_from (p x) (every p xs) one left, right)
+use Rattle.name_laws.proofs.Tests.{every-parts}
 
 every-each : (p : Atom → Bool) (f : ℕ → List Atom) (qs : List ℕ) → every p (flat_map f qs) ≡ true
     → every (λ q. every p (f q)) qs ≡ true
@@ -24,7 +18,8 @@ pub own_known : (knows : Atom → Bool) (T : List Position) (steps p : ℕ) → 
     → every knows (atoms_within T steps p) ≡ true → every knows (own_atoms (position_at T p)) ≡ true
 own_known knows T zero p some h = absurd (some refl)
 own_known knows T (suc n) p some h =
-    (every-parts knows (own_atoms (position_at T p)) (flat_map (atoms_within T n) (asked_of_string (position_at T p))) h).0
+    (every-parts knows (own_atoms (position_at T p)) (flat_map (atoms_within T n)
+        (asked_of_string (position_at T p))) h).0
 
 pub asked_known : (knows : Atom → Bool) (T : List Position) (steps p : ℕ) → steps ≢ 0
     → every knows (atoms_within T steps p) ≡ true

@@ -7,12 +7,12 @@ use Rattle.documents.specs.Tests.{every}
 use Rattle.word_states.specs.Atom as W
 use Rattle.word_states.specs.Atom.{Atom}
 use Rattle.positions.specs.Position.{Position, Words, Match, LengthMin, LengthMax, position_at, is_table}
-use Rattle.position_laws.proofs.Lists.{some-append}
+use Rattle.position_laws.proofs.Lists.{some-append, every-weaker}
 use Rattle.position_laws.proofs.Tables.{is_table-fall}
 use Rattle.name_truths.specs.NameTruth.{asked_of_string, own_atoms}
 use Rattle.name_laws.specs.Plans.{is_leaf, has_place, asks_earlier, IsPlan, atoms_of, rises}
 use Rattle.name_laws.specs.Searches.{AreReached}
-use Rattle.name_laws.proofs.Tests.{every-weaker, every-has, has-left, has-right, has-all, some-permuted, every-permuted}
+use Rattle.name_laws.proofs.Tests.{every-has, has-left, has-right, has-all, some-permuted, every-permuted}
 use Rattle.name_laws.proofs.Searching.{asked-fall}
 
 -- none of rising positions is of lesser rank than the first
@@ -41,7 +41,8 @@ module _ (T : List Position) (ranks : List ℕ) (found : List ℕ) where
       and_parts (every (has_place found) (asked_of_string (position_at T p))) _ closed in
       and_from _ _ (each (asked_of_string (position_at T p)) here (fall p))
       (rises-earlier fall (seen ++ p ∷ []) ps
-      (ap (λ xs. every (has_place xs) found) (append_assoc seen (p ∷ []) ps) ∙ all) more (and_parts _ (rises ranks ps) r).1)
+      (ap (λ xs. every (has_place xs) found) (append_assoc seen (p ∷ []) ps) ∙ all) more
+          (and_parts _ (rises ranks ps) r).1)
     where
       each : (cs : List ℕ) → every (has_place found) cs ≡ true
           → AllByRecursion (λ q. get_or ranks q 0 < get_or ranks p 0) cs → every (has_place seen) cs ≡ true
@@ -116,7 +117,8 @@ leaves-atoms T [] = refl
 leaves-atoms T (q ∷ qs) = go (is_leaf (position_at T q)) refl (leaves-atoms T qs) where
   go : (b : Bool) → is_leaf (position_at T q) ≡ b
       → atoms_of T (filter (λ k. is_leaf (position_at T k)) qs) ≡ atoms_of T qs
-      → atoms_of T (cond b (q ∷ filter (λ k. is_leaf (position_at T k)) qs) (filter (λ k. is_leaf (position_at T k)) qs))
+      → atoms_of T (cond b (q ∷ filter (λ k. is_leaf (position_at T k)) qs)
+          (filter (λ k. is_leaf (position_at T k)) qs))
       ≡ atoms_of T (q ∷ qs)
   go true e h = ap (λ xs. own_atoms (position_at T q) ++ xs) h
   go false e h = h ∙ sym (ap (λ xs. xs ++ atoms_of T qs) (own-none (position_at T q) e))

@@ -55,7 +55,8 @@ module _ (T : List Position) (ranks : List ℕ) (e : is_table T ranks ≡ true) 
   asked : ℕ → List ℕ
   asked q = asked_of_string (position_at T q)
 
-  asks : (q : ℕ) → atoms T q ≡ own_atoms (position_at T q) ++ flat_map (λ q. atoms T q) (asked_of_string (position_at T q))
+  asks : (q : ℕ) → atoms T q ≡ own_atoms (position_at T q)
+      ++ flat_map (λ q. atoms T q) (asked_of_string (position_at T q))
   asks = atoms-asks T (is_table-IsTable T ranks e some_positions)
 
   named : (q : ℕ) → every (λ k. nat_lt k (length T)) (asked_of_string (position_at T q)) ≡ true

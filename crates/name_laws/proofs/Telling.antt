@@ -14,8 +14,9 @@ use Rattle.positions.specs.Holds.{IsTable}
 use Rattle.name_truths.specs.NameTruth.{asked_of_string, own_atoms, AreTrue, asks_name, name_holds}
 use Rattle.name_laws.specs.Plans.{Plan, IsPlan, is_leaf, has_place, asks_earlier, atoms_of}
 use Rattle.name_laws.specs.Rooms.{truth_at, is_right, leaf_holds}
-use Rattle.name_laws.proofs.Tests.{every-weaker, every-join, every-has}
+use Rattle.name_laws.proofs.Tests.{every-join, every-has}
 use Rattle.name_laws.proofs.Unfolded.{asks_name-same, name_holds-asks}
+use Rattle.position_laws.proofs.Lists.{every-weaker}
 
 -- leaves
 
@@ -37,7 +38,8 @@ leaf-next truth (Words ws) rest k h = refl
 leaf-next truth (Match r) rest k h = refl
 leaf-next truth (LengthMin n) rest k h = go (nat_eq n 0) h where
   go : (b : Bool) → not b ≡ true
-      → get_or (map truth ((if b then [] else W.LengthMin n ∷ []) ++ rest)) (suc k) false ≡ get_or (map truth rest) k false
+      → get_or (map truth ((if b then [] else W.LengthMin n ∷ []) ++ rest)) (suc k) false ≡ get_or
+          (map truth rest) k false
   go true e = absurd (true≢false (sym e))
   go false e = refl
 leaf-next truth (LengthMax n) rest k h = refl
@@ -82,7 +84,8 @@ module _ (T : List Position) (truth : Atom → Bool) where
         | inl a ↦
             subst (λ k. is_right T truth (set room p b) k ≡ true) (sym (eqb-true q p a)) (right-itself room p b l e)
         | inr a ↦
-            subst (λ c. beq c (name_holds T truth q) ≡ true) (sym (get_or-set_other room p q b false (eqb-false q p a))) h
+            subst (λ c. beq c (name_holds T truth q) ≡ true) (sym
+                (get_or-set_other room p q b false (eqb-false q p a))) h
       ]
 
   pub right-more : (room : List Bool) (qs : List ℕ) (p : ℕ) (b : Bool) → p < length room → b ≡ name_holds T truth p

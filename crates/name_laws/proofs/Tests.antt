@@ -5,7 +5,7 @@ use Rattle.std.specs.List.Sorted.{IsPermutation}
 use Rattle.std.proofs.lemmas.Bool.{and_parts, and_from, or_cases, or_left, or_right, eq-eqb, true≢false}
 use Rattle.std.proofs.lemmas.List.Sorted.{list_any-IsPermutation}
 use Rattle.documents.specs.Tests.{every, some}
-use Rattle.position_laws.proofs.Lists.{every-append, some-append}
+use Rattle.position_laws.proofs.Lists.{every-append, some-append, every-weaker}
 use Rattle.name_laws.specs.Plans.{has_place}
 
 pub same_eq : (q : ℕ) → nat_eq q q ≡ true
@@ -18,13 +18,6 @@ every-join p xs ys g h = every-append p xs ys ∙ and_from (every p xs) (every p
 pub every-parts : {A : Type 0} (p : A → Bool) (xs ys : List A) → every p (xs ++ ys) ≡ true
     → (every p xs ≡ true) × (every p ys ≡ true)
 every-parts p xs ys h = and_parts (every p xs) (every p ys) (sym (every-append p xs ys) ∙ h)
-
-pub every-weaker : {A : Type 0} (p q : A → Bool) (xs : List A) → ((x : A) → p x ≡ true → q x ≡ true)
-    → every p xs ≡ true → every q xs ≡ true
-every-weaker p q [] f h = refl
-every-weaker p q (x ∷ xs) f h =
-    let (one, more) = and_parts (p x) (every p xs) h in
-    and_from (q x) (every q xs) (f x one) (every-weaker p q xs f more)
 
 pub every-always : {A : Type 0} (p : A → Bool) (xs : List A) → ((x : A) → p x ≡ true) → every p xs ≡ true
 every-always p [] f = refl

@@ -8,7 +8,8 @@ use Rattle.position_laws.proofs.Lists.{all-weaker, every-same, some-same, exactl
 use Rattle.name_truths.specs.NameTruth.{asked_of_string, own_atoms, atoms_within, atoms, asks_name, name_within, name_holds}
 
 -- what is asked of a string is asked in place
-pub asked-in_place : (P : ℕ → Type 0) (X : Position) → AllByRecursion P (in_place X) → AllByRecursion P (asked_of_string X)
+pub asked-in_place : (P : ℕ → Type 0) (X : Position) → AllByRecursion P (in_place X)
+    → AllByRecursion P (asked_of_string X)
 asked-in_place P (Same q) h = h
 asked-in_place P (Not q) h = h
 asked-in_place P (All qs) h = h

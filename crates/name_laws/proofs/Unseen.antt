@@ -23,7 +23,8 @@ has-last found q =
     ∙ or_right (has_place found q) (nat_eq q q || false) (ap (λ b. b || false) (same_eq q))
 
 -- those behind the place that was found
-unseen-past : (found : List ℕ) (q k : ℕ) (Ps : List Position) → q < k → unseen (found ++ q ∷ []) k Ps ≡ unseen found k Ps
+unseen-past : (found : List ℕ) (q k : ℕ) (Ps : List Position) → q < k
+    → unseen (found ++ q ∷ []) k Ps ≡ unseen found k Ps
 unseen-past found q k [] l = refl
 unseen-past found q k (P ∷ Ps) l =
     ap₂ (λ b n. cond b 0 (length (asked_of_string P)) + n)

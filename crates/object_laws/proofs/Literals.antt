@@ -1,7 +1,7 @@
 -- An object meets a literal exactly where its count is within the literal's bounds, its members stand in cells that
 -- the literal doesn't bar and meet what it asks of each, and some member serves it where it asks for one.
 use Rattle.std.proofs.Common.{◌≡◌, ℕ, suc, ◌≤◌, Bool, true, false, ◌||◌, not, List, length, None, refl, ap, arith}
-use Rattle.std.proofs.lemmas.Bool.{and_parts, and_from, or_parts, or_from, leb-true, leb-false, le-leb, lt-leb, not-false}
+use Rattle.std.proofs.lemmas.Bool.{and_parts, and_from, or_parts, or_from, leb-true, leb-false, le-leb, lt-leb, not-false, not-true}
 use Rattle.documents.specs.Tests.{every, some, same_word}
 use Rattle.documents.specs.Kind.{Object, same_kind}
 use Rattle.documents.specs.Document.{Document, string, object, Members, entries}
@@ -15,7 +15,7 @@ use Rattle.list_laws.proofs.Lists.{every_at, every_from}
 use Rattle.cells.specs.Cells.{meets_formula}
 use Rattle.name_truths.specs.NameAtoms.{formula_of}
 use Rattle.frames.specs.ObjectFrame.{plus_lower, minus_lower, plus_below, minus_below, plus_bars, minus_bars, plus_wants, minus_wants, minus_inside, plus_each, minus_serving}
-use Rattle.list_laws.proofs.Tests.{not_true, not_false, some_find, some_from, some_none, none_at, every_fails}
+use Rattle.list_laws.proofs.Tests.{some_find, some_from, some_none, none_at, every_fails}
 
 module _ (T : List Position) (here : ℕ → Bool) (ms : Members) where
   abbrev pub Says : Position → List ℕ → Bool
@@ -80,17 +80,17 @@ module _ (T : List Position) (here : ℕ → Bool) (ms : Members) where
   }
 
   low_minus : (P : Position) → (minus_choices Object P ≡ None → not (Asks P) ≡ true) → minus_lower P ≤ n
-  low_minus (PropsMax m) e = leb-false n m (not_true (Asks (PropsMax m)) (e refl))
+  low_minus (PropsMax m) e = leb-false n m (not-true (Asks (PropsMax m)) (e refl))
   low_minus _ e = omega arith
 
   high_minus : (P : Position) → (minus_choices Object P ≡ None → not (Asks P) ≡ true)
       → is_at_end n (minus_below P) ≡ false
-  high_minus (PropsMin m) e = not_true (Asks (PropsMin m)) (e refl)
+  high_minus (PropsMin m) e = not-true (Asks (PropsMin m)) (e refl)
   high_minus _ e = refl
 
   allowed_minus : (P : Position) → (minus_choices Object P ≡ None → not (Asks P) ≡ true) → (m : List ℕ × Document)
       → IsIn m (entries ms) → minus_bars (Says P m.0) P ≡ false
-  allowed_minus (Has w) e m i = none_at (λ m. same_word w m.0) m (entries ms) (not_true (Asks (Has w)) (e refl)) i
+  allowed_minus (Has w) e m i = none_at (λ m. same_word w m.0) m (entries ms) (not-true (Asks (Has w)) (e refl)) i
   allowed_minus _ e m i = refl
 
   served_minus : (P : Position) → (minus_choices Object P ≡ None → not (Asks P) ≡ true) → minus_wants P ≡ true
@@ -99,11 +99,11 @@ module _ (T : List Position) (here : ℕ → Bool) (ms : Members) where
   served_minus (MembersOf s q) e d =
       let (m, i, h) =
       every_fails (λ m. not (in_set s m.0) || holds T q m.1) (entries ms)
-      (not_true (Asks (MembersOf s q)) (e refl)) in
+      (not-true (Asks (MembersOf s q)) (e refl)) in
       let (x, y) = or_parts (not (in_set s m.0)) (holds T q m.1) h in
-      (m, i, not_false (in_set s m.0) x, and_from (not (holds T q m.1)) true (ap not y) refl)
+      (m, i, not-false (in_set s m.0) x, and_from (not (holds T q m.1)) true (ap not y) refl)
   served_minus (NamesIn q) e d =
-      let (m, i, h) = every_fails (λ m. holds T q (string m.0)) (entries ms) (not_true (Asks (NamesIn q)) (e refl)) in
+      let (m, i, h) = every_fails (λ m. holds T q (string m.0)) (entries ms) (not-true (Asks (NamesIn q)) (e refl)) in
       (m, i, ap not h, refl)
   served_minus _ e d = cc
 
@@ -132,7 +132,7 @@ module _ (T : List Position) (here : ℕ → Bool) (ms : Members) where
   from_plus (PropsMax m) c w k = let a = leb-false (suc m) n k.high in le-leb n m (omega (arith, a))
   from_plus (NamesIn q) c w k =
       every_from (λ m. holds T q (string m.0)) (entries ms)
-      (λ m i. not_false (holds T q (string m.0)) (k.allowed m i))
+      (λ m i. not-false (holds T q (string m.0)) (k.allowed m i))
   from_plus True c w k = cc
   from_plus False c w k = cc
   from_plus (Same q) c w k = cc
@@ -148,7 +148,7 @@ module _ (T : List Position) (here : ℕ → Bool) (ms : Members) where
   from_minus (Types ts) c w k = ap not w
   from_minus (MembersOf s q) c w k =
       let (m, i, h, g) = k.served refl in
-      ap not (none m i h (not_true (holds T q m.1) (and_parts (not (holds T q m.1)) true g).0)) where
+      ap not (none m i h (not-true (holds T q m.1) (and_parts (not (holds T q m.1)) true g).0)) where
         none : (m : List ℕ × Document) → IsIn m (entries ms) → in_set s m.0 ≡ true → holds T q m.1 ≡ false
             → every (λ m. not (in_set s m.0) || holds T q m.1) (entries ms) ≡ false
         none m i h g = go (every (λ m. not (in_set s m.0) || holds T q m.1) (entries ms)) refl where
@@ -163,7 +163,7 @@ module _ (T : List Position) (here : ℕ → Bool) (ms : Members) where
   from_minus (PropsMin m) c w k = ap not k.high
   from_minus (PropsMax m) c w k = ap not (lt-leb n m k.low)
   from_minus (NamesIn q) c w k =
-      let (m, i, h, g) = k.served refl in ap not (none m i (not_true (holds T q (string m.0)) h)) where
+      let (m, i, h, g) = k.served refl in ap not (none m i (not-true (holds T q (string m.0)) h)) where
         none : (m : List ℕ × Document) → IsIn m (entries ms) → holds T q (string m.0) ≡ false
             → every (λ m. holds T q (string m.0)) (entries ms) ≡ false
         none m i h = go (every (λ m. holds T q (string m.0)) (entries ms)) refl where

@@ -1,6 +1,6 @@
 -- An object meets the literals of a set exactly where its members are arranged as the set's frame asks.
 use Rattle.std.proofs.Common.{◌≡◌, ℕ, ◌≤◌, min, inl, inr, ⊎_elim, Bool, true, false, ◌&&◌, ◌||◌, not, List, [], ◌∷◌, flat_map, length, nat_le, Option, Some, None, refl, ap, sym, ◌∙◌, subst, arith}
-use Rattle.std.proofs.lemmas.Bool.{and_parts, or_parts, or_from, leb-true, leb-false, le-leb, lt-leb}
+use Rattle.std.proofs.lemmas.Bool.{and_parts, or_parts, or_from, leb-true, leb-false, le-leb, lt-leb, not-true}
 use Rattle.documents.specs.Tests.{every, is_scalar}
 use Rattle.documents.specs.Kind.{Object}
 use Rattle.documents.specs.Document.{Document, object, Members, no_members, member, entries, is_document, are_members, is_before}
@@ -15,7 +15,7 @@ use Rattle.list_laws.specs.In.{IsIn}
 use Rattle.list_laws.proofs.Lists.{every_at, every_from, from_flat_map, in_flat_map, to_filter}
 use Rattle.cells.specs.Cells.{Cells, cell_of, truth, says}
 use Rattle.frames.specs.ObjectFrame.{lower_at, lower, below_at, below, plus_bars, minus_bars, bars, is_allowed, is_demand, minus_inside, inside, plus_each, each, serving, object_frame_with}
-use Rattle.list_laws.proofs.Tests.{not_true, some_none, none_at, from_filter, in_range}
+use Rattle.list_laws.proofs.Tests.{some_none, none_at, from_filter, in_range}
 use Rattle.cell_laws.specs.RightCells.{AreCells}
 use Rattle.object_laws.proofs.Literals.{IsPlus, IsMinus, is_plus, is_minus, from_plus, from_minus}
 
@@ -153,7 +153,7 @@ module _ (T : List Position) (ok : IsTable T) (S : List Signed) (C : Cells) (law
     unbarred_at : (m : List ℕ × Document) → IsIn m (entries ms) → (x : Signed) → IsIn x S
         → bars T C (Cell m.0) x ≡ false
     unbarred_at m j x i =
-        none_at (bars T C (Cell m.0)) x S (not_true _ (from_filter (is_allowed T C S) (Cell m.0) _ (k.cells m j)).1) i
+        none_at (bars T C (Cell m.0)) x S (not-true _ (from_filter (is_allowed T C S) (Cell m.0) _ (k.cells m j)).1) i
 
     each_of : (m : List ℕ × Document) → IsIn m (entries ms) → (x : Signed) → IsIn x S
         → meets T (each T C (In (Cell m.0)) x) m.1 ≡ true

@@ -1,6 +1,7 @@
 -- The names that values take one after another are those of the slots of the alternative's members and fillers.
 use Rattle.std.proofs.Common.{◌≡◌, ℕ, zero, suc, ◌+◌, ◌-◌, min, inl, inr, Bool, true, false, cond, List, [], ◌∷◌, ◌++◌, map, flat_map, nat_eq, replicate, Option, Some, None, refl, ap, sym, ◌∙◌, subst, arith}
 use Rattle.std.proofs.lemmas.Bool.{eqb-true, eq-eqb}
+use Rattle.std.proofs.lemmas.List.{map-append}
 use Rattle.documents.specs.Document.{Document}
 use Rattle.positions.specs.Position.{Position}
 use Rattle.goals.specs.Signed.{Signed}
@@ -25,10 +26,6 @@ pile_other (suc n) c e before ne = pile_other n c e (c ∷ before) ne ∙ go (na
   go : (b : Bool) → nat_eq c e ≡ b → cond b (suc (times e before)) (times e before) ≡ times e before
   go true p = absurd (ne (eqb-true c e p))
   go false p = refl
-
-map_over : {A B : Type 0} (f : A → B) (xs ys : List A) → map f (xs ++ ys) ≡ map f xs ++ map f ys
-map_over f [] ys = refl
-map_over f (x ∷ xs) ys = ap (λ z. f x ∷ z) (map_over f xs ys)
 
 module _ (C : Cells) where
   abbrev Named : List ℕ → List (ℕ × Document) → List (List ℕ × Document)
@@ -99,7 +96,7 @@ module _ (C : Cells) where
             (then_ (n - f.room))
             ∙ ap (λ k. map (at_slot C) (copies f.cell k (min n f.room) (child f.goal))
             ++ map (at_slot C) (filler_slots can child (n - f.room) fs)) (sym (h f (inl refl)))
-            ∙ sym (map_over (at_slot C) (copies f.cell f.first (min n f.room) (child f.goal))
+            ∙ sym (map-append (at_slot C) (copies f.cell f.first (min n f.room) (child f.goal))
             (filler_slots can child (n - f.room) fs))
 
     -- fillers stand in different cells
@@ -114,7 +111,8 @@ module _ (C : Cells) where
             away (f ∷ fs) h (inr i) = away fs (λ g j. h g (inr j)) i
 
             go : (o : Option (List Signed)) (n : ℕ) → Distinct (map (λ f. f.cell) (flat_map (filler_at T frame q) cs))
-                → Distinct (map (λ f. f.cell) (with_room c (count_in c q.members) o n ++ flat_map (filler_at T frame q) cs))
+                → Distinct (map (λ f. f.cell) (with_room c (count_in c q.members) o n
+                    ++ flat_map (filler_at T frame q) cs))
             go o zero h = h
             go None (suc n) h = h
             go (Some g) (suc n) h = (
@@ -146,6 +144,6 @@ module _ (C : Cells) where
           let h : count_in c q.members ≡ count_in f.cell q.members = ap (λ z. count_in z q.members) (sym k.cell) in
           let first = k.first in omega (arith, first, h, e))
           (fillers_differ d))
-          ∙ sym (map_over (at_slot C)
+          ∙ sym (map-append (at_slot C)
           (member_slots (λ m. child_of can child (goal_of T frame (In m.cell, m.served))) [] q.members)
           (filler_slots can child (need frame q) (fillers T frame q)))

@@ -1,42 +1,11 @@
 use Rattle.std.proofs.lemmas.Bool.{cases_eq, cases_lt, and_parts, and_from, or_cases, or_left, or_right, ltb-true, ltb-false, lt-ltb, le-ltb, eqb-true, eq-eqb}
 use Rattle.std.proofs.Common.{zero-add, suc-add, ◌≡◌, ℕ, zero, suc, ◌+◌, ◌-◌, ◌<◌, ◌≤◌, ◌⊎◌, inl, inr, ⊎_elim, Bool, true, false, ◌&&◌, cond, not, nat_lt, nat_eq, List, [], ◌∷◌, ◌++◌, length, slice_index, flat_map, Option, Some, None, IfSome, IsTrue, ◌↔◌, refl, sym, subst, arith}
+use Rattle.list_laws.specs.In.{IsIn}
+use Rattle.list_laws.proofs.Lists.{in_left, in_right, in_append, in_flat_map, from_flat_map}
 use Rattle.patterns.specs.CharSet.{has}
 use Rattle.patterns.specs.Tree.{Tree, Trees, empty, one_of, at_start, at_end, in_turn, either, repeated, no_trees, tree}
 use Rattle.patterns.specs.Match.{Repeats, Matches, MatchesInTurn, MatchesOne, IsFoundIn}
 use Rattle.patterns.specs.Decision.{ends_after, ends_within, ends_repeated, ends, ends_in_turn, ends_of_one, is_empty, finds_up_to, finds}
-
-abbrev pub IsIn : {A : Type 0} → A → List A → Type 0
-IsIn x [] = ⊥
-IsIn x (y ∷ ys) = (x ≡ y) ⊎ IsIn x ys
-
-pub in_left : {A : Type 0} (x : A) (xs ys : List A) → IsIn x xs → IsIn x (xs ++ ys)
-in_left x [] ys h = absurd h
-in_left x (a ∷ xs) ys (inl e) = inl e
-in_left x (a ∷ xs) ys (inr h) = inr (in_left x xs ys h)
-
-pub in_right : {A : Type 0} (x : A) (xs ys : List A) → IsIn x ys → IsIn x (xs ++ ys)
-in_right x [] ys h = h
-in_right x (a ∷ xs) ys h = inr (in_right x xs ys h)
-
-pub in_append : {A : Type 0} (x : A) (xs ys : List A) → IsIn x (xs ++ ys) → IsIn x xs ⊎ IsIn x ys
-in_append x [] ys h = inr h
-in_append x (a ∷ xs) ys (inl e) = inl (inl e)
-in_append x (a ∷ xs) ys (inr h) = ⊎_elim (λ l. inl (inr l)) (λ r. inr r) (in_append x xs ys h)
-
-pub in_flat_map : {A B : Type 0} (f : A → List B) (y : B) (x : A) (xs : List A) → IsIn x xs → IsIn y (f x)
-    → IsIn y (flat_map f xs)
-in_flat_map f y x [] h k = absurd h
-in_flat_map f y x (a ∷ xs) (inl e) k = in_left y (f a) (flat_map f xs) (subst (λ z. IsIn y (f z)) e k)
-in_flat_map f y x (a ∷ xs) (inr h) k = in_right y (f a) (flat_map f xs) (in_flat_map f y x xs h k)
-
-pub from_flat_map : {A B : Type 0} (f : A → List B) (y : B) (xs : List A) → IsIn y (flat_map f xs)
-    → (x : A) × IsIn x xs × IsIn y (f x)
-from_flat_map f y [] h = absurd h
-from_flat_map f y (a ∷ xs) h =
-    elim (in_append y (f a) (flat_map f xs) h) [
-      | inl l ↦ (a, inl refl, l)
-      | inr r ↦ let (x, i, k) = from_flat_map f y xs r in (x, inr i, k)
-    ]
 
 module _ (f : ℕ → List ℕ) (R : ℕ → ℕ → Type 0) where
   after_sound : ((i j : ℕ) → IsIn j (f i) → R i j) → (k i j : ℕ) → IsIn j (ends_after f k i) → Repeats R k i j

@@ -7,5 +7,7 @@ pub mod Sets
 pub mod Gaps
 -- How many members a set has.
 pub mod Counts
+-- The test on trees says whether they are equal.
+pub mod SameTrees
 -- Worked examples.
 pub mod Examples

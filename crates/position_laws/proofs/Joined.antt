@@ -10,7 +10,7 @@ use Rattle.positions.specs.Position.{Position, True, All, Any, One, Items}
 use Rattle.positions.specs.Position.{position_at, in_place, of_parts, names_below, in_range, ranks_fall, is_table}
 use Rattle.positions.specs.Holds.{asks, holds, IsTable}
 use Rattle.position_laws.specs.Join.{renamed, moved, joined}
-use Rattle.position_laws.proofs.Lists.{all-weaker, all-both, all-everywhere, every-all, all-every, every-same, every-map, every-append}
+use Rattle.position_laws.proofs.Lists.{all-weaker, all-both, all-everywhere, every-all, all-every, every-same, every-map, every-append, every-weaker}
 use Rattle.position_laws.proofs.Asks.{asks-same, asks-renamed, holds-asks}
 use Rattle.position_laws.proofs.Tables.{is_table-length, is_table-below, is_table-range, is_table-fall, is_table-IsTable, names_below-all}
 
@@ -91,10 +91,6 @@ names_below-more n m l P e =
 
 names_below-moved : (n m : ℕ) (P : Position) → names_below m P ≡ true → names_below (n + m) (moved n P) ≡ true
 names_below-moved n m P e = names_below-renamed m (n + m) (λ q. n + q) (λ q h. omega (arith, h)) P e
-
-every-weaker : {A : Type 0} (p q : A → Bool) (xs : List A) → ((x : A) → p x ≡ true → q x ≡ true)
-    → every p xs ≡ true → every q xs ≡ true
-every-weaker p q xs f e = all-every q xs (all-weaker _ _ xs f (every-all p xs e))
 
 names_below-joined : (A B : List Position) → every (names_below (length A)) A ≡ true
     → every (names_below (length B)) B ≡ true

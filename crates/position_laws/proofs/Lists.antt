@@ -89,6 +89,10 @@ pub all-every : {A : Type 0} (p : A → Bool) (xs : List A) → AllByRecursion (
 all-every p [] h = refl
 all-every p (x ∷ xs) h = and_from (p x) (every p xs) h.0 (all-every p xs h.1)
 
+pub every-weaker : {A : Type 0} (p q : A → Bool) (xs : List A) → ((x : A) → p x ≡ true → q x ≡ true)
+    → every p xs ≡ true → every q xs ≡ true
+every-weaker p q xs f e = all-every q xs (all-weaker _ _ xs f (every-all p xs e))
+
 pub some-all : {A : Type 0} (p : A → Bool) (xs : List A) → some p xs ≡ false
     → AllByRecursion (λ x. p x ≡ false) xs
 some-all p [] e = tt

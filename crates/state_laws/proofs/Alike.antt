@@ -3,7 +3,8 @@ use Rattle.std.proofs.Common.{◌≡◌, ℕ, zero, suc, ◌+◌, ◌-◌, max, 
 use Rattle.patterns.specs.CharSet.{has}
 use Rattle.patterns.specs.Tree.{Tree, Trees, empty, one_of, at_start, at_end, in_turn, either, repeated, no_trees, tree}
 use Rattle.patterns.specs.Decision.{is_empty}
-use Rattle.pattern_laws.proofs.Decides.{IsIn, in_left, in_right}
+use Rattle.list_laws.proofs.Lists.{in_left, in_right}
+use Rattle.list_laws.specs.In.{IsIn}
 use Rattle.word_states.specs.Position.{count_of, times, sets_of, sets_in}
 use Rattle.word_states.specs.PatternState.{PatternState, done, reading, pattern_state}
 use Rattle.state_laws.specs.Flow.{is_among, ends_here, next_copies, next_copies_on, reads_next, reads_next_in_turn, reads_next_of_one, state_with, next_state, is_accepted}

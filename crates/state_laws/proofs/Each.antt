@@ -3,12 +3,13 @@
 -- The positions are taken in rising order: what was read below n, and then position n.
 use Rattle.std.proofs.lemmas.Bool.{ltb-true, ltb-false, lt-ltb, le-ltb, eq-eqb, ne_eqb, cases_eq}
 use Rattle.std.proofs.Common.{◌≡◌, ℕ, zero, suc, inl, inr, Bool, true, false, ◌&&◌, ◌||◌, nat_lt, [], if◌then◌else◌, refl, sym, ◌∙◌, ap, ap₂, arith}
+use Rattle.std.proofs.Math.Bool.{or-false, or-true, and-false}
 use Rattle.patterns.specs.Tree.{Tree}
 use Rattle.word_states.specs.Position.{count_of, sets_of}
 use Rattle.state_laws.specs.Flow.{ends_here, is_among, flag_at, state_with}
 use Rattle.state_laws.specs.Rows.{or_each, and_each, sets_have, none_read, only, may_follow, follow_each, ends_each}
 use Rattle.state_laws.specs.UnionLaws.{IsEither, IsQuiet, EndsOfEach, FollowsEach, NextOfEach, StepsByRows}
-use Rattle.state_laws.proofs.RowsLemmas.{or_nothing, or_true, and_nothing, or_each_none, or_each_no_flags, length_follow}
+use Rattle.state_laws.proofs.RowsLemmas.{or_each_none, or_each_no_flags, length_follow}
 use Rattle.state_laws.proofs.EndsUnion.{ends_join}
 use Rattle.state_laws.proofs.FollowsUnion.{follow_joins}
 use Rattle.state_laws.proofs.Sets.{next_asks_sets}
@@ -25,7 +26,7 @@ from n read p = (if nat_lt p n then false else true) && read p
 below_or_from : (n : ℕ) (read : ℕ → Bool) → IsEither read (below n read) (from n read)
 below_or_from n read p = go (nat_lt p n) where
   go : (b : Bool) → read p ≡ ((b && read p) || ((if b then false else true) && read p))
-  go true = sym (or_nothing (read p))
+  go true = sym (or-false (read p))
   go false = refl
 
 from_quiet : (n : ℕ) (read : ℕ → Bool) → IsQuiet (from n read) 0 n
@@ -49,10 +50,10 @@ one_more : (n : ℕ) (read : ℕ → Bool) → read n ≡ true → IsEither (bel
 one_more n read r p = elim (cases_eq p n) [
   | inl e ↦
       ap₂ (λ a b. a && b) (lt-ltb p (suc n) (omega (arith, e))) (ap read e ∙ r)
-      ∙ sym (ap (λ b. below n read p || b) (eq-eqb p n e) ∙ or_true (below n read p))
+      ∙ sym (ap (λ b. below n read p || b) (eq-eqb p n e) ∙ or-true (below n read p))
   | inr d ↦
       ap (λ b. b && read p) (lt_but p n d)
-      ∙ sym (ap (λ b. below n read p || b) (ne_eqb p n d) ∙ or_nothing (below n read p))
+      ∙ sym (ap (λ b. below n read p || b) (ne_eqb p n d) ∙ or-false (below n read p))
 ]
 
 -- or which was not
@@ -60,8 +61,8 @@ no_more : (n : ℕ) (read : ℕ → Bool) → read n ≡ false → (p : ℕ) →
 no_more n read r p = elim (cases_eq p n) [
   | inl e ↦
       let f = ap read e ∙ r in
-      ap (λ b. nat_lt p (suc n) && b) f ∙ and_nothing (nat_lt p (suc n))
-      ∙ sym (ap (λ b. nat_lt p n && b) f ∙ and_nothing (nat_lt p n))
+      ap (λ b. nat_lt p (suc n) && b) f ∙ and-false (nat_lt p (suc n))
+      ∙ sym (ap (λ b. nat_lt p n && b) f ∙ and-false (nat_lt p n))
   | inr d ↦ ap (λ b. b && read p) (lt_but p n d)
 ]
 
@@ -71,15 +72,15 @@ module _ (t : Tree) (first last : Bool) where
   ends_with_quiet : (read one other : ℕ → Bool) (b : Bool) → IsEither read one other → IsQuiet other 0 (count_of t)
       → ends_here t first last read 0 b ≡ ends_here t first last one 0 b
   ends_with_quiet read one other b is q =
-      ap (ends_here t first last read 0) (sym (or_nothing b))
+      ap (ends_here t first last read 0) (sym (or-false b))
       ∙ ends_join t first last read one other is 0 b false
       ∙ ap (λ x. ends_here t first last one 0 b || x) (nothing_ends t first last other 0 q)
-      ∙ or_nothing (ends_here t first last one 0 b)
+      ∙ or-false (ends_here t first last one 0 b)
 
   ends_same : (read one : ℕ → Bool) (b : Bool) → ((p : ℕ) → read p ≡ one p)
       → ends_here t first last read 0 b ≡ ends_here t first last one 0 b
   ends_same read one b e =
-      ends_with_quiet read one none_read b (λ p. e p ∙ sym (or_nothing (one p))) (none_quiet 0 (count_of t))
+      ends_with_quiet read one none_read b (λ p. e p ∙ sym (or-false (one p))) (none_quiet 0 (count_of t))
 
   ends_below : (read : ℕ → Bool) (b : Bool) (n : ℕ)
       → ends_here t first last (below n read) 0 b ≡ ends_each t first last read b n
@@ -89,13 +90,13 @@ module _ (t : Tree) (first last : Bool) where
         → ends_here t first last (below (suc n) read) 0 b
         ≡ (ends_each t first last read b n || (r && ends_here t first last (only n) 0 false))
     go true e f =
-        ap (ends_here t first last (below (suc n) read) 0) (sym (or_nothing b))
+        ap (ends_here t first last (below (suc n) read) 0) (sym (or-false b))
         ∙ ends_join t first last (below (suc n) read) (below n read) (only n) (one_more n read e) 0 b false
         ∙ ap (λ x. x || ends_here t first last (only n) 0 false) f
     go false e f =
         ends_same (below (suc n) read) (below n read) b (no_more n read e)
         ∙ f
-        ∙ sym (or_nothing (ends_each t first last read b n))
+        ∙ sym (or-false (ends_each t first last read b n))
 
 pub ends_of_each : EndsOfEach
 ends_of_each t first last read b =
@@ -108,7 +109,7 @@ module _ (t : Tree) (first : Bool) where
   follow_with_quiet : (read one other : ℕ → Bool) (b : Bool) → IsEither read one other → IsQuiet other 0 (count_of t)
       → may_follow t first read 0 b ≡ may_follow t first one 0 b
   follow_with_quiet read one other b is q =
-      ap (may_follow t first read 0) (sym (or_nothing b))
+      ap (may_follow t first read 0) (sym (or-false b))
       ∙ follow_joins t first read one other is 0 b false
       ∙ ap (or_each (may_follow t first one 0 b)) (nothing_follows t first other 0 q)
       ∙ or_each_no_flags (may_follow t first one 0 b) (count_of t) (length_follow t first one 0 b)
@@ -116,7 +117,7 @@ module _ (t : Tree) (first : Bool) where
   follow_same : (read one : ℕ → Bool) (b : Bool) → ((p : ℕ) → read p ≡ one p)
       → may_follow t first read 0 b ≡ may_follow t first one 0 b
   follow_same read one b e =
-      follow_with_quiet read one none_read b (λ p. e p ∙ sym (or_nothing (one p))) (none_quiet 0 (count_of t))
+      follow_with_quiet read one none_read b (λ p. e p ∙ sym (or-false (one p))) (none_quiet 0 (count_of t))
 
   follow_below : (read : ℕ → Bool) (b : Bool) (n : ℕ)
       → may_follow t first (below n read) 0 b ≡ follow_each t first read b n
@@ -126,7 +127,7 @@ module _ (t : Tree) (first : Bool) where
         → may_follow t first (below (suc n) read) 0 b
         ≡ or_each (follow_each t first read b n) (if r then may_follow t first (only n) 0 false else [])
     go true e f =
-        ap (may_follow t first (below (suc n) read) 0) (sym (or_nothing b))
+        ap (may_follow t first (below (suc n) read) 0) (sym (or-false b))
         ∙ follow_joins t first (below (suc n) read) (below n read) (only n) (one_more n read e) 0 b false
         ∙ ap (λ x. or_each x (may_follow t first (only n) 0 false)) f
     go false e f =

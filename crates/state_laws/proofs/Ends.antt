@@ -5,7 +5,9 @@ use Rattle.std.specs.List.{list_any}
 use Rattle.patterns.specs.CharSet.{has}
 use Rattle.patterns.specs.Tree.{Tree, Trees, empty, one_of, at_start, at_end, in_turn, either, repeated, no_trees, tree}
 use Rattle.patterns.specs.Decision.{ends, ends_in_turn, ends_of_one, ends_after, ends_within, is_empty}
-use Rattle.pattern_laws.proofs.Decides.{IsIn, in_flat_map, from_flat_map, sound, complete}
+use Rattle.list_laws.proofs.Lists.{in_flat_map, from_flat_map}
+use Rattle.list_laws.specs.In.{IsIn}
+use Rattle.pattern_laws.proofs.Decides.{sound, complete}
 use Rattle.word_states.specs.Position.{count_of}
 use Rattle.word_states.specs.LastRead.{reads_end, in_copies, in_copies_on, last_read, last_read_in_turn, last_read_of_one}
 use Rattle.word_states.specs.PatternState.{without_end, all_without_end}
@@ -96,7 +98,8 @@ module _ (one : ℕ → Bool → Bool) (count n : ℕ) (f : ℕ → List ℕ) (r
     → one base (is_among xs n) ≡ is_among (flat_map f xs) n) where
   later : (base : ℕ) (xs : List ℕ) (more : List Bool) → Agrees read base (reads xs ++ more)
       → Agrees read (base + count) more
-  later base xs more a = subst (λ k. Agrees read (base + k) more) (counted xs) (agrees_right read base (reads xs) more a)
+  later base xs more a = subst (λ k. Agrees read (base + k) more) (counted xs)
+      (agrees_right read base (reads xs) more a)
 
   ends_some : (k base : ℕ) (xs : List ℕ) → Agrees read base (in_copies reads (flat_map f) k xs)
       → through_some one count k base (is_among xs n) ≡ is_among (flat_map (ends_within f k) xs) n
@@ -105,8 +108,10 @@ module _ (one : ℕ → Bool → Bool) (count n : ℕ) (f : ℕ → List ℕ) (r
       ap (λ b. is_among xs n || through_some one count k (base + count) b)
       (ends_one base xs (agrees_left read base (reads xs) _ a))
       ∙ ap (λ b. is_among xs n || b)
-      (ends_some k (base + count) (flat_map f xs) (later base xs _ a) ∙ ap (λ z. is_among z n) (flat_flat (ends_within f k) f xs))
-      ∙ ap (λ z. is_among z n || is_among (flat_map (λ i. flat_map (ends_within f k) (f i)) xs) n) (sym (flat_single xs))
+      (ends_some k (base + count) (flat_map f xs) (later base xs _ a)
+          ∙ ap (λ z. is_among z n) (flat_flat (ends_within f k) f xs))
+      ∙ ap (λ z. is_among z n || is_among (flat_map (λ i. flat_map (ends_within f k) (f i)) xs) n)
+          (sym (flat_single xs))
       ∙ sym (among_both (λ i. i ∷ []) (λ i. flat_map (ends_within f k) (f i)) n xs)
 
   -- after one more copy
@@ -114,7 +119,8 @@ module _ (one : ℕ → Bool → Bool) (count n : ℕ) (f : ℕ → List ℕ) (r
       → flat_map (λ i. flat_map W (ends_after f (suc l) i)) xs
       ≡ flat_map (λ i. flat_map W (ends_after f l i)) (flat_map f xs)
   shift W l xs =
-      flat_same (λ i. flat_map W (flat_map (ends_after f l) (f i))) (λ i. flat_map (λ h. flat_map W (ends_after f l h)) (f i))
+      flat_same (λ i. flat_map W (flat_map (ends_after f l) (f i)))
+          (λ i. flat_map (λ h. flat_map W (ends_after f l h)) (f i))
       xs (λ i. flat_flat W (ends_after f l) (f i))
       ∙ sym (flat_flat (λ i. flat_map W (ends_after f l i)) f xs)
 
@@ -181,7 +187,8 @@ module _ (w : List ℕ) (read : ℕ → Bool) where
       and_from _ _ (in_among 0 xs (subst (λ z. IsIn z xs) e a)) refl)
   start_ends (c ∷ v) xs =
       same_truth _ _ (λ h. absurd (false≢true (and_parts (is_among xs (length (c ∷ v))) false h).1))
-      (λ h. let (i, a, k) = from_flat_map (ends at_start (c ∷ v)) (length (c ∷ v)) xs (from_among (length (c ∷ v)) _ h) in
+      (λ h. let (i, a, k) = from_flat_map (ends at_start (c ∷ v)) (length (c ∷ v)) xs
+          (from_among (length (c ∷ v)) _ h) in
       let (e, f) = sound at_start (c ∷ v) i (length (c ∷ v)) k in absurd (omega (arith, f)))
 
   end_ends : (xs : List ℕ) → is_among xs (length w) && true ≡ is_among (flat_map (ends at_end w) xs) (length w)
@@ -208,13 +215,16 @@ module _ (w : List ℕ) (read : ℕ → Bool) where
   ends_later t h base xs a =
       ap (one t base) (sym (below_lacks (length w) (pieces t w xs)))
       ∙ h base (below (length w) (pieces t w xs))
-      (subst (Agrees read base) (sym (read_same w t (below (length w) (pieces t w xs)) (pieces t w xs) (below_same (length w) (pieces t w xs)))) a)
+      (subst (Agrees read base) (sym (read_same w t (below (length w) (pieces t w xs)) (pieces t w xs)
+          (below_same (length w) (pieces t w xs)))) a)
 
-  pub ends_pieces : (t : Tree) → EndsHere t → (base : ℕ) (xs : List ℕ) → Agrees read base (last_read t w (pieces t w xs))
+  pub ends_pieces : (t : Tree) → EndsHere t → (base : ℕ) (xs : List ℕ)
+      → Agrees read base (last_read t w (pieces t w xs))
       → is_among xs (length w) || one t base false ≡ is_among (pieces t w xs) (length w)
   ends_pieces t h base xs a =
       ap (λ b. is_among xs (length w) || b) (ends_later t h base xs a)
-      ∙ sym (pieces_end t w (length w) xs refl ∙ among_append (length w) xs (piece t w (below (length w) (pieces t w xs))))
+      ∙ sym (pieces_end t w (length w) xs refl ∙ among_append (length w) xs
+          (piece t w (below (length w) (pieces t w xs))))
 
   ends_last : (t : Tree) → EndsHere t → (base : ℕ) (xs : List ℕ) → Agrees read base (last_read t w (pieces t w xs))
       → one t base (is_among xs (length w) || one t base false) ≡ is_among (pieces t w (piece t w xs)) (length w)
@@ -226,7 +236,8 @@ module _ (w : List ℕ) (read : ℕ → Bool) where
       → nat_lt high low ≡ b
       → (if b then false else through_copies (one t) (count_of t) (high - low) low base (is_among xs (length w)))
       ≡ is_among
-      (flat_map (λ i. if b then [] else flat_map (ends_within (ends t w) (high - low)) (ends_after (ends t w) low i)) xs)
+      (flat_map (λ i. if b then [] else flat_map (ends_within (ends t w) (high - low))
+          (ends_after (ends t w) low i)) xs)
       (length w)
   bounded t h low high base xs a true e =
       sym (ap (λ z. is_among z (length w)) (flat_none xs))

@@ -1,15 +1,16 @@
 -- Whether a match can end, of what one or the other was read.
 use Rattle.std.proofs.Common.{◌≡◌, ℕ, zero, suc, ◌+◌, ◌-◌, Bool, true, false, ◌||◌, nat_lt, if◌then◌else◌, Some, None, refl, ◌∙◌, ap, ap₂}
+use Rattle.std.proofs.Math.Bool.{or-true}
 use Rattle.patterns.specs.Tree.{Tree, Trees, empty, one_of, at_start, at_end, in_turn, either, repeated, no_trees, tree}
 use Rattle.word_states.specs.Position.{count_of}
 use Rattle.state_laws.specs.Flow.{through_some, through_copies, through_copies_on, ends_here, ends_here_in_turn, ends_here_of_one}
 use Rattle.state_laws.specs.UnionLaws.{IsEither, EndsJoin}
-use Rattle.state_laws.proofs.RowsLemmas.{or_true, and_joined}
+use Rattle.state_laws.proofs.RowsLemmas.{and_joined}
 
 -- ---- tests
 pub or_turned : (a b c d : Bool) → ((a || b) || (c || d)) ≡ ((a || c) || (b || d))
 or_turned true b c d = refl
-or_turned false b true d = or_true b
+or_turned false b true d = or-true b
 or_turned false b false d = refl
 
 if_joined : (a b c : Bool) → (if a then false else (b || c)) ≡ ((if a then false else b) || (if a then false else c))

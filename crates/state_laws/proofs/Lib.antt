@@ -12,6 +12,8 @@ pub mod Ends
 pub mod Next
 -- The state of the empty word, and after one more character.
 pub mod States
+-- The test on atoms says whether they are equal.
+pub mod SameAtoms
 -- Characters that no position's set tells apart.
 pub mod Alike
 -- Lists of flags, joined position by position.

@@ -5,7 +5,7 @@ use Rattle.std.specs.List.{list_any}
 use Rattle.patterns.specs.CharSet.{has}
 use Rattle.patterns.specs.Tree.{Tree, Trees, empty, one_of, at_start, at_end, in_turn, either, repeated, no_trees, tree}
 use Rattle.patterns.specs.Decision.{ends, is_empty}
-use Rattle.pattern_laws.proofs.Decides.{IsIn}
+use Rattle.list_laws.specs.In.{IsIn}
 use Rattle.word_states.specs.Position.{count_of}
 use Rattle.word_states.specs.LastRead.{reads_end, in_copies, in_copies_on, last_read, last_read_in_turn, last_read_of_one}
 use Rattle.word_states.specs.PatternState.{without_end, all_without_end}
@@ -21,17 +21,20 @@ module _ (one two : ℕ → Bool → Bool) (same : (base : ℕ) (b : Bool) → o
   some_same m n zero base b e = refl
   some_same m n (suc k) base b e =
       ap (λ x. b || x)
-      (ap (λ x. through_some one m k (base + m) x) (same base b) ∙ ap (λ x. through_some one m k (base + x) (two base b)) e
+      (ap (λ x. through_some one m k (base + m) x) (same base b)
+          ∙ ap (λ x. through_some one m k (base + x) (two base b)) e
       ∙ some_same m n k (base + n) (two base b) e)
 
-  copies_same : (m n k l base : ℕ) (b : Bool) → m ≡ n → through_copies one m k l base b ≡ through_copies two n k l base b
+  copies_same : (m n k l base : ℕ) (b : Bool) → m ≡ n → through_copies one m k l base b
+      ≡ through_copies two n k l base b
   copies_same m n k zero base b e = some_same m n k base b e
   copies_same m n k (suc l) base b e =
       ap (λ x. through_copies one m k l (base + m) x) (same base b)
       ∙ ap (λ x. through_copies one m k l (base + x) (two base b)) e
       ∙ copies_same m n k l (base + n) (two base b) e
 
-  copies_on_same : (m n l base : ℕ) (b : Bool) → m ≡ n → through_copies_on one m l base b ≡ through_copies_on two n l base b
+  copies_on_same : (m n l base : ℕ) (b : Bool) → m ≡ n → through_copies_on one m l base b
+      ≡ through_copies_on two n l base b
   copies_on_same m n zero base b e =
       ap (λ x. one base (b || x)) (same base false) ∙ same base (b || two base false)
   copies_on_same m n (suc l) base b e =
@@ -67,7 +70,8 @@ module _ (first last : Bool) (read : ℕ → Bool) where
     ends_open_in_turn (tree t ts) base b =
         ap (λ x. ends_here_in_turn (all_without_end ts) first last read (base + count_of (without_end t)) x)
         (ends_open t base b)
-        ∙ ap (λ x. ends_here_in_turn (all_without_end ts) first last read (base + x) (ends_here t first false read base b))
+        ∙ ap (λ x. ends_here_in_turn (all_without_end ts) first last read (base + x)
+            (ends_here t first false read base b))
         (count_open t)
         ∙ ends_open_in_turn ts (base + count_of t) (ends_here t first false read base b)
 
@@ -77,7 +81,8 @@ module _ (first last : Bool) (read : ℕ → Bool) where
     ends_open_of_one (tree t ts) base b =
         ap (λ x. x || ends_here_of_one (all_without_end ts) first last read (base + count_of (without_end t)) b)
         (ends_open t base b)
-        ∙ ap (λ x. ends_here t first false read base b || ends_here_of_one (all_without_end ts) first last read (base + x) b)
+        ∙ ap (λ x. ends_here t first false read base b || ends_here_of_one (all_without_end ts) first last read
+            (base + x) b)
         (count_open t)
         ∙ ap (λ x. ends_here t first false read base b || x) (ends_open_of_one ts (base + count_of t) b)
 
@@ -147,15 +152,18 @@ module _ (w : List ℕ) (c : ℕ) (read : ℕ → Bool) where
   copies_next : (t : Tree) → Next t → (k base : ℕ) (xs ys zs : List ℕ) → Same (suc (length w)) xs ys
       → Same (length w) ys zs → Agrees read base (in_copies (λ some. last_read t w some) (flat_map (ends t w)) k zs)
       → in_copies (λ some. last_read t longer some) (flat_map (ends t longer)) k xs
-      ≡ next_copies (λ at some. reads_next t (is_empty w) read c at some) (one t) (count_of t) k base (is_among ys (length w))
+      ≡ next_copies (λ at some. reads_next t (is_empty w) read c at some) (one t) (count_of t) k base
+          (is_among ys (length w))
   copies_next t h zero base xs ys zs s r a = refl
   copies_next t h (suc k) base xs ys zs s r a =
-      ap (λ z. z ++ in_copies (λ some. last_read t longer some) (flat_map (ends t longer)) k (flat_map (ends t longer) xs))
+      ap (λ z. z ++ in_copies (λ some. last_read t longer some) (flat_map (ends t longer)) k
+          (flat_map (ends t longer) xs))
       (h base xs ys zs s r (agrees_left read base (last_read t w zs) _ a))
       ∙ ap (λ z. reads_next t (is_empty w) read c base (is_among ys (length w)) ++ z)
       (copies_next t h k (base + count_of t) (flat_map (ends t longer) xs) (flat_map (ends (without_end t) w) ys)
       (flat_map (ends t w) zs) (steps_longer t xs ys s) (steps_open w t ys zs r) (later t base zs _ a)
-      ∙ ap (next_copies (λ at some. reads_next t (is_empty w) read c at some) (one t) (count_of t) k (base + count_of t))
+      ∙ ap (next_copies (λ at some. reads_next t (is_empty w) read c at some) (one t) (count_of t) k
+          (base + count_of t))
       (sym (ends_next t base ys zs r (agrees_left read base (last_read t w zs) _ a))))
 
   copies_on_next : (t : Tree) → Next t → (k base : ℕ) (xs ys zs : List ℕ) → Same (suc (length w)) xs ys
@@ -188,7 +196,8 @@ module _ (w : List ℕ) (c : ℕ) (read : ℕ → Bool) where
       ∙ ap (λ z. reads_next t (is_empty w) read c base (is_among ys (length w)) ++ z)
       (copies_on_next t h k (base + count_of t) (flat_map (ends t longer) xs) (flat_map (ends (without_end t) w) ys)
       (flat_map (ends t w) zs) (steps_longer t xs ys s) (steps_open w t ys zs r) (later t base zs _ a)
-      ∙ ap (next_copies_on (λ at some. reads_next t (is_empty w) read c at some) (one t) (count_of t) k (base + count_of t))
+      ∙ ap (next_copies_on (λ at some. reads_next t (is_empty w) read c at some) (one t) (count_of t) k
+          (base + count_of t))
       (sym (ends_next t base ys zs r (agrees_left read base (last_read t w zs) _ a))))
 
   mutual

@@ -5,7 +5,9 @@ use Rattle.patterns.specs.CharSet.{has}
 use Rattle.patterns.specs.Tree.{Tree, Trees, empty, one_of, at_start, at_end, in_turn, either, repeated, no_trees, tree}
 use Rattle.patterns.specs.Match.{Repeats, Matches, MatchesInTurn, MatchesOne}
 use Rattle.patterns.specs.Decision.{ends}
-use Rattle.pattern_laws.proofs.Decides.{IsIn, in_left, in_right, in_append, in_flat_map, from_flat_map, sound, complete}
+use Rattle.list_laws.proofs.Lists.{in_left, in_right, in_append, in_flat_map, from_flat_map}
+use Rattle.list_laws.specs.In.{IsIn}
+use Rattle.pattern_laws.proofs.Decides.{sound, complete}
 use Rattle.word_states.specs.PatternState.{without_end, all_without_end}
 use Rattle.state_laws.specs.Flow.{is_among}
 use Rattle.state_laws.proofs.Places.{Fits, Same, same_among, below, in_below, from_below}

@@ -3,7 +3,8 @@ use Rattle.std.proofs.lemmas.Bool.{or_cases, or_left, or_right, false_from_ne_tr
 use Rattle.std.proofs.Common.{◌≡◌, ℕ, ◌<◌, inl, inr, ⊎_elim, Bool, true, false, ◌||◌, nat_lt, nat_eq, List, [], ◌∷◌, ◌++◌, flat_map, if◌then◌else◌, refl, sym, ◌∙◌, ap, subst, arith}
 use Rattle.std.proofs.lemmas.Grind.{flat_map-append}
 use Rattle.std.specs.List.{list_any}
-use Rattle.pattern_laws.proofs.Decides.{IsIn, in_left, in_right, in_append, in_flat_map, from_flat_map}
+use Rattle.list_laws.proofs.Lists.{in_left, in_right, in_append, in_flat_map, from_flat_map}
+use Rattle.list_laws.specs.In.{IsIn}
 use Rattle.state_laws.specs.Flow.{is_among}
 
 -- two tests that are true together are equal
@@ -112,7 +113,8 @@ among_append j xs ys =
     same_truth _ _
     (λ h. ⊎_elim (λ a. or_left _ _ (in_among j xs a)) (λ b. or_right _ _ (in_among j ys b))
     (in_append j xs ys (from_among j (xs ++ ys) h)))
-    (λ h. in_among j (xs ++ ys) (⊎_elim (λ a. in_left j xs ys (from_among j xs a)) (λ b. in_right j xs ys (from_among j ys b))
+    (λ h. in_among j (xs ++ ys) (⊎_elim (λ a. in_left j xs ys (from_among j xs a))
+        (λ b. in_right j xs ys (from_among j ys b))
     (or_cases (is_among xs j) (is_among ys j) h)))
 
 -- what comes of two functions at each place

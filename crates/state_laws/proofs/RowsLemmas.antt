@@ -1,24 +1,12 @@
 -- Lists of flags, joined position by position.
 use Rattle.std.proofs.Common.{◌≡◌, ℕ, zero, suc, ◌+◌, ◌-◌, ◌*◌, max, Bool, true, false, ◌&&◌, ◌||◌, List, [], ◌∷◌, ◌++◌, length, Some, None, refl, sym, ◌∙◌, ap, ap₂, arith, length-append}
+use Rattle.std.proofs.Math.Bool.{or-false, and-false}
 use Rattle.patterns.specs.CharSet.{has}
 use Rattle.patterns.specs.Tree.{Tree, Trees, empty, one_of, at_start, at_end, in_turn, either, repeated, no_trees, tree}
 use Rattle.word_states.specs.Position.{count_of, count_in, copies, times, sets_of, sets_in}
 use Rattle.state_laws.specs.Flow.{ends_here, next_copies, next_copies_on, flag_at}
 use Rattle.state_laws.specs.Rows.{or_each, and_each, no_flags, sets_have, may_follow, may_follow_in_turn, may_follow_of_one}
 use Rattle.state_laws.specs.UnionLaws.{FlagsJoin}
-
--- ---- tests
-pub or_nothing : (b : Bool) → (b || false) ≡ b
-or_nothing true = refl
-or_nothing false = refl
-
-pub or_true : (b : Bool) → (b || true) ≡ true
-or_true true = refl
-or_true false = refl
-
-pub and_nothing : (b : Bool) → (b && false) ≡ false
-and_nothing true = refl
-and_nothing false = refl
 
 pub and_joined : (a b c : Bool) → ((a || b) && c) ≡ ((a && c) || (b && c))
 and_joined true true true = refl
@@ -43,11 +31,11 @@ pub or_each_no_flags : (xs : List Bool) (n : ℕ) → length xs ≡ n → or_eac
 or_each_no_flags [] zero e = refl
 or_each_no_flags [] (suc n) e = absurd (omega (arith, e))
 or_each_no_flags (x ∷ xs) zero e = refl
-or_each_no_flags (x ∷ xs) (suc n) e = ap₂ (λ y ys. y ∷ ys) (or_nothing x) (or_each_no_flags xs n (omega (arith, e)))
+or_each_no_flags (x ∷ xs) (suc n) e = ap₂ (λ y ys. y ∷ ys) (or-false x) (or_each_no_flags xs n (omega (arith, e)))
 
 or_each_flag : (xs ys : List Bool) (p : ℕ) → flag_at (or_each xs ys) p ≡ (flag_at xs p || flag_at ys p)
 or_each_flag [] ys p = refl
-or_each_flag (x ∷ xs) [] p = sym (or_nothing (flag_at (x ∷ xs) p))
+or_each_flag (x ∷ xs) [] p = sym (or-false (flag_at (x ∷ xs) p))
 or_each_flag (x ∷ xs) (y ∷ ys) zero = refl
 or_each_flag (x ∷ xs) (y ∷ ys) (suc p) = or_each_flag xs ys p
 
@@ -73,7 +61,7 @@ and_each_no_flags (suc n) (y ∷ ys) e = ap (λ z. false ∷ z) (and_each_no_fla
 
 and_each_flag : (xs ys : List Bool) (p : ℕ) → flag_at (and_each xs ys) p ≡ (flag_at xs p && flag_at ys p)
 and_each_flag [] ys p = refl
-and_each_flag (x ∷ xs) [] p = sym (and_nothing (flag_at (x ∷ xs) p))
+and_each_flag (x ∷ xs) [] p = sym (and-false (flag_at (x ∷ xs) p))
 and_each_flag (x ∷ xs) (y ∷ ys) zero = refl
 and_each_flag (x ∷ xs) (y ∷ ys) (suc p) = and_each_flag xs ys p
 

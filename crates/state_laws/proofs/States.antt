@@ -6,7 +6,9 @@ use Rattle.patterns.specs.CharSet.{has}
 use Rattle.patterns.specs.Tree.{Tree, Trees, empty, one_of, at_start, at_end, in_turn, either, repeated, no_trees, tree}
 use Rattle.patterns.specs.Match.{Matches, MatchesInTurn, MatchesOne, IsFoundIn}
 use Rattle.patterns.specs.Decision.{ends, is_empty, finds}
-use Rattle.pattern_laws.proofs.Decides.{IsIn, in_left, in_right, in_append, in_flat_map, from_flat_map, sound, complete, finds-decides}
+use Rattle.list_laws.proofs.Lists.{in_left, in_right, in_append, in_flat_map, from_flat_map}
+use Rattle.list_laws.specs.In.{IsIn}
+use Rattle.pattern_laws.proofs.Decides.{sound, complete, finds-decides}
 use Rattle.word_states.specs.LastRead.{reads_end, in_copies, in_copies_on, last_read, last_read_in_turn, last_read_of_one}
 use Rattle.word_states.specs.PatternState.{done, reading, without_end, all_without_end, places_to, numbers_from, is_done, read_flags, pattern_state}
 use Rattle.state_laws.specs.Flow.{flag_at, is_among, ends_here, reads_next, state_with, next_state, is_accepted}
@@ -152,11 +154,13 @@ finds_ends t w = same_truth _ _ to from where
 done_longer : (t : Tree) (w : List ℕ) (c : ℕ)
     → is_done t (w ++ c ∷ [])
     ≡ is_done t w
-    || is_among (flat_map (ends (without_end t) (w ++ c ∷ [])) (places_to (length (w ++ c ∷ [])))) (length (w ++ c ∷ []))
+    || is_among (flat_map (ends (without_end t) (w ++ c ∷ [])) (places_to (length (w ++ c ∷ []))))
+        (length (w ++ c ∷ []))
 done_longer t w c = same_truth _ _ to from where
   to : is_done t (w ++ c ∷ []) ≡ true
       → (is_done t w
-      || is_among (flat_map (ends (without_end t) (w ++ c ∷ [])) (places_to (length (w ++ c ∷ [])))) (length (w ++ c ∷ [])))
+      || is_among (flat_map (ends (without_end t) (w ++ c ∷ [])) (places_to (length (w ++ c ∷ []))))
+          (length (w ++ c ∷ [])))
       ≡ true
   to h =
       let (i, j, a, b, m) = (finds-decides (without_end t) (w ++ c ∷ [])).0 h in
@@ -174,11 +178,13 @@ done_longer t w c = same_truth _ _ to from where
             ))
         | inr l ↦
             let e : j ≡ length (w ++ c ∷ []) = omega (arith, longer_is w c, l, b) in
-            or_right _ _ (at_end_ends (without_end t) (w ++ c ∷ []) i (subst (λ z. Matches (without_end t) (w ++ c ∷ []) i z) e m))
+            or_right _ _ (at_end_ends (without_end t) (w ++ c ∷ []) i
+                (subst (λ z. Matches (without_end t) (w ++ c ∷ []) i z) e m))
       ]
 
   from : (is_done t w
-      || is_among (flat_map (ends (without_end t) (w ++ c ∷ [])) (places_to (length (w ++ c ∷ [])))) (length (w ++ c ∷ [])))
+      || is_among (flat_map (ends (without_end t) (w ++ c ∷ [])) (places_to (length (w ++ c ∷ []))))
+          (length (w ++ c ∷ [])))
       ≡ true
       → is_done t (w ++ c ∷ []) ≡ true
   from h =
@@ -208,7 +214,7 @@ flags_longer t w c =
     (agrees_numbers (read_flags t w))
     ∙ ap (reads_next t (is_empty w) (is_among (numbers_from 0 (read_flags t w))) c 0) (all_places (length w))
 
-not_empty : (w : List ℕ) (c : ℕ) → is_empty (w ++ c ∷ []) ≡ false
+pub not_empty : (w : List ℕ) (c : ℕ) → is_empty (w ++ c ∷ []) ≡ false
 not_empty [] c = refl
 not_empty (d ∷ w) c = refl
 
@@ -218,7 +224,8 @@ unfolding pattern_state
 state_longer t w c e =
     ap (λ b. if b then done else reading (numbers_from 0 (read_flags t (w ++ c ∷ []))))
     (done_longer t w c
-    ∙ ap (λ b. b || is_among (flat_map (ends (without_end t) (w ++ c ∷ [])) (places_to (length (w ++ c ∷ [])))) (length (w ++ c ∷ []))) e
+    ∙ ap (λ b. b || is_among (flat_map (ends (without_end t) (w ++ c ∷ [])) (places_to (length (w ++ c ∷ []))))
+        (length (w ++ c ∷ []))) e
     ∙ sym (open_ends t (w ++ c ∷ []) (flag_at (read_flags t (w ++ c ∷ []))) (agrees_self (read_flags t (w ++ c ∷ []))))
     ∙ ap (λ b. ends_here t b false (flag_at (read_flags t (w ++ c ∷ []))) 0 true) (not_empty w c))
 
@@ -231,7 +238,8 @@ state_goes_on t w c = go (is_done t w) refl where
   go true e =
       ap (λ b. if b then done else reading (numbers_from 0 (read_flags t (w ++ c ∷ []))))
       (done_longer t w c
-      ∙ ap (λ b. b || is_among (flat_map (ends (without_end t) (w ++ c ∷ [])) (places_to (length (w ++ c ∷ [])))) (length (w ++ c ∷ []))) e)
+      ∙ ap (λ b. b || is_among (flat_map (ends (without_end t) (w ++ c ∷ [])) (places_to (length (w ++ c ∷ []))))
+          (length (w ++ c ∷ []))) e)
   go false e = state_longer t w c e ∙ ap (state_with t) (flags_longer t w c)
 
 pub state_decides : Decides

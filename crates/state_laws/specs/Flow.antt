@@ -84,13 +84,15 @@ abbrev mutual
       next_copies (λ at some. reads_next t first read c at some) (λ at some. ends_here t first false read at some)
       (count_of t) high base begins
 
-  pub reads_next_in_turn : Trees → (first : Bool) → (read : ℕ → Bool) → (c : ℕ) → (base : ℕ) → (begins : Bool) → List Bool
+  pub reads_next_in_turn : Trees → (first : Bool) → (read : ℕ → Bool) → (c : ℕ) → (base : ℕ) → (begins : Bool)
+      → List Bool
   reads_next_in_turn no_trees first read c base begins = []
   reads_next_in_turn (tree t ts) first read c base begins =
       reads_next t first read c base begins
       ++ reads_next_in_turn ts first read c (base + count_of t) (ends_here t first false read base begins)
 
-  pub reads_next_of_one : Trees → (first : Bool) → (read : ℕ → Bool) → (c : ℕ) → (base : ℕ) → (begins : Bool) → List Bool
+  pub reads_next_of_one : Trees → (first : Bool) → (read : ℕ → Bool) → (c : ℕ) → (base : ℕ) → (begins : Bool)
+      → List Bool
   reads_next_of_one no_trees first read c base begins = []
   reads_next_of_one (tree t ts) first read c base begins =
       reads_next t first read c base begins ++ reads_next_of_one ts first read c (base + count_of t) begins

@@ -3,7 +3,7 @@ use Rattle.std.specs.Prelude.{◌≡◌, ℕ, List, [], ◌∷◌, ◌++◌}
 use Rattle.patterns.specs.CharSet.{has}
 use Rattle.patterns.specs.Tree.{Tree}
 use Rattle.patterns.specs.Decision.{is_empty}
-use Rattle.pattern_laws.proofs.Decides.{IsIn}
+use Rattle.list_laws.specs.In.{IsIn}
 use Rattle.word_states.specs.Position.{sets_of}
 use Rattle.word_states.specs.PatternState.{pattern_state, accepts}
 use Rattle.state_laws.specs.Flow.{first_state, next_state, is_accepted}

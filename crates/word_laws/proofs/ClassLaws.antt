@@ -7,7 +7,8 @@ use Rattle.patterns.specs.CharSet.{is_scalar, group_of, comes_no_later}
 use Rattle.word_states.specs.Atom.{Atom}
 use Rattle.word_states.specs.Classes.{are_alike, dividers, class_firsts, class_count, class_of}
 use Rattle.word_laws.specs.Laws.{ClassesDivide, FirstsComeFirst, ClassesInOrder}
-use Rattle.word_laws.proofs.Lists.{IsIn, in_get}
+use Rattle.list_laws.proofs.Lists.{in_get}
+use Rattle.list_laws.specs.In.{IsIn}
 use Rattle.word_laws.proofs.Places.{place_below, place_same}
 use Rattle.word_laws.proofs.Classes.{alike_laws, firsts_have, firsts_distinct}
 use Rattle.word_laws.proofs.Firsts.{Before, Rising, firsts_are}
@@ -23,7 +24,8 @@ module _ (atoms : List Atom) where
   first_at k = get_or (class_firsts atoms) k 0
 
   -- firsts that are alike have one number
-  one_number : (j k : ℕ) → j < class_count atoms → k < class_count atoms → alike (get_or (class_firsts atoms) j 0) (get_or (class_firsts atoms) k 0) ≡ true → j ≡ k
+  one_number : (j k : ℕ) → j < class_count atoms → k < class_count atoms
+      → alike (get_or (class_firsts atoms) j 0) (get_or (class_firsts atoms) k 0) ≡ true → j ≡ k
   one_number j k a b e = elim (cases_lt j k) [
     | inl l ↦
         let f = apart_from_distinct alike (class_firsts atoms) j k 0 (firsts_distinct atoms) l b in cc (e, f)
@@ -41,23 +43,29 @@ classes_divide atoms c e =
     let laws = alike_laws (dividers atoms) in
     let h = firsts_have atoms c e in
     let l = place_below same laws c (class_firsts atoms) h in
-    let s : same c (get_or (class_firsts atoms) (class_of atoms c) 0) ≡ true = place_same same laws c 0 (class_firsts atoms) h in (
+    let s : same c (get_or (class_firsts atoms) (class_of atoms c) 0) ≡ true =
+        place_same same laws c 0 (class_firsts atoms) h in (
       l,
-      and_from (is_scalar c) (same (get_or (class_firsts atoms) (class_of atoms c) 0) c) e (laws.symm (get_or (class_firsts atoms) (class_of atoms c) 0) c ∙ s),
+      and_from (is_scalar c) (same (get_or (class_firsts atoms) (class_of atoms c) 0) c) e
+          (laws.symm (get_or (class_firsts atoms) (class_of atoms c) 0) c ∙ s),
       (λ k m i.
           let (a, b) = and_parts (is_scalar c) (same (get_or (class_firsts atoms) k 0) c) i in
-          one_number atoms k (class_of atoms c) m l (laws.congr (get_or (class_firsts atoms) k 0) c (get_or (class_firsts atoms) (class_of atoms c) 0) b ∙ s)),
+          one_number atoms k (class_of atoms c) m l (laws.congr (get_or (class_firsts atoms) k 0) c
+              (get_or (class_firsts atoms) (class_of atoms c) 0) b ∙ s)),
     )
 
 pub no_later : (c d : ℕ) → (c ≡ d) ⊎ Before c d → comes_no_later c d ≡ true
 no_later c d (inl e) =
     or_right (nat_lt (group_of c) (group_of d)) (nat_eq (group_of c) (group_of d) && nat_le c d)
-    (and_from (nat_eq (group_of c) (group_of d)) (nat_le c d) (eq-eqb (group_of c) (group_of d) (ap group_of e)) (le-leb c d (omega (arith, e))))
+    (and_from (nat_eq (group_of c) (group_of d)) (nat_le c d) (eq-eqb (group_of c) (group_of d) (ap group_of e))
+        (le-leb c d (omega (arith, e))))
 no_later c d (inr (inl l)) =
-    or_left (nat_lt (group_of c) (group_of d)) (nat_eq (group_of c) (group_of d) && nat_le c d) (lt-ltb (group_of c) (group_of d) l)
+    or_left (nat_lt (group_of c) (group_of d)) (nat_eq (group_of c) (group_of d) && nat_le c d)
+        (lt-ltb (group_of c) (group_of d) l)
 no_later c d (inr (inr (g, l))) =
     or_right (nat_lt (group_of c) (group_of d)) (nat_eq (group_of c) (group_of d) && nat_le c d)
-    (and_from (nat_eq (group_of c) (group_of d)) (nat_le c d) (eq-eqb (group_of c) (group_of d) g) (le-leb c d (omega (arith, l))))
+    (and_from (nat_eq (group_of c) (group_of d)) (nat_le c d) (eq-eqb (group_of c) (group_of d) g)
+        (le-leb c d (omega (arith, l))))
 
 pub firsts_come_first : FirstsComeFirst
 firsts_come_first atoms k c l i =

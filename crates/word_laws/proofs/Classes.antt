@@ -8,20 +8,17 @@ use Rattle.patterns.specs.CharSet.{has, is_within, is_scalar, group_of}
 use Rattle.word_states.specs.Atom.{Atom}
 use Rattle.word_states.specs.Classes.{are_alike, dividers, ordered_below, characters, class_firsts}
 use Rattle.word_laws.proofs.Mentions as M
-use Rattle.word_laws.proofs.Lists.{IsIn, in_flat_map, from_flat_map, in_filter, filter_in}
+use Rattle.list_laws.proofs.Lists.{in_flat_map, from_flat_map, to_filter}
+use Rattle.list_laws.proofs.Tests.{from_filter, beq-true}
+use Rattle.list_laws.specs.In.{IsIn}
 
-same_bool : (x y : Bool) → beq x y ≡ true → x ≡ y
-same_bool true true e = refl
-same_bool true false e = cc e
-same_bool false true e = cc e
-same_bool false false e = refl
-
-pub alike_at : (sets : List (List (ℕ × ℕ))) (c d : ℕ) (s : List (ℕ × ℕ)) → are_alike sets c d ≡ true → IsIn s sets → has s c ≡ has s d
+pub alike_at : (sets : List (List (ℕ × ℕ))) (c d : ℕ) (s : List (ℕ × ℕ)) → are_alike sets c d ≡ true → IsIn s sets
+    → has s c ≡ has s d
 alike_at [] c d s e i = absurd i
 alike_at (t ∷ sets) c d s e i =
     let (a, b) = and_parts (beq (has t c) (has t d)) (are_alike sets c d) e in
     elim i [
-      | inl q ↦ subst (λ z. has z c ≡ has z d) (sym q) (same_bool (has t c) (has t d) a)
+      | inl q ↦ subst (λ z. has z c ≡ has z d) (sym q) (beq-true (has t c) (has t d) a)
       | inr j ↦ alike_at sets c d s b j
     ]
 
@@ -53,11 +50,12 @@ alike_laws sets = record { refl = own sets; symm = turned sets; congr = joined s
   turned [] c d = refl
   turned (s ∷ sets) c d = ap₂ (λ x y. x && y) (beq_turned (has s c) (has s d)) (turned sets c d)
 
-  joined : (sets : List (List (ℕ × ℕ))) (c d f : ℕ) → are_alike sets c d ≡ true → are_alike sets c f ≡ are_alike sets d f
+  joined : (sets : List (List (ℕ × ℕ))) (c d f : ℕ) → are_alike sets c d ≡ true
+      → are_alike sets c f ≡ are_alike sets d f
   joined [] c d f e = refl
   joined (s ∷ sets) c d f e =
       let (a, b) = and_parts (beq (has s c) (has s d)) (are_alike sets c d) e in
-      ap₂ (λ x y. beq x (has s f) && y) (same_bool (has s c) (has s d) a) (joined sets c d f b)
+      ap₂ (λ x y. beq x (has s f) && y) (beq-true (has s c) (has s d) a) (joined sets c d f b)
 
 -- ---- the characters in order
 range_in : (a n c : ℕ) → a ≤ c → c < a + n → IsIn c (range_with_len a n)
@@ -74,7 +72,8 @@ in_range a (suc n) c (inr i) = let (l, m) = in_range (a + 1) n c i in (omega (ar
 
 group_is : (c : ℕ) → IsIn {A = ℕ} (group_of c) (0 ∷ 1 ∷ 2 ∷ 3 ∷ 4 ∷ [])
 group_is c = go (is_within (97, 122) c) (is_within (65, 90) c) (is_within (48, 57) c) (is_within (32, 126) c) where
-  go : (p q r s : Bool) → IsIn {A = ℕ} (if p then 0 else (if q then 1 else (if r then 2 else (if s then 3 else 4)))) (0 ∷ 1 ∷ 2 ∷ 3 ∷ 4 ∷ [])
+  go : (p q r s : Bool) → IsIn {A = ℕ} (if p then 0 else (if q then 1 else (if r then 2 else (if s then 3 else 4))))
+      (0 ∷ 1 ∷ 2 ∷ 3 ∷ 4 ∷ [])
   go true q r s = inl refl
   go false true r s = inr (inl refl)
   go false false true s = inr (inr (inl refl))
@@ -91,23 +90,27 @@ scalar_below c e = elim (or_cases (nat_lt c 0xd800) (nat_lt 0xdfff c && nat_lt c
 pub ordered_has : (n c : ℕ) → is_scalar c ≡ true → c < n → IsIn c (ordered_below n)
 unfolding ordered_below
 ordered_has n c e l =
-    in_flat_map (λ g. filter (λ c. is_scalar c && nat_eq (group_of c) g) (range_with_len 0 n)) c (group_of c) (0 ∷ 1 ∷ 2 ∷ 3 ∷ 4 ∷ [])
+    in_flat_map (λ g. filter (λ c. is_scalar c && nat_eq (group_of c) g) (range_with_len 0 n)) c (group_of c)
+        (0 ∷ 1 ∷ 2 ∷ 3 ∷ 4 ∷ [])
     (group_is c)
-    (filter_in (λ d. is_scalar d && nat_eq (group_of d) (group_of c)) (range_with_len 0 n) c (range_in 0 n c (omega arith) (omega (arith, l)))
-    (and_from (is_scalar c) (nat_eq (group_of c) (group_of c)) e (eq-eqb (group_of c) (group_of c) refl)))
+    (to_filter (λ d. is_scalar d && nat_eq (group_of d) (group_of c)) c (range_with_len 0 n)
+        (range_in 0 n c (omega arith) (omega (arith, l))) (and_from (is_scalar c) (nat_eq (group_of c) (group_of c)) e
+        (eq-eqb (group_of c) (group_of c) refl)))
 
 -- and nothing else
 pub ordered_only : (n c : ℕ) → IsIn c (ordered_below n) → is_scalar c ≡ true
 unfolding ordered_below
 ordered_only n c i =
-    let (g, j, k) = from_flat_map (λ g. filter (λ c. is_scalar c && nat_eq (group_of c) g) (range_with_len 0 n)) c (0 ∷ 1 ∷ 2 ∷ 3 ∷ 4 ∷ []) i in
-    let (t, m) = in_filter (λ d. is_scalar d && nat_eq (group_of d) g) (range_with_len 0 n) c k in
+    let (g, j, k) = from_flat_map (λ g. filter (λ c. is_scalar c && nat_eq (group_of c) g) (range_with_len 0 n)) c
+        (0 ∷ 1 ∷ 2 ∷ 3 ∷ 4 ∷ []) i in
+    let (m, t) = from_filter (λ d. is_scalar d && nat_eq (group_of d) g) c (range_with_len 0 n) k in
     (and_parts (is_scalar c) (nat_eq (group_of c) g) t).0
 
 -- ---- the first of each class
 module _ (atoms : List Atom) where
   pub firsts_scalar : (c : ℕ) → IsIn c (class_firsts atoms) → is_scalar c ≡ true
-  firsts_scalar c i = elim (M.mentions_only (are_alike (dividers atoms)) (alike_laws (dividers atoms)) [] characters c i) [
+  firsts_scalar c i = elim (M.mentions_only (are_alike (dividers atoms))
+      (alike_laws (dividers atoms)) [] characters c i) [
     | inl j ↦ absurd j
     | inr j ↦ ordered_only 0x110000 c j
   ]
@@ -115,7 +118,8 @@ module _ (atoms : List Atom) where
   pub firsts_have : (c : ℕ) → is_scalar c ≡ true → list_any (are_alike (dividers atoms) c) (class_firsts atoms) ≡ true
   firsts_have c e =
       let laws = alike_laws (dividers atoms) in
-      M.mentions_have (are_alike (dividers atoms)) laws [] characters c c (ordered_has 0x110000 c e (scalar_below c e)) (laws.refl c)
+      M.mentions_have (are_alike (dividers atoms)) laws [] characters c c
+          (ordered_has 0x110000 c e (scalar_below c e)) (laws.refl c)
 
   pub firsts_distinct : IsDistinct (are_alike (dividers atoms)) (class_firsts atoms)
   unfolding IsDistinct

@@ -7,7 +7,9 @@ use Rattle.patterns.specs.CharSet.{is_scalar, group_of, comes_no_later}
 use Rattle.word_states.specs.Mention.{mention, mention_all}
 use Rattle.word_states.specs.Classes.{are_alike, ordered_below, characters, firsts_among}
 use Rattle.word_laws.proofs.Mentions as M
-use Rattle.word_laws.proofs.Lists.{IsIn, in_left, in_right, in_append, from_flat_map, in_filter}
+use Rattle.list_laws.proofs.Lists.{in_left, in_right, in_append, from_flat_map}
+use Rattle.list_laws.proofs.Tests.{from_filter}
+use Rattle.list_laws.specs.In.{IsIn}
 use Rattle.word_laws.proofs.Classes.{alike_laws, ordered_has, ordered_only, scalar_below, in_range}
 
 -- ---- the order of characters
@@ -25,7 +27,8 @@ not_before c (inl l) = let n : ⊥ = omega arith in n
 not_before c (inr l) = let p = l.1 in let n : ⊥ = omega (arith, p) in n
 
 pub before_or_same : (c d : ℕ) → comes_no_later c d ≡ true → Before c d ⊎ (c ≡ d)
-before_or_same c d e = elim (or_cases (nat_lt (group_of c) (group_of d)) (nat_eq (group_of c) (group_of d) && nat_le c d) e) [
+before_or_same c d e = elim (or_cases (nat_lt (group_of c) (group_of d))
+    (nat_eq (group_of c) (group_of d) && nat_le c d) e) [
   | inl l ↦ inl (inl (ltb-true (group_of c) (group_of d) l))
   | inr r ↦
       let (g, l) = and_parts (nat_eq (group_of c) (group_of d)) (nat_le c d) r in
@@ -44,7 +47,8 @@ abbrev pub Rising : List ℕ → Type 0
 Rising [] = Unit {0}
 Rising (c ∷ cs) = ((d : ℕ) → IsIn d cs → Before c d) × Rising cs
 
-rising_append : (cs ds : List ℕ) → Rising cs → Rising ds → ((c d : ℕ) → IsIn c cs → IsIn d ds → Before c d) → Rising (cs ++ ds)
+rising_append : (cs ds : List ℕ) → Rising cs → Rising ds → ((c d : ℕ) → IsIn c cs → IsIn d ds → Before c d)
+    → Rising (cs ++ ds)
 rising_append [] ds a b h = b
 rising_append (c ∷ cs) ds a b h = (
   (λ d i. ⊎_elim (λ l. a.0 d l) (λ r. h c d (inl refl) r) (in_append d cs ds i)),
@@ -52,7 +56,8 @@ rising_append (c ∷ cs) ds a b h = (
 )
 
 -- lists in that order with the same members are equal
-rising_same : (cs ds : List ℕ) → Rising cs → Rising ds → ((c : ℕ) → IsIn c cs → IsIn c ds) → ((c : ℕ) → IsIn c ds → IsIn c cs) → cs ≡ ds
+rising_same : (cs ds : List ℕ) → Rising cs → Rising ds → ((c : ℕ) → IsIn c cs → IsIn c ds)
+    → ((c : ℕ) → IsIn c ds → IsIn c cs) → cs ≡ ds
 rising_same [] [] a b h k = refl
 rising_same [] (d ∷ ds) a b h k = absurd (k d (inl refl))
 rising_same (c ∷ cs) [] a b h k = absurd (h c (inl refl))
@@ -73,15 +78,17 @@ rising_same (c ∷ cs) (d ∷ ds) a b h k =
       tail_right x e i (inl q) = absurd (not_before d (subst (λ z. Before d z) (q ∙ e) (b.0 x i)))
       tail_right x e i (inr j) = j
 
-rising_filter : (test : ℕ → Bool) (g a n : ℕ) → ((c : ℕ) → test c ≡ true → group_of c ≡ g) → Rising (filter test (range_with_len a n))
+rising_filter : (test : ℕ → Bool) (g a n : ℕ) → ((c : ℕ) → test c ≡ true → group_of c ≡ g)
+    → Rising (filter test (range_with_len a n))
 rising_filter test g a zero h = tt
 rising_filter test g a (suc n) h = go (test a) refl (rising_filter test g (a + 1) n h) where
-  go : (b : Bool) → test a ≡ b → Rising (filter test (range_with_len (a + 1) n)) → Rising (cond b (a ∷ filter test (range_with_len (a + 1) n)) (filter test (range_with_len (a + 1) n)))
+  go : (b : Bool) → test a ≡ b → Rising (filter test (range_with_len (a + 1) n))
+      → Rising (cond b (a ∷ filter test (range_with_len (a + 1) n)) (filter test (range_with_len (a + 1) n)))
   go false e r = r
   go true e r = (first, r) where
     first : (d : ℕ) → IsIn d (filter test (range_with_len (a + 1) n)) → Before a d
     first d i =
-        let (t, j) = in_filter test (range_with_len (a + 1) n) d i in
+        let (j, t) = from_filter test d (range_with_len (a + 1) n) i in
         let (l, m) = in_range (a + 1) n d j in
         inr (h a e ∙ sym (h d t), omega (arith, l))
 
@@ -95,7 +102,7 @@ Ascending (g ∷ gs) = ((h : ℕ) → IsIn h gs → g < h) × Ascending gs
 of_group-at : (n g c : ℕ) → IsIn c (of_group n g) → group_of c ≡ g
 unfolding of_group
 of_group-at n g c i =
-    let (t, j) = in_filter (λ c. is_scalar c && nat_eq (group_of c) g) (range_with_len 0 n) c i in
+    let (j, t) = from_filter (λ c. is_scalar c && nat_eq (group_of c) g) c (range_with_len 0 n) i in
     eqb-true (group_of c) g (and_parts (is_scalar c) (nat_eq (group_of c) g) t).1
 
 of_group-rising : (n g : ℕ) → Rising (of_group n g)
@@ -117,7 +124,10 @@ groups_rising n (g ∷ gs) a = rising_append (of_group n g) (flat_map (of_group 
     inl (omega (arith, p, q, l)))
 
 ascending : Ascending (0 ∷ 1 ∷ 2 ∷ 3 ∷ 4 ∷ [])
-ascending = (zero_below, (one_below, (two_below, ((λ h i. ⊎_elim (λ e. omega (arith, e)) (λ k. absurd k) i), ((λ h i. absurd i), tt))))) where
+ascending = (
+  zero_below,
+  (one_below, (two_below, ((λ h i. ⊎_elim (λ e. omega (arith, e)) (λ k. absurd k) i), ((λ h i. absurd i), tt)))),
+) where
   two_below : (h : ℕ) → IsIn {A = ℕ} h (3 ∷ 4 ∷ []) → 2 < h
   two_below h (inl e) = omega (arith, e)
   two_below h (inr (inl e)) = omega (arith, e)

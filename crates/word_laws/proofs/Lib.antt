@@ -1,4 +1,3 @@
-pub mod Lists
 pub mod Mentions
 pub mod Rows
 pub mod Classes

@@ -10,7 +10,8 @@ use Rattle.std.proofs.lemmas.List.Folds.{list_any-append}
 use Rattle.std.proofs.lemmas.Map.Keys.{IsDistinct-push}
 use Rattle.std.proofs.lemmas.Map.Steps.{list_any_congr, length-le_from_keys}
 use Rattle.word_states.specs.Mention.{mention, mention_all}
-use Rattle.word_laws.proofs.Lists.{IsIn, in_right, in_append}
+use Rattle.list_laws.proofs.Lists.{in_right, in_append}
+use Rattle.list_laws.specs.In.{IsIn}
 
 module _ {A : Type 0} (same : A → A → Bool) (laws : IsEquivalence same) where
   abbrev Has : List A → A → Type 0
@@ -75,7 +76,8 @@ module _ {A : Type 0} (same : A → A → Bool) (laws : IsEquivalence same) wher
   pub mentions_have : (L xs : List A) (x y : A) → IsIn y xs → same x y ≡ true → Has (mention_all same L xs) x
   mentions_have L [] x y i s = absurd i
   mentions_have L (z ∷ xs) x y (inl e) s =
-      mentions_keep (mention same L z) xs x (has_same x z (mention same L z) (subst (λ u. same x u ≡ true) e s) (mention_has L z))
+      mentions_keep (mention same L z) xs x (has_same x z (mention same L z) (subst (λ u. same x u ≡ true) e s)
+          (mention_has L z))
   mentions_have L (z ∷ xs) x y (inr i) s = mentions_have (mention same L z) xs x y i s
 
   -- and nothing else is

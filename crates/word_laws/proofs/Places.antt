@@ -7,12 +7,14 @@ module _ {A : Type 0} (same : A → A → Bool) (laws : IsEquivalence same) wher
   pub place_below : (x : A) (L : List A) → list_any (same x) L ≡ true → position_or_len (same x) L < length L
   place_below x [] h = cc h
   place_below x (y ∷ L) h = go (same x y) refl h (place_below x L) where
-    go : (b : Bool) → same x y ≡ b → (b || list_any (same x) L) ≡ true → (list_any (same x) L ≡ true → position_or_len (same x) L < length L)
+    go : (b : Bool) → same x y ≡ b → (b || list_any (same x) L) ≡ true
+        → (list_any (same x) L ≡ true → position_or_len (same x) L < length L)
         → cond (not b) (1 + position_or_len (same x) L) 0 < suc (length L)
     go true e k more = omega arith
     go false e k more = let m = more k in omega (arith, m)
 
-  pub place_same : (x d : A) (L : List A) → list_any (same x) L ≡ true → same x (get_or L (position_or_len (same x) L) d) ≡ true
+  pub place_same : (x d : A) (L : List A) → list_any (same x) L ≡ true
+      → same x (get_or L (position_or_len (same x) L) d) ≡ true
   place_same x d [] h = cc h
   place_same x d (y ∷ L) h = go (same x y) refl h (place_same x d L) where
     go : (b : Bool) → same x y ≡ b → (b || list_any (same x) L) ≡ true

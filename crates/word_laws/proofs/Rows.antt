@@ -6,7 +6,10 @@ use Rattle.std.specs.List.{list_any, IsDistinct}
 use Rattle.std.proofs.lemmas.List.Concat.{flat_map-append}
 use Rattle.word_states.specs.Mention.{mention, mention_all}
 use Rattle.word_laws.proofs.Mentions as M
-use Rattle.word_laws.proofs.Lists.{IsIn, in_right, prefixes, in_flat_map, from_flat_map, take_left, get_left, take_next, take_whole}
+use Rattle.std.proofs.Math.Seq.{take-suc, take-length}
+use Rattle.std.proofs.lemmas.List.{take-append-le, get_or_append_left}
+use Rattle.list_laws.proofs.Lists.{in_right, prefixes, in_flat_map, from_flat_map}
+use Rattle.list_laws.specs.In.{IsIn}
 
 -- `extend` gives what an element mentions, each larger than the element, and the same of elements that are the same
 module _ {A : Type 0} (same : A → A → Bool) (laws : IsEquivalence same) (extend : A → List A) (start : A) where
@@ -28,7 +31,8 @@ module _ {A : Type 0} (same : A → A → Bool) (laws : IsEquivalence same) (ext
       subst (λ z. IsDistinct same z) (sym e) (M.mentions_distinct same laws [] (start ∷ flat_map extend L) tt)
 
   module _ (size : A → ℕ) (larger : (x y : A) → IsIn y (extend x) → size x < size y)
-      (follows : (x y z : A) → same x y ≡ true → IsIn z (extend x) → (u : A) × IsIn u (extend y) × (same z u ≡ true)) where
+      (follows : (x y z : A) → same x y ≡ true → IsIn z (extend x)
+          → (u : A) × IsIn u (extend y) × (same z u ≡ true)) where
     -- a list that has all that it mentions
     abbrev pub IsClosed : List A → Type 0
     IsClosed K = (x : A) → list_any (same x) (mentioned K) ≡ true → list_any (same x) K ≡ true
@@ -36,7 +40,8 @@ module _ {A : Type 0} (same : A → A → Bool) (laws : IsEquivalence same) (ext
     has_start : (K : List A) → list_any (same start) (mentioned K) ≡ true
     has_start K = M.mentions_have same laws [] (start ∷ flat_map extend K) start start (inl refl) (laws.refl start)
 
-    has_next : (K : List A) (x z : A) → list_any (same x) K ≡ true → IsIn z (extend x) → list_any (same z) (mentioned K) ≡ true
+    has_next : (K : List A) (x z : A) → list_any (same x) K ≡ true → IsIn z (extend x)
+        → list_any (same z) (mentioned K) ≡ true
     has_next K x z h i =
         let (y, j, s) = M.in_has same laws x K h in
         let (u, k, t) = follows x y z s i in
@@ -50,11 +55,13 @@ module _ {A : Type 0} (same : A → A → Bool) (laws : IsEquivalence same) (ext
       rows_next x z h i = subst (λ r. list_any (same z) r ≡ true) (sym rows) (has_next L x z h i)
 
       -- what is true of the start and of what elements mention is true of each
-      pub rows_each : (P : A → Type 0) → P start → ((x y : A) → P x → IsIn y (extend x) → P y) → (y : A) → IsIn y L → P y
+      pub rows_each : (P : A → Type 0) → P start → ((x y : A) → P x → IsIn y (extend x) → P y) → (y : A) → IsIn y L
+          → P y
       rows_each P base more y i = go (suc (size y)) y (omega arith) i where
         go : (n : ℕ) (y : A) → size y < n → IsIn y L → P y
         go zero y l i = absurd (omega (arith, l))
-        go (suc n) y l i = from (M.mentions_only same laws [] (start ∷ flat_map extend L) y (subst (λ z. IsIn y z) rows i)) (go n) where
+        go (suc n) y l i = from (M.mentions_only same laws [] (start ∷ flat_map extend L) y
+            (subst (λ z. IsIn y z) rows i)) (go n) where
           from : IsIn y [] ⊎ IsIn y (start ∷ flat_map extend L) → ((x : A) → size x < n → IsIn x L → P x) → P y
           from (inl j) less = absurd j
           from (inr (inl e)) less = subst P (sym e) base
@@ -72,7 +79,8 @@ module _ {A : Type 0} (same : A → A → Bool) (laws : IsEquivalence same) (ext
       stuck : (K X : List A) (x : A) → L ≡ K ++ x ∷ X → (Z : List A) × (K ≡ mentioned K ++ Z) → ⊥
       stuck K X x e (Z, p) =
           M.distinct_parts same laws x K (x ∷ X) (subst (λ z. IsDistinct same z) e (rows_distinct L rows))
-          (closed_has K (λ y h. subst (λ z. list_any (same y) z ≡ true) (sym p) (M.has_left same laws y (mentioned K) Z h)) x
+          (closed_has K (λ y h. subst (λ z. list_any (same y) z ≡ true) (sym p)
+              (M.has_left same laws y (mentioned K) Z h)) x
           (subst (λ z. IsIn x z) (sym e) (in_right x K (x ∷ X) (inl refl))))
           (inl refl)
 
@@ -122,15 +130,16 @@ module _ {A : Type 0} (same : A → A → Bool) (laws : IsEquivalence same) (ext
   next_mention L i k x d (e, l) b f =
       let row = get_or L i start in
       let (X, p) = M.mention_grows same laws L x in
-      let t : take i (mention same L x) ≡ take i L = ap (λ z. take i z) p ∙ take_left i L X l in
-      let g : get_or (mention same L x) i start ≡ row = ap (λ z. get_or z i start) p ∙ get_left i L X start l in
+      let t : take i (mention same L x) ≡ take i L = ap (λ z. take i z) p ∙ take-append-le i L X (omega (arith, l)) in
+      let g : get_or (mention same L x) i start ≡ row = ap (λ z. get_or z i start) p
+          ∙ get_or_append_left L X start i l in
       let front = flat_map extend (take i L) ++ take k (extend row) in
       let h : mention same L x ≡ mention_all same [] (start ∷ front ++ x ∷ []) =
       ap (λ z. mention same z x) e ∙ sym (M.mentions_append same laws [] (start ∷ front) (x ∷ [])) in
       let a : front ++ x ∷ [] ≡ flat_map extend (take i L) ++ take (suc k) (extend row) =
       append_assoc (flat_map extend (take i L)) (take k (extend row)) (x ∷ [])
       ∙ ap (λ z. flat_map extend (take i L) ++ z)
-      (ap (λ z. take k (extend row) ++ z ∷ []) f ∙ sym (take_next k (extend row) d b)) in
+      (ap (λ z. take k (extend row) ++ z ∷ []) f ∙ sym (take-suc (extend row) k d b)) in
       let n : length (mention same L x) ≡ length L + length X = ap length p ∙ length-append L X in (
         h ∙ ap (λ z. mention_all same [] (start ∷ z)) a
             ∙ sym (ap₂ (λ u v. mention_all same [] (start ∷ flat_map extend u ++ take (suc k) (extend v))) t g),
@@ -141,17 +150,20 @@ module _ {A : Type 0} (same : A → A → Bool) (laws : IsEquivalence same) (ext
   through L i (e, l) =
       let row = get_or L i start in
       e ∙ ap (λ z. mention_all same [] (start ∷ z))
-      (ap (λ z. flat_map extend (take i L) ++ z) (take_whole (extend row) ∙ sym (append-nil (extend row)))
+      (ap (λ z. flat_map extend (take i L) ++ z) (take-length (extend row) ∙ sym (append-nil (extend row)))
       ∙ sym (flat_map-append extend (take i L) (row ∷ []))
-      ∙ ap (λ z. flat_map extend z) (sym (take_next i L start l)))
+      ∙ ap (λ z. flat_map extend z) (sym (take-suc L i start l)))
 
-  pub next_row : (L : List A) (i : ℕ) → IsBuilding L i (length (extend (get_or L i start))) → suc i < length L → IsBuilding L (suc i) 0
+  pub next_row : (L : List A) (i : ℕ) → IsBuilding L i (length (extend (get_or L i start))) → suc i < length L
+      → IsBuilding L (suc i) 0
   next_row L i b l =
-      (through L i b ∙ ap (λ z. mention_all same [] (start ∷ z)) (sym (append-nil (flat_map extend (take (suc i) L)))), l)
+      (through L i b ∙ ap (λ z. mention_all same [] (start ∷ z))
+          (sym (append-nil (flat_map extend (take (suc i) L)))), l)
 
-  pub end_building : (L : List A) (i : ℕ) → IsBuilding L i (length (extend (get_or L i start))) → suc i ≡ length L → L ≡ mentioned L
+  pub end_building : (L : List A) (i : ℕ) → IsBuilding L i (length (extend (get_or L i start))) → suc i ≡ length L
+      → L ≡ mentioned L
   end_building L i b e =
-      through L i b ∙ ap (λ z. mentioned z) (ap (λ z. take z L) e ∙ take_whole L)
+      through L i b ∙ ap (λ z. mentioned z) (ap (λ z. take z L) e ∙ take-length L)
 
   -- what is found so far has nothing twice
   pub building_distinct : (L : List A) (i k : ℕ) → IsBuilding L i k → IsDistinct same L

@@ -14,9 +14,11 @@ use Rattle.word_states.specs.WordState.{is_prefix, matching, begun, atom_state, 
 use Rattle.word_states.specs.Rows.{signature_of}
 use Rattle.state_laws.proofs.Alike.{same_state_of_same, same_truth_of_same}
 use Rattle.word_laws.proofs.Mentions as M
-use Rattle.word_laws.proofs.Lists.{IsIn, in_flat_map, map_in, filter_head, filter_none}
+use Rattle.list_laws.proofs.Lists.{in_flat_map, in_map, filter_head, filter_none}
+use Rattle.list_laws.specs.In.{IsIn}
 use Rattle.word_laws.proofs.Classes.{alike_at, alike_parts, alike_laws}
 use Rattle.word_laws.proofs.States.{word_decides, word_laws, whole_state}
+use Rattle.state_laws.proofs.States.{not_empty}
 
 -- ---- listed words that a word begins
 pub shorter_prefix : (v : List ℕ) (c : ℕ) (x : List ℕ) → is_prefix (v ++ c ∷ []) x ≡ true → is_prefix v x ≡ true
@@ -41,7 +43,8 @@ same_prefix (a ∷ v) (b ∷ w) [] e f l = cc e
 same_prefix (a ∷ v) (b ∷ w) (y ∷ x) e f l =
     let (g, h) = and_parts (nat_eq a y) (is_prefix v x) e in
     let (i, j) = and_parts (nat_eq b y) (is_prefix w x) f in
-    ap₂ (λ c u. c ∷ u) (eqb-true a y g ∙ sym (eqb-true b y i)) (same_prefix v w x h j (let q : suc (length v) ≡ suc (length w) = l in omega (arith, q)))
+    ap₂ (λ c u. c ∷ u) (eqb-true a y g ∙ sym (eqb-true b y i))
+        (same_prefix v w x h j (let q : suc (length v) ≡ suc (length w) = l in omega (arith, q)))
 
 pub whole_prefix : (v : List ℕ) → is_prefix v v ≡ true
 whole_prefix [] = refl
@@ -63,7 +66,8 @@ begun_cases ws v w e = go (filter (is_prefix v) ws) (filter (is_prefix w) ws) re
       inr (same_prefix v w x (filter_head (is_prefix v) ws x xs f).0
       (subst (λ z. is_prefix w z ≡ true) (sym p) (filter_head (is_prefix w) ws y ys g).0) l)
 
-none_longer : (ws : List (List ℕ)) (v : List ℕ) (c : ℕ) → filter (is_prefix v) ws ≡ [] → filter (is_prefix (v ++ c ∷ [])) ws ≡ []
+none_longer : (ws : List (List ℕ)) (v : List ℕ) (c : ℕ) → filter (is_prefix v) ws ≡ []
+    → filter (is_prefix (v ++ c ∷ [])) ws ≡ []
 none_longer ws v c e = go (filter (is_prefix (v ++ c ∷ [])) ws) refl where
   go : (xs : List (List ℕ)) → filter (is_prefix (v ++ c ∷ [])) ws ≡ xs → xs ≡ []
   go [] f = refl
@@ -87,15 +91,17 @@ one_letter c d e = elim (or_cases (nat_le c d && nat_le d c) false e) [
 ]
 
 -- only a letter is like a letter
-alike_letter : (ws : List (List ℕ)) (x : List ℕ) (c d : ℕ) → IsIn x ws → IsIn c x → are_alike (divider_sets (Words ws)) c d ≡ true → c ≡ d
+alike_letter : (ws : List (List ℕ)) (x : List ℕ) (c d : ℕ) → IsIn x ws → IsIn c x
+    → are_alike (divider_sets (Words ws)) c d ≡ true → c ≡ d
 alike_letter ws x c d i j e =
     let s : IsIn ((c, c) ∷ []) (divider_sets (Words ws)) =
-    in_flat_map (map (λ c. (c, c) ∷ [])) ((c, c) ∷ []) x ws i (map_in (λ c. (c, c) ∷ []) c x j) in
+    in_flat_map (map (λ c. (c, c) ∷ [])) ((c, c) ∷ []) x ws i (in_map (λ c. (c, c) ∷ []) c x j) in
     let h : has ((c, c) ∷ []) c ≡ has ((c, c) ∷ []) d = alike_at (divider_sets (Words ws)) c d ((c, c) ∷ []) e s in
     one_letter c d (sym h ∙ own_letter c)
 
 words_next : (ws : List (List ℕ)) (v w : List ℕ) (c d : ℕ) → atom_state v (Words ws) ≡ atom_state w (Words ws)
-    → are_alike (divider_sets (Words ws)) c d ≡ true → atom_state (v ++ c ∷ []) (Words ws) ≡ atom_state (w ++ d ∷ []) (Words ws)
+    → are_alike (divider_sets (Words ws)) c d ≡ true → atom_state (v ++ c ∷ []) (Words ws) ≡ atom_state (w ++ d ∷ [])
+        (Words ws)
 words_next ws v w c d e k = from (begun_cases ws v w e) where
   same : (xs ys : List (List ℕ)) → filter (is_prefix (v ++ c ∷ [])) ws ≡ xs → filter (is_prefix (v ++ d ∷ [])) ws ≡ ys
       → atom_state (v ++ c ∷ []) (Words ws) ≡ atom_state (v ++ d ∷ []) (Words ws)
@@ -105,13 +111,15 @@ words_next ws v w c d e k = from (begun_cases ws v w e) where
       ap (λ z. atom_state (v ++ z ∷ []) (Words ws)) (alike_letter ws x c d i (letter_in v c x t) k)
   same [] (y ∷ ys) f g =
       let (t, i) = filter_head (is_prefix (v ++ d ∷ [])) ws y ys g in
-      let turned : are_alike (divider_sets (Words ws)) d c ≡ true = (alike_laws (divider_sets (Words ws))).symm d c ∙ k in
+      let turned : are_alike (divider_sets (Words ws)) d c ≡ true = (alike_laws (divider_sets (Words ws))).symm d c
+          ∙ k in
       ap (λ z. atom_state (v ++ z ∷ []) (Words ws)) (sym (alike_letter ws y d c i (letter_in v d y t) turned))
 
   from : ((filter (is_prefix v) ws ≡ []) × (filter (is_prefix w) ws ≡ [])) ⊎ (v ≡ w)
       → atom_state (v ++ c ∷ []) (Words ws) ≡ atom_state (w ++ d ∷ []) (Words ws)
   from (inl (a, b)) =
-      ap (λ z. begun z (v ++ c ∷ [])) (none_longer ws v c a) ∙ sym (ap (λ z. begun z (w ++ d ∷ [])) (none_longer ws w d b))
+      ap (λ z. begun z (v ++ c ∷ [])) (none_longer ws v c a) ∙ sym
+          (ap (λ z. begun z (w ++ d ∷ [])) (none_longer ws w d b))
   from (inr q) =
       same (filter (is_prefix (v ++ c ∷ [])) ws) (filter (is_prefix (v ++ d ∷ [])) ws) refl refl
       ∙ ap (λ z. atom_state (z ++ d ∷ []) (Words ws)) q
@@ -124,15 +132,18 @@ words_truth ws v w e = from (begun_cases ws v w e) where
     go : (b : Bool) → list_any (same_word v) ws ≡ b → b ≡ false
     go true t =
         let (x, i, s) = M.in_has same_word word_laws v ws t in
-        absurd (filter_none (is_prefix v) ws x f i (subst (λ z. is_prefix v z ≡ true) ((word_decides v x).0 s) (whole_prefix v)))
+        absurd (filter_none (is_prefix v) ws x f i (subst (λ z. is_prefix v z ≡ true) ((word_decides v x).0 s)
+            (whole_prefix v)))
     go false t = refl
 
-  from : ((filter (is_prefix v) ws ≡ []) × (filter (is_prefix w) ws ≡ [])) ⊎ (v ≡ w) → is_true (Words ws) v ≡ is_true (Words ws) w
+  from : ((filter (is_prefix v) ws ≡ []) × (filter (is_prefix w) ws ≡ [])) ⊎ (v ≡ w)
+      → is_true (Words ws) v ≡ is_true (Words ws) w
   from (inl (a, b)) = unlisted v a ∙ sym (unlisted w b)
   from (inr q) = ap (λ z. is_true (Words ws) z) q
 
 -- ---- lengths, cut where no greater one is asked for
-length_next : (v w : List ℕ) (c d g : ℕ) → min (length v) g ≡ min (length w) g → min (length (v ++ c ∷ [])) g ≡ min (length (w ++ d ∷ [])) g
+length_next : (v w : List ℕ) (c d g : ℕ) → min (length v) g ≡ min (length w) g
+    → min (length (v ++ c ∷ [])) g ≡ min (length (w ++ d ∷ [])) g
 length_next v w c d g e =
     let a : length (v ++ c ∷ []) ≡ length v + 1 = length-append v (c ∷ []) in
     let b : length (w ++ d ∷ []) ≡ length w + 1 = length-append w (d ∷ []) in
@@ -140,10 +151,6 @@ length_next v w c d g e =
 
 length_truth : (m n k g : ℕ) → k ≤ g → min m g ≡ min n g → nat_le k m ≡ nat_le k n
 length_truth m n k g l e = grind (arith, l, e)
-
-never_empty : (v : List ℕ) (c : ℕ) → is_empty (v ++ c ∷ []) ≡ false
-never_empty [] c = refl
-never_empty (a ∷ v) c = refl
 
 -- ---- all atoms at once
 pattern_next : (t : Tree) (v w : List ℕ) (c d : ℕ) → is_empty v ≡ is_empty w → pattern_state t v ≡ pattern_state t w
@@ -156,8 +163,10 @@ atom_next (Match t) v w c d n e k = ap matching (pattern_next t v w c d n (cc e)
 atom_next (Words ws) v w c d n e k = words_next ws v w c d e k
 atom_next (LengthMin m) v w c d n e k = refl
 
-atoms_next : (atoms : List Atom) (v w : List ℕ) (c d : ℕ) → is_empty v ≡ is_empty w → map (atom_state v) atoms ≡ map (atom_state w) atoms
-    → are_alike (dividers atoms) c d ≡ true → map (atom_state (v ++ c ∷ [])) atoms ≡ map (atom_state (w ++ d ∷ [])) atoms
+atoms_next : (atoms : List Atom) (v w : List ℕ) (c d : ℕ) → is_empty v ≡ is_empty w
+    → map (atom_state v) atoms ≡ map (atom_state w) atoms
+    → are_alike (dividers atoms) c d ≡ true → map (atom_state (v ++ c ∷ [])) atoms ≡ map
+        (atom_state (w ++ d ∷ [])) atoms
 atoms_next [] v w c d n e k = refl
 atoms_next (a ∷ atoms) v w c d n e k =
     let (f, g) = alike_parts (divider_sets a) (dividers atoms) c d k in
@@ -169,12 +178,13 @@ pub state_next : (atoms : List Atom) (v w : List ℕ) (c d : ℕ) → word_state
 state_next atoms v w c d e k =
     let n : is_empty v ≡ is_empty w = ap (λ s. s.is_empty) e in
     whole_state (word_state atoms (v ++ c ∷ [])) (word_state atoms (w ++ d ∷ []))
-    (never_empty v c ∙ sym (never_empty w d))
+    (not_empty v c ∙ sym (not_empty w d))
     (atoms_next atoms v w c d n (ap (λ s. s.parts) e) k)
     (length_next v w c d (greatest_least atoms) (ap (λ s. s.length) e))
 
 atoms_truth : (atoms : List Atom) (g : ℕ) (v w : List ℕ) → greatest_least atoms ≤ g → is_empty v ≡ is_empty w
-    → map (atom_state v) atoms ≡ map (atom_state w) atoms → min (length v) g ≡ min (length w) g → signature_of atoms v ≡ signature_of atoms w
+    → map (atom_state v) atoms ≡ map (atom_state w) atoms → min (length v) g ≡ min (length w) g
+        → signature_of atoms v ≡ signature_of atoms w
 atoms_truth [] g v w l n e m = refl
 atoms_truth (a ∷ atoms) g v w l n e m =
     ap₂ (λ x xs. x ∷ xs) (one a (cc e) (omega (arith, l))) (atoms_truth atoms g v w (omega (arith, l)) n (cc e) m) where
@@ -184,6 +194,8 @@ atoms_truth (a ∷ atoms) g v w l n e m =
       one (LengthMin j) f k = length_truth (length v) (length w) j g k m
 
 -- equal states have equal truths of all atoms
-pub state_truth : (atoms : List Atom) (v w : List ℕ) → word_state atoms v ≡ word_state atoms w → signature_of atoms v ≡ signature_of atoms w
+pub state_truth : (atoms : List Atom) (v w : List ℕ) → word_state atoms v ≡ word_state atoms w
+    → signature_of atoms v ≡ signature_of atoms w
 state_truth atoms v w e =
-    atoms_truth atoms (greatest_least atoms) v w (omega arith) (ap (λ s. s.is_empty) e) (ap (λ s. s.parts) e) (ap (λ s. s.length) e)
+    atoms_truth atoms (greatest_least atoms) v w (omega arith) (ap (λ s. s.is_empty) e) (ap (λ s. s.parts) e)
+        (ap (λ s. s.length) e)

@@ -38,7 +38,8 @@ unfolding pattern_state
 some_a_rows = refl
 
 -- a tree that is repeated no times divides nothing, and neither does an empty set
-undivided : ascii (Match (in_turn (trees_of (repeated (one_of ((97, 97) ∷ [])) 0 (Some 0) ∷ one_of [] ∷ []))) ∷ []) ≡ codes "a"
+undivided : ascii (Match (in_turn (trees_of (repeated (one_of ((97, 97) ∷ [])) 0 (Some 0) ∷ one_of [] ∷ []))) ∷ [])
+    ≡ codes "a"
 unfolding ordered_below
 undivided = refl
 

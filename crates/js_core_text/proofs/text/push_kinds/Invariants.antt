@@ -1,7 +1,7 @@
 use Rattle.std.proofs.Common.{◌≡◌, ◌++◌, ◌∷◌, map, flat_map, take}
 use Rattle.std.specs.String.{string_bytes}
 use Rattle.js_algebra.specs.View.{kind_view}
-use Rattle.js_core_text.specs.CoreText.{kind_word}
+use Rattle.documents.specs.KindWords.{kind_word}
 use Rattle.js_core_text.proofs.text.push_kinds.Given as goal
 
 abbrev pub invariant-loop-kind : goal.invariant-loop-kind

@@ -1,7 +1,7 @@
 use Rattle.std.proofs.Common.{length, false, replicate, ◌++◌, ◌∙◌, sym, ap, arith}
 use Rattle.std.proofs.lemmas.List.{length-replicate}
+use Rattle.std.proofs.Math.Bool.{and-false}
 use Rattle.state_laws.specs.Flow.{flag_at}
-use Rattle.state_laws.proofs.RowsLemmas.{and_nothing}
 use Rattle.js_pattern.specs.View.{view}
 use Rattle.js_nfa.proofs.AdvanceSteps.{length-reads}
 use Rattle.js_nfa.proofs.RowsSteps as S
@@ -13,7 +13,7 @@ loop-c-init c =
     record {
       room = (omega (arith, c.push_none.ensures.room, c.in_ok-row.ensures.room), c.in_ok-reads.ensures.room);
       length = ap length flags ∙ length-replicate c.args.count false;
-      flags = λ q. ap (λ fs. flag_at fs q) flags ∙ S.flag-none_of c.args.count q ∙ sym (and_nothing _);
+      flags = λ q. ap (λ fs. flag_at fs q) flags ∙ S.flag-none_of c.args.count q ∙ sym (and-false _);
     }
 
 pub join-requires : goal.join-requires

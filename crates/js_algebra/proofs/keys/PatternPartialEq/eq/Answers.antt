@@ -1,6 +1,6 @@
 use Rattle.std.proofs.Common.{◌&&◌, ap, sym, ◌∙◌}
 use Rattle.js_pattern.specs.View.{view}
-use Rattle.js_pattern.specs.SameTree.{same_tree}
+use Rattle.patterns.specs.SameTree.{same_tree}
 use Rattle.js_algebra.proofs.keys.PatternPartialEq.eq.Goals as goal
 
 pub returns-then-eq : goal.returns-then-eq

@@ -1,5 +1,5 @@
 use Rattle.std.proofs.lemmas.Bool.Decides.{same_from_decides}
-use Rattle.js_pattern.specs.SameTree.{same_tree-Decides}
+use Rattle.pattern_laws.proofs.SameTrees.{same_tree-Decides}
 use Rattle.js_pattern.proofs.trees.RePartialEq.eq.Goals as goal
 
 pub returns : goal.returns

@@ -1,23 +1,14 @@
--- When two atoms are the same, and what an atom feeds a hasher.
-use Rattle.std.specs.Prelude.{◌≡◌, ℕ, Bool, true, false, ◌++◌, List, [], nat_eq, encode_utf8_all}
+-- The test on atoms says whether they are equal.
+use Rattle.std.specs.Prelude.{◌≡◌, ℕ, Bool, true, false, List, []}
 use Rattle.std.specs.Bool.{Decides}
 use Rattle.std.specs.Cmp.{IsEquivalence, decided, unsigned_Decides}
-use Rattle.std.specs.Cmp.Lexicographic.{pointwise, pointwise_decides, bytes_decides}
-use Rattle.std.specs.Hash as fed
-use Rattle.std.specs.Hash.{HashWrites, Alike, same_Alike}
+use Rattle.std.specs.Cmp.Lexicographic.{pointwise_decides, bytes_decides}
 use Rattle.std.proofs.Common.{ap, sym}
 use Rattle.std.proofs.lemmas.Bool.{true≢false}
 use Rattle.patterns.specs.Tree.{Tree, empty}
+use Rattle.pattern_laws.proofs.SameTrees.{same_tree-Decides}
 use Rattle.word_states.specs.Atom.{Atom, Match, Words, LengthMin}
-use Rattle.js_pattern.specs.SameTree.{same_tree, same_tree-Decides}
-use Rattle.js_pattern.specs.Fingerprint.{tree_print}
-
--- patterns by their trees, so that texts of one tree are one atom; lists word by word
-abbrev pub same_atom : Atom → Atom → Bool
-same_atom (Match t) (Match u) = same_tree t u
-same_atom (Words vs) (Words ws) = pointwise (pointwise nat_eq) vs ws
-same_atom (LengthMin m) (LengthMin n) = nat_eq m n
-same_atom _ _ = false
+use Rattle.word_states.specs.SameAtom.{same_atom}
 
 abbrev tree_of : Atom → Tree
 tree_of (Match t) = t
@@ -60,11 +51,3 @@ same_atom-Decides (LengthMin m) (LengthMin n) =
 
 pub same_atom_equiv : IsEquivalence same_atom
 same_atom_equiv = decided same_atom same_atom-Decides
-
-abbrev pub atom_writes : Atom → HashWrites
-atom_writes (Match t) = fed.u8 0 ++ fed.u64 (tree_print t)
-atom_writes (Words ws) = fed.u8 1 ++ fed.slice (λ w. fed.str (encode_utf8_all w)) ws
-atom_writes (LengthMin n) = fed.u8 2 ++ fed.u128 n
-
-pub atoms_Alike : Alike same_atom atom_writes
-atoms_Alike = same_Alike atom_writes same_atom-Decides
