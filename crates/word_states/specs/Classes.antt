@@ -1,5 +1,5 @@
 -- Classes of characters: the coarsest division such that no position's set and no letter of a listed word divides one.
-use Rattle.std.specs.Prelude.{ℕ, List, [], ◌∷◌, length, map, flat_map, filter, Some, None, Bool, true, ◌&&◌, nat_eq, get_or}
+use Rattle.std.specs.Prelude.{ℕ, List, [], ◌∷◌, length, map, flat_map, filter, Bool, true, ◌&&◌, nat_eq, get_or}
 use Rattle.std.specs.Bool.{beq}
 use Rattle.std.specs.List.{range_with_len, position_or_len}
 use Rattle.patterns.specs.CharSet.{has, is_scalar, group_of}

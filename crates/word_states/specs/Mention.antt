@@ -1,5 +1,5 @@
 -- Lists without repetition, in order of first mention.
-use Rattle.std.specs.Prelude.{List, [], ◌∷◌, ◌++◌, Bool, true, ◌&&◌, not, if◌then◌else◌}
+use Rattle.std.specs.Prelude.{List, [], ◌∷◌, ◌++◌, Bool, if◌then◌else◌}
 use Rattle.std.specs.List.{list_any}
 
 -- the list, with x at its end where nothing in it is the same as x
