@@ -3,7 +3,7 @@ use Rattle.std.specs.Prelude.{ℕ, ◌+◌, List, [], ◌∷◌, ◌++◌, lengt
 use Rattle.documents.specs.Tests.{some}
 use Rattle.documents.specs.Kind.{Kind, same_kind}
 use Rattle.goals.specs.Signed.{Signed}
-use Rattle.alternatives.specs.Limit.{LimitKind, Width, Places}
+use Rattle.alternatives.specs.Limit.{LimitKind, Width, Places, most_width, most_places}
 use Rattle.alternatives.specs.Alternative.{Alternative, named, places}
 
 pub record Expansion : Type 0 where
@@ -21,14 +21,6 @@ nothing = expansion_of [] None
 -- one of the alternatives is of that branch
 abbrev pub names_branch : Expansion → Kind → ℕ → Bool
 names_branch e t k = some (λ a. same_kind t a.kind && nat_eq k a.branch) e.alternatives
-
--- signed positions of a goal that is named
-abbrev pub most_width : ℕ
-most_width = 65536
-
--- places of the alternatives of one goal
-abbrev pub most_places : ℕ
-most_places = 1048576
 
 -- the limit that was passed first
 abbrev pub first_limit : Option LimitKind → LimitKind → Option LimitKind

@@ -1,4 +1,5 @@
--- The limits of the search, each with what it counts.
+-- The limits of the search, each with what it counts, and the most of it that passes no limit.
+use Rattle.std.specs.Prelude.{ℕ}
 
 pub data LimitKind : Type 0 where
   -- ends of the tree of a goal at a kind
@@ -22,3 +23,48 @@ pub data LimitKind : Type 0 where
   -- explored goals, and the places of them all
   Goals : LimitKind
   Total : LimitKind
+
+-- Branches
+abbrev pub most_ends : ℕ
+most_ends = 16384
+
+-- Positions, Classes and States
+abbrev pub most_positions : ℕ
+most_positions = 16384
+
+abbrev pub most_classes : ℕ
+most_classes = 1024
+
+abbrev pub most_states : ℕ
+most_states = 65536
+
+-- Counts
+abbrev pub most_counts : ℕ
+most_counts = 65536
+
+-- Candidates
+abbrev pub most_candidates : ℕ
+most_candidates = 65536
+
+-- Plans
+abbrev pub most_plans : ℕ
+most_plans = 65536
+
+-- Width
+abbrev pub most_width : ℕ
+most_width = 65536
+
+-- Places
+abbrev pub most_places : ℕ
+most_places = 1048576
+
+-- Goals and Total
+abbrev pub most_goals : ℕ
+most_goals = 65536
+
+abbrev pub most_total : ℕ
+most_total = 16777216
+
+-- words of a cell are counted up to one more than the least number of members that passes no limit
+abbrev pub most_words : ℕ
+most_words = 65537

@@ -1,11 +1,8 @@
 -- The slots that an alternative names, and which it may name where its branch has cells of words.
 use Rattle.std.specs.Prelude.{ℕ, zero, suc, ◌+◌, min, List, [], ◌∷◌, ◌++◌, map, flat_map, length, Bool, true, false, not, ◌&&◌, nat_eq, nat_le, nat_lt, get_or}
 use Rattle.documents.specs.Tests.{every, some, same_word}
+use Rattle.alternatives.specs.Limit.{most_words}
 use Rattle.alternatives.specs.Alternative.{Slot, Index, Name, Shape, Text, Elements, Members, Alternative}
-
--- no branch needs more words of a cell: past that many they are not counted
-abbrev pub most_words : ℕ
-most_words = 65537
 
 -- how many words a cell has, as far as they are counted
 abbrev pub capacity : List (List ℕ) → ℕ

@@ -18,7 +18,7 @@ use Rattle.list_laws.specs.In.{IsIn}
 use Rattle.list_laws.proofs.Lists.{every_at, every_from, in_left, in_right, in_map, in_flat_map}
 use Rattle.frame_laws.proofs.Arranged.{IsArranged, IsInside, at_list}
 use Rattle.frame_laws.proofs.CompletePlans.{IsComplete}
-use Rattle.expansions.specs.ArrayValues.{stand, doc_at}
+use Rattle.array_laws.specs.ArrayValues.{stand, doc_at}
 use Rattle.array_laws.proofs.Lists.{in_doc}
 use Rattle.array_laws.proofs.Sets.{stand_head, stand_cell, arrangement}
 

@@ -25,7 +25,7 @@ use Rattle.frames.specs.Fillers.{fillers, rooms_of, passes, goals, is_met_by, ch
 use Rattle.frame_laws.proofs.FillersLaws.{fillers_from, fill_from, fill_length}
 use Rattle.frame_laws.proofs.Followed.{rooms_met, placed_passes, fits_some}
 use Rattle.frame_laws.proofs.Signs.{in_has, has_in}
-use Rattle.expansions.specs.ArrayValues.{doc_at, values, array_of}
+use Rattle.array_laws.specs.ArrayValues.{doc_at, values, array_of}
 use Rattle.array_laws.proofs.Lists.{doc_in}
 use Rattle.array_laws.proofs.Sets.{AreMet, arrangement, is_arranged, literals_met}
 use Rattle.array_laws.proofs.Building.{Slot, IsFor, elements_of, used_long, built_arranged, built_document, built_depth}

@@ -6,7 +6,7 @@ use Rattle.documents.specs.Document.{Document}
 use Rattle.frames.specs.Frame.{Head, In}
 use Rattle.frames.specs.ArrayFrame.{item_at, index_of}
 use Rattle.list_laws.specs.In.{IsIn}
-use Rattle.expansions.specs.ArrayValues.{stand, doc_at}
+use Rattle.array_laws.specs.ArrayValues.{stand, doc_at}
 
 pub doc_in : (ds : List Document) (j : ℕ) → j < length ds → IsIn (doc_at ds j) ds
 doc_in [] j l = absurd (omega (arith, l))

@@ -14,7 +14,7 @@ use Rattle.goals.specs.Choices.{plus_choices, minus_choices, plus_wrong, minus_w
 use Rattle.frames.specs.Frame.{is_at_end}
 use Rattle.frames.specs.ArrayFrame.{prefix_of, index_of, item_at, is_empty, plus_each, minus_each, plus_serving, minus_serving, plus_lower, minus_lower, plus_below, minus_below}
 use Rattle.list_laws.proofs.Tests.{not_true, some_find, some_from, some_none, none_at}
-use Rattle.expansions.specs.ArrayValues.{stand, doc_at}
+use Rattle.array_laws.specs.ArrayValues.{stand, doc_at}
 use Rattle.array_laws.proofs.Lists.{doc_in, in_doc, item_stand, items_at, items_from, items_fail, items_not}
 
 module _ (T : List Position) (here : ℕ → Bool) (ds : D.Items) (n : ℕ) where

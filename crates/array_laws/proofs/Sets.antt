@@ -20,7 +20,7 @@ use Rattle.list_laws.specs.In.{IsIn}
 use Rattle.list_laws.proofs.Lists.{every_at, every_from, from_flat_map, in_flat_map, to_filter}
 use Rattle.frame_laws.proofs.Arranged.{Arrangement, IsInside, IsArranged}
 use Rattle.list_laws.proofs.Tests.{from_filter}
-use Rattle.expansions.specs.ArrayValues.{stand, doc_at}
+use Rattle.array_laws.specs.ArrayValues.{stand, doc_at}
 use Rattle.array_laws.proofs.Literals.{IsPlus, IsMinus, is_plus, is_minus, from_plus, from_minus}
 
 abbrev pub lower_at : List Position → Signed → ℕ

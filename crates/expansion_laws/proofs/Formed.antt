@@ -21,11 +21,11 @@ use Rattle.frames.specs.Fillers.{fillers}
 use Rattle.frame_laws.proofs.FillersLaws.{fillers_from}
 use Rattle.alternatives.specs.Alternative.{Shape, Null, Truth, Number, Text, Placed, Filler, Alternative, named_by}
 use Rattle.alternatives.specs.Limit.{LimitKind}
-use Rattle.expansions.specs.Leaves.{Naming, by_index, by_name, cell_of, placed_as, members_of, filling_of, plan_alternative, plan_leaf, scalar, scalar_leaf, result_map, truth_values, Finders, leaf}
+use Rattle.expansions.specs.Leaves.{Naming, by_index, by_name, cell_of, placed_as, members_of, filling_of, plan_alternative, plan_leaf, scalar, scalars, one_or_none, scalar_leaf, result_map, truth_values, Finders, leaf}
 use Rattle.expansions.specs.Expansion.{expansion}
 use Rattle.expansion_laws.proofs.Kept.{expansion_from}
 use Rattle.expansion_laws.proofs.PlanLeaf.{leaf_is}
-use Rattle.expansion_laws.proofs.Scalars.{found_list}
+use Rattle.expansion_laws.proofs.Scalars.{listed_scalars, as_listed}
 
 abbrev pub IsFormOf : List Position → List Signed → Type 0
 IsFormOf T h = (xs : List Signed) × (form T xs ≡ Some h)
@@ -80,20 +80,26 @@ module _ (N : Naming) (t : Kind) (k : ℕ) (T : List Position) where
       (leaf_is (plan_alternative N t k T) T lower below fr more e)
 
 scalar_formed : {A : Type 0} (T : List Position) (t : Kind) (shape : A → Shape) (k : ℕ)
-    (r : Result (List A) LimitKind) (more : List Alternative) → scalar_leaf t shape k r ≡ Ok more
+    (r : Result (List A) LimitKind) (more : List Alternative) → result_map (scalars t shape k) r ≡ Ok more
     → (a : Alternative) → IsIn a more → (h : List Signed) → IsIn h (named_by a) → IsFormOf T h
 scalar_formed T t shape k r more e a i h j =
-    let (xs, p, q) = found_list T t shape (λ S. r) k r more e in
+    let (xs, p, q) = listed_scalars T t shape (λ S. r) k r more e in
     let (x, b, s) = from_map (λ y. scalar t k (shape y)) a xs (subst (λ z. IsIn a z) (sym q) i) in
     absurd (subst (λ z. IsIn h (named_by z)) s j)
+
+one_formed : {A : Type 0} (T : List Position) (t : Kind) (shape : A → Shape) (k : ℕ)
+    (r : Result (Option A) LimitKind) (more : List Alternative) → scalar_leaf t shape k r ≡ Ok more
+    → (a : Alternative) → IsIn a more → (h : List Signed) → IsIn h (named_by a) → IsFormOf T h
+one_formed T t shape k r more e =
+    scalar_formed T t shape k (result_map one_or_none r) more (as_listed T t shape (λ S. r) k r ∙ e)
 
 of_leaf : (F : Finders) (T : List Position) (t : Kind) (k : ℕ) (S : List Signed) (more : List Alternative)
     → leaf F T t k S ≡ Ok more
     → (a : Alternative) → IsIn a more → (h : List Signed) → IsIn h (named_by a) → IsFormOf T h
 of_leaf F T K.Null k S more e = scalar_formed T K.Null (λ J. Null) k (Ok (null ∷ [])) more e
 of_leaf F T K.Boolean k S more e = scalar_formed T K.Boolean Truth k (Ok (truth_values T S)) more e
-of_leaf F T K.Number k S more e = scalar_formed T K.Number Number k (F.numbers S) more e
-of_leaf F T K.Text k S more e = scalar_formed T K.Text (λ w. Text) k (F.strings S) more e
+of_leaf F T K.Number k S more e = one_formed T K.Number Number k (F.numbers S) more e
+of_leaf F T K.Text k S more e = one_formed T K.Text (λ w. Text) k (F.strings S) more e
 of_leaf F T K.Array k S more e =
     leaf_formed by_index K.Array k T (A.lower T S) (A.below T S) (Ok (array_frame T S)) more e
 of_leaf F T K.Object k S more e =

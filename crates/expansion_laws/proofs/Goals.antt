@@ -21,7 +21,7 @@ use Rattle.expansions.specs.DocumentOf.{document_of, branch_of}
 use Rattle.expansions.specs.Expansion.{expansion}
 use Rattle.expansion_laws.proofs.Leaf.{Answer, AllPass, AreChildren, IsMade, IsLeaf, IsFinder}
 use Rattle.expansion_laws.proofs.Kept.{expansion_has, expansion_from}
-use Rattle.expansion_laws.proofs.Scalars.{finder_leaf, null_finder, boolean_finder}
+use Rattle.expansion_laws.proofs.Scalars.{listing_leaf, finder_leaf, null_listing, boolean_listing}
 use Rattle.expansion_laws.proofs.Containers.{IsCells, array_is_leaf, object_is_leaf}
 
 all_in : {A : Type 0} (P : A → Type 0) (x : A) (xs : List A) → AllByRecursion P xs → IsIn x xs → P x
@@ -84,9 +84,9 @@ pub leaves_right : (F : Finders) (T : List Position) (ok : IsTable T)
     → IsFinder T K.Text (words_of F K.Text) (λ w. Text) F.strings
     → ((S : List Signed) → IsSaturated T K.Object S → (C : Cells) → F.cells S ≡ Ok C → IsCells T ok S C)
     → (t : Kind) → IsLeaf T t (words_of F t) (leaf F T t)
-leaves_right F T ok numbers strings cells K.Null = finder_leaf T K.Null (λ J. Null) (λ S. Ok (null ∷ [])) _
-    (null_finder T ok _ null)
-leaves_right F T ok numbers strings cells K.Boolean = finder_leaf T K.Boolean Truth _ _ (boolean_finder T ok _)
+leaves_right F T ok numbers strings cells K.Null = listing_leaf T K.Null (λ J. Null) (λ S. Ok (null ∷ [])) _
+    (null_listing T ok _ null)
+leaves_right F T ok numbers strings cells K.Boolean = listing_leaf T K.Boolean Truth _ _ (boolean_listing T ok _)
 leaves_right F T ok numbers strings cells K.Number = finder_leaf T K.Number Number F.numbers _ numbers
 leaves_right F T ok numbers strings cells K.Text = finder_leaf T K.Text (λ w. Text) F.strings _ strings
 leaves_right F T ok numbers strings cells K.Array = array_is_leaf T ok _

@@ -9,9 +9,9 @@ use Rattle.goals.specs.Tree as G
 use Rattle.list_laws.specs.In.{IsIn}
 use Rattle.list_laws.proofs.Lists.{in_left, in_right, in_append, in_flat_map, from_flat_map}
 use Rattle.alternatives.specs.Alternative.{Alternative, named, places}
-use Rattle.alternatives.specs.Limit.{LimitKind, Branches, Width, Places}
-use Rattle.alternatives.specs.Expansion.{Expansion, most_places, expansion_of, first_limit, with_limit, is_wide, keep, keep_all}
-use Rattle.expansions.specs.Expansion.{most_ends, from_branch, at_kind, expansion}
+use Rattle.alternatives.specs.Limit.{LimitKind, Branches, Width, Places, most_ends, most_places}
+use Rattle.alternatives.specs.Expansion.{Expansion, expansion_of, first_limit, with_limit, is_wide, keep, keep_all}
+use Rattle.expansions.specs.Expansion.{from_branch, at_kind, expansion}
 
 -- a hole stays
 first_some : (o : Option LimitKind) (k : LimitKind) → first_limit o k ≡ None → ⊥

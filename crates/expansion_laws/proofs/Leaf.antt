@@ -1,6 +1,6 @@
 -- What a leaf has to give: an alternative that is met for each document of its kind, and a document for each that is
 -- met.
-use Rattle.std.proofs.Common.{◌≡◌, ℕ, suc, ◌<◌, ◌≤◌, true, Bool, List, [], Result, Ok}
+use Rattle.std.proofs.Common.{◌≡◌, ℕ, suc, ◌<◌, ◌≤◌, true, Bool, List, [], Option, Some, None, Result, Ok}
 use Rattle.documents.specs.Kind.{Kind}
 use Rattle.documents.specs.Document.{Document, depth, kind_of, is_document}
 use Rattle.positions.specs.Position.{Position}
@@ -44,11 +44,19 @@ pub record IsLeaf (T : List Position) (t : Kind) (words : List Signed → ℕ �
       → IsIn a more
       → (a.kind ≡ t) × (a.branch ≡ k)
 
--- what finds scalars: each that it finds, in its shape, meets the set, and it finds one where a document of the kind
--- meets it
-pub record IsFinder {A : Type 0} (T : List Position) (t : Kind) (words : List Signed → ℕ → ℕ → List ℕ)
-    (shape : A → Shape) (find : List Signed → Result (List A) LimitKind) : Type 0 where
-  pub found : (S : List Signed) → IsSaturated T t S → (xs : List A) → find S ≡ Ok xs → (x : A) → IsIn x xs
+-- what lists scalars: each that is listed, in its shape, meets the set, and one is where a document of the kind meets it
+pub record IsListing {A : Type 0} (T : List Position) (t : Kind) (words : List Signed → ℕ → ℕ → List ℕ)
+    (shape : A → Shape) (list : List Signed → Result (List A) LimitKind) : Type 0 where
+  pub listed : (S : List Signed) → IsSaturated T t S → (xs : List A) → list S ≡ Ok xs → (x : A) → IsIn x xs
       → IsMade T 0 S (by_shape (words S) (shape x) [])
-  pub some_found : (S : List Signed) → IsSaturated T t S → (xs : List A) → find S ≡ Ok xs
+  pub some_listed : (S : List Signed) → IsSaturated T t S → (xs : List A) → list S ≡ Ok xs
       → (J : Document) → is_document J ≡ true → kind_of J ≡ t → meets T S J ≡ true → (x : A) × IsIn x xs
+
+-- what finds a scalar: the one that it finds, in its shape, meets the set, and where it finds none no document of the
+-- kind does
+pub record IsFinder {A : Type 0} (T : List Position) (t : Kind) (words : List Signed → ℕ → ℕ → List ℕ)
+    (shape : A → Shape) (find : List Signed → Result (Option A) LimitKind) : Type 0 where
+  pub found : (S : List Signed) → IsSaturated T t S → (x : A) → find S ≡ Ok (Some x)
+      → IsMade T 0 S (by_shape (words S) (shape x) [])
+  pub none_found : (S : List Signed) → IsSaturated T t S → find S ≡ Ok None
+      → (J : Document) → is_document J ≡ true → kind_of J ≡ t → meets T S J ≡ true → ⊥

@@ -11,10 +11,11 @@ use Rattle.expansions.specs.SortedMembers.{sorted}
 use Rattle.frame_laws.proofs.CompletePlans.{IsComplete}
 use Rattle.cells.specs.Cells.{Cells}
 use Rattle.frames.specs.Fillers.{Filler, fillers, times, child_of, fill}
-use Rattle.expansions.specs.ObjectValues.{name, named, object_of, member_slots, filler_slots, at_slot}
-use Rattle.expansions.specs.ObjectValues as O
+use Rattle.expansions.specs.Leaves.{name}
+use Rattle.object_laws.specs.ObjectValues.{named, object_of, member_slots, filler_slots, at_slot}
+use Rattle.object_laws.specs.ObjectValues as O
 use Rattle.object_laws.proofs.Slots.{slots_named}
-use Rattle.expansions.specs.ArrayValues.{array_of}
+use Rattle.array_laws.specs.ArrayValues.{array_of}
 use Rattle.alternatives.specs.Alternative.{Slot, Index, Name, Placed}
 use Rattle.expansions.specs.Leaves.{by_index, by_name, cell_of, placed_as, members_of, filling_of, plan_alternative}
 use Rattle.expansions.specs.DocumentOf.{copies, with_name, filled, document_of}

@@ -12,8 +12,8 @@ use Rattle.list_laws.specs.In.{IsIn}
 use Rattle.frame_laws.proofs.CompletePlans.{IsComplete, complete_is, empty_kept}
 use Rattle.frames.specs.Fillers.{Filler, fillers, rooms_of, passes, is_met_by}
 use Rattle.alternatives.specs.Alternative.{Alternative, rooms, is_met}
-use Rattle.alternatives.specs.Limit.{LimitKind, Counts, Plans}
-use Rattle.expansions.specs.Leaves.{Naming, cell_of, placed_as, members_of, filling_of, plan_alternative, most_counts, most_plans, by_plans, with_frame, plan_leaf}
+use Rattle.alternatives.specs.Limit.{LimitKind, Counts, Plans, most_counts, most_plans}
+use Rattle.expansions.specs.Leaves.{Naming, cell_of, placed_as, members_of, filling_of, plan_alternative, by_plans, with_frame, plan_leaf}
 
 -- an alternative is met as its plan is
 

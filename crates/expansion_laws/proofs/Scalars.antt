@@ -1,5 +1,5 @@
--- Leaves of scalars: null and truth values, and any that are found.
-use Rattle.std.proofs.Common.{◌≡◌, ℕ, suc, inl, inr, Bool, true, false, not, List, [], ◌∷◌, map, None, Result, Ok, Err, refl, ap, sym, ◌∙◌, subst, arith}
+-- Leaves of scalars: null and truth values, and any that is found.
+use Rattle.std.proofs.Common.{◌≡◌, ℕ, suc, ◌⊎◌, inl, inr, ⊎_elim, Bool, true, false, not, List, [], ◌∷◌, Option, Some, None, Result, Ok, Err, refl, ap, sym, ◌∙◌, subst, arith}
 use Rattle.std.proofs.lemmas.Bool.{not-false}
 use Rattle.documents.specs.Tests.{every, some}
 use Rattle.documents.specs.Kind as K
@@ -18,40 +18,84 @@ use Rattle.list_laws.proofs.Tests.{from_filter}
 use Rattle.frame_laws.proofs.Signs.{has_in}
 use Rattle.alternatives.specs.Alternative.{Shape, Null, Truth, Alternative}
 use Rattle.alternatives.specs.Limit.{LimitKind}
-use Rattle.expansions.specs.Leaves.{scalar, scalar_leaf, plus_agrees, minus_agrees, agrees, truth_values}
-use Rattle.expansion_laws.proofs.Leaf.{ok_same, IsMade, IsLeaf, IsFinder}
+use Rattle.expansions.specs.Leaves.{scalar, scalars, one_or_none, scalar_leaf, result_map, plus_agrees, minus_agrees, agrees, truth_values}
+use Rattle.expansion_laws.proofs.Leaf.{ok_same, IsMade, IsLeaf, IsListing, IsFinder}
 use Rattle.expansions.specs.DocumentOf.{document_of}
 
--- a finder makes a leaf
+-- what lists scalars makes a leaf
 module _ {A : Type 0} (T : List Position) (t : Kind) (shape : A → Shape)
-    (find : List Signed → Result (List A) LimitKind) where
-  pub found_list : (k : ℕ) (r : Result (List A) LimitKind) (more : List Alternative)
-      → scalar_leaf t shape k r ≡ Ok more
-      → (xs : List A) × (r ≡ Ok xs) × (map (λ x. scalar t k (shape x)) xs ≡ more)
-  found_list k (Ok xs) more e =
-      (xs, refl, ok_same (map (λ x. scalar t k (shape x)) xs) more (scalar_leaf t shape k (Ok xs)) refl e)
-  found_list k (Err l) more e = cc
+    (list : List Signed → Result (List A) LimitKind) where
+  pub listed_scalars : (k : ℕ) (r : Result (List A) LimitKind) (more : List Alternative)
+      → result_map (scalars t shape k) r ≡ Ok more
+      → (xs : List A) × (r ≡ Ok xs) × (scalars t shape k xs ≡ more)
+  listed_scalars k (Ok xs) more e =
+      (xs, refl, ok_same (scalars t shape k xs) more (result_map {C = LimitKind} (scalars t shape k) (Ok xs)) refl e)
+  listed_scalars k (Err l) more e = cc
 
-  pub finder_leaf : (words : List Signed → ℕ → ℕ → List ℕ) → IsFinder T t words shape find
-      → IsLeaf T t words (λ k S. scalar_leaf t shape k (find S))
-  finder_leaf words f = record {
+  pub listing_leaf : (words : List Signed → ℕ → ℕ → List ℕ) → IsListing T t words shape list
+      → IsLeaf T t words (λ k S. result_map (scalars t shape k) (list S))
+  listing_leaf words f = record {
     follows = λ k S full more e d can pass J good kind deep m.
-        let (xs, p, q) = found_list k (find S) more e in
-        let (x, i) = f.some_found S full xs p J good kind m in (
+        let (xs, p, q) = listed_scalars k (list S) more e in
+        let (x, i) = f.some_listed S full xs p J good kind m in (
           scalar t k (shape x),
           subst (λ z. IsIn (scalar t k (shape x)) z) q (in_map (λ y. scalar t k (shape y)) x xs i),
           refl,
         );
     made = λ k S full more e d can child are a i m.
-        let (xs, p, q) = found_list k (find S) more e in
+        let (xs, p, q) = listed_scalars k (list S) more e in
         let (x, j, s) = from_map (λ y. scalar t k (shape y)) a xs (subst (λ z. IsIn a z) (sym q) i) in
-        let (good, deep, h) = f.found S full xs p x j in
+        let (good, deep, h) = f.listed S full xs p x j in
         subst (λ z. IsMade T (suc d) S (document_of can child (words S) z)) (sym s) (good, omega (arith, deep), h);
     of_branch = λ k S more e a i.
-        let (xs, p, q) = found_list k (find S) more e in
+        let (xs, p, q) = listed_scalars k (list S) more e in
         let (x, j, s) = from_map (λ y. scalar t k (shape y)) a xs (subst (λ z. IsIn a z) (sym q) i) in
         (ap (λ z. z.kind) s, ap (λ z. z.branch) s);
   }
+
+-- and so does a finder
+module _ {A : Type 0} (T : List Position) (t : Kind) (shape : A → Shape)
+    (find : List Signed → Result (Option A) LimitKind) where
+  abbrev list : List Signed → Result (List A) LimitKind
+  list S = result_map one_or_none (find S)
+
+  pub as_listed : (k : ℕ) (r : Result (Option A) LimitKind)
+      → result_map (scalars t shape k) (result_map one_or_none r) ≡ scalar_leaf t shape k r
+  as_listed k (Ok o) = refl
+  as_listed k (Err l) = refl
+
+  abbrev ok : Option A → Result (Option A) LimitKind
+  ok o = Ok o
+
+  one_found : (r : Result (Option A) LimitKind) (xs : List A) → result_map one_or_none r ≡ Ok xs
+      → ((x : A) → IsIn x xs → r ≡ Ok (Some x)) × ((r ≡ Ok None) ⊎ ((x : A) × IsIn x xs))
+  one_found (Ok None) xs e =
+      let q : [] ≡ xs = ok_same [] xs (result_map one_or_none (ok None)) refl e in
+      ((λ x i. absurd (subst (λ z. IsIn x z) (sym q) i)), inl refl)
+  one_found (Ok (Some y)) xs e =
+      let q : y ∷ [] ≡ xs = ok_same (y ∷ []) xs (result_map one_or_none (ok (Some y))) refl e in (
+        (λ x i. ⊎_elim (λ s. ap (λ z. Ok (Some z)) (sym s)) (λ j. absurd j) (subst (λ z. IsIn x z) (sym q) i)),
+        inr (y, subst (λ z. IsIn y z) q (inl refl)),
+      )
+  one_found (Err l) xs e = cc
+
+  listing : (words : List Signed → ℕ → ℕ → List ℕ) → IsFinder T t words shape find → IsListing T t words shape list
+  listing words f = record {
+    listed = λ S full xs e x i. f.found S full x ((one_found (find S) xs e).0 x i);
+    some_listed = λ S full xs e J good kind m. ⊎_elim
+        (λ p. absurd (f.none_found S full p J good kind m))
+        (λ h. h)
+        (one_found (find S) xs e).1;
+  }
+
+  pub finder_leaf : (words : List Signed → ℕ → ℕ → List ℕ) → IsFinder T t words shape find
+      → IsLeaf T t words (λ k S. scalar_leaf t shape k (find S))
+  finder_leaf words f =
+      let l = listing_leaf T t shape list words (listing words f) in record {
+        follows = λ k S full more e. l.follows k S full more (as_listed k (find S) ∙ e);
+        made = λ k S full more e. l.made k S full more (as_listed k (find S) ∙ e);
+        of_branch = λ k S more e. l.of_branch k S more (as_listed k (find S) ∙ e);
+      }
 
 -- null
 
@@ -73,12 +117,12 @@ null_minus : (here : ℕ → Bool) (below : ℕ → Document → Bool) (P : Posi
 null_minus here below (Types ts) c w = ap not w
 null_minus here below _ c w = cc
 
-pub null_finder : {A : Type 0} (T : List Position) → IsTable T → (words : List Signed → ℕ → ℕ → List ℕ) (x : A)
-    → IsFinder T K.Null words (λ y. Null) (λ S. Ok (x ∷ []))
-null_finder T ok words x = record {
-  found = λ S full xs e y i.
+pub null_listing : {A : Type 0} (T : List Position) → IsTable T → (words : List Signed → ℕ → ℕ → List ℕ) (x : A)
+    → IsListing T K.Null words (λ y. Null) (λ S. Ok (x ∷ []))
+null_listing T ok words x = record {
+  listed = λ S full xs e y i.
       (refl, omega arith, meets-saturated T ok null S (λ x h c. literal x c (full.none_wrong x h)) full.chosen);
-  some_found = λ S full xs e J good kind m.
+  some_listed = λ S full xs e J good kind m.
       (x, subst (λ z. IsIn x z) (ok_same (x ∷ []) xs (Ok (x ∷ [])) refl e) (inl refl));
 } where
   literal : (x : Signed) → choices T K.Null x ≡ None → is_wrong T K.Null x ≡ false
@@ -166,16 +210,16 @@ module _ (T : List Position) (ok : IsTable T) where
   abbrev truths : List Signed → Result (List Bool) LimitKind
   truths S = Ok (truth_values T S)
 
-  pub boolean_finder : (words : List Signed → ℕ → ℕ → List ℕ)
-      → IsFinder T K.Boolean words Truth (λ S. Ok (truth_values T S))
-  boolean_finder words = record {
-    found = λ S full xs e b i. (
+  pub boolean_listing : (words : List Signed → ℕ → ℕ → List ℕ)
+      → IsListing T K.Boolean words Truth (λ S. Ok (truth_values T S))
+  boolean_listing words = record {
+    listed = λ S full xs e b i. (
       refl,
       omega arith,
       truth_met S full b
           (subst (λ z. IsIn b z) (sym (ok_same (truth_values T S) xs (truths S) refl e)) i),
     );
-    some_found = λ S full xs e J good kind m.
+    some_listed = λ S full xs e J good kind m.
         let (b, i) = truth_some S J kind m in
         (b, subst (λ z. IsIn b z) (ok_same (truth_values T S) xs (truths S) refl e) i);
   }

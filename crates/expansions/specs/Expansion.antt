@@ -4,13 +4,9 @@ use Rattle.documents.specs.Kind.{Kind, all_kinds}
 use Rattle.positions.specs.Position.{Position}
 use Rattle.goals.specs.Signed.{Signed}
 use Rattle.goals.specs.Tree as G
-use Rattle.alternatives.specs.Limit.{LimitKind, Branches}
+use Rattle.alternatives.specs.Limit.{LimitKind, Branches, most_ends}
 use Rattle.alternatives.specs.Alternative.{Alternative}
 use Rattle.alternatives.specs.Expansion.{Expansion, nothing, keep_all}
-
--- ends of the tree of a goal at a kind
-abbrev pub most_ends : ℕ
-most_ends = 16384
 
 module _ (T : List Position) (leaf : Kind → ℕ → List Signed → Result (List Alternative) LimitKind) where
   -- branches by number

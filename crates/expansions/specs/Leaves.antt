@@ -1,5 +1,5 @@
 -- The alternatives of a saturated set at each kind.
-use Rattle.std.specs.Prelude.{ℕ, suc, ℤ, List, [], ◌∷◌, ◌++◌, map, filter, length, Bool, true, false, not, cond, nat_lt, Option, Some, None, Result, Ok, Err}
+use Rattle.std.specs.Prelude.{ℕ, suc, ℤ, List, [], ◌∷◌, ◌++◌, map, filter, length, Bool, true, false, not, cond, nat_lt, Option, Some, None, Result, Ok, Err, get_or}
 use Rattle.std.specs.Bool.{beq}
 use Rattle.documents.specs.Tests.{every}
 use Rattle.documents.specs.Kind as K
@@ -14,12 +14,11 @@ use Rattle.cells.specs.Cells.{Cells}
 use Rattle.frames.specs.ObjectFrame as O
 use Rattle.frames.specs.ObjectFrame.{object_frame}
 use Rattle.frames.specs.Fillers.{Filler, fillers, times}
-use Rattle.expansions.specs.ObjectValues.{name}
-use Rattle.alternatives.specs.Limit.{LimitKind, Counts, Plans}
+use Rattle.alternatives.specs.Limit.{LimitKind, Counts, Plans, most_counts, most_plans}
 use Rattle.alternatives.specs.Alternative as Alt
 use Rattle.alternatives.specs.Alternative.{Slot, Index, Name, Shape, Elements, Members, Placed, Alternative}
 
--- scalars: an alternative for each that is found, without members and fillers
+-- scalars: an alternative for each, without members and fillers
 
 abbrev pub scalar : Kind → ℕ → Shape → Alternative
 scalar t k shape = record { kind = t; branch = k; shape = shape; members = []; need = 0; fillers = [] }
@@ -28,9 +27,17 @@ abbrev pub result_map : {A B C : Type 0} → (A → B) → Result A C → Result
 result_map f (Ok x) = Ok (f x)
 result_map f (Err e) = Err e
 
-abbrev pub scalar_leaf : {A : Type 0} → Kind → (A → Shape) → ℕ → Result (List A) LimitKind
+abbrev pub scalars : {A : Type 0} → Kind → (A → Shape) → ℕ → List A → List Alternative
+scalars t shape k xs = map (λ x. scalar t k (shape x)) xs
+
+abbrev pub one_or_none : {A : Type 0} → Option A → List A
+one_or_none None = []
+one_or_none (Some x) = x ∷ []
+
+-- of the one that is found
+abbrev pub scalar_leaf : {A : Type 0} → Kind → (A → Shape) → ℕ → Result (Option A) LimitKind
     → Result (List Alternative) LimitKind
-scalar_leaf t shape k found = result_map (map (λ x. scalar t k (shape x))) found
+scalar_leaf t shape k found = result_map (λ o. scalars t shape k (one_or_none o)) found
 
 abbrev pub plus_agrees : Bool → Position → Bool
 plus_agrees b (BoolIs c) = beq c b
@@ -49,6 +56,10 @@ abbrev pub truth_values : List Position → List Signed → List Bool
 truth_values T S = filter (λ b. every (agrees T b) S) (false ∷ true ∷ [])
 
 -- arrays and objects: an alternative for each complete plan
+
+-- name k of a cell
+abbrev pub name : Cells → ℕ → ℕ → List ℕ
+name C c k = get_or (C.words c) k []
 
 abbrev pub cell_of : Place → ℕ
 cell_of (Head i) = i
@@ -94,12 +105,6 @@ plan_alternative N t k T frame q = record {
   fillers = map (filling_of N (length (placed frame q))) (fillers T frame q);
 }
 
-abbrev pub most_counts : ℕ
-most_counts = 65536
-
-abbrev pub most_plans : ℕ
-most_plans = 65536
-
 abbrev pub by_plans : (Frame → Plan → Alternative) → List Position → Frame → Result (List Alternative) LimitKind
 by_plans make T frame =
     cond (nat_lt most_plans (ends (plan_steps T frame))) (Err Plans)
@@ -126,15 +131,16 @@ object_leaf T k S cells =
     plan_leaf (plan_alternative by_name K.Object k T) T (O.lower T S) (O.below T S)
     (result_map (λ C. object_frame T C S) cells)
 
--- what the finders of numbers, of words and of cells answer for a set: a scalar for each alternative, in order
+-- what the finders of numbers, of words and of cells answer for a set: the number or the word of its one alternative,
+-- or none where it has no alternative
 pub record Finders : Type 0 where
-  pub numbers : List Signed → Result (List ℤ) LimitKind
-  pub strings : List Signed → Result (List (List ℕ)) LimitKind
+  pub numbers : List Signed → Result (Option ℤ) LimitKind
+  pub strings : List Signed → Result (Option (List ℕ)) LimitKind
   pub cells : List Signed → Result Cells LimitKind
 
 abbrev pub leaf : Finders → List Position → Kind → ℕ → List Signed → Result (List Alternative) LimitKind
 leaf F T K.Null k S = Ok (scalar K.Null k Alt.Null ∷ [])
-leaf F T K.Boolean k S = scalar_leaf K.Boolean Alt.Truth k (Ok (truth_values T S))
+leaf F T K.Boolean k S = Ok (scalars K.Boolean Alt.Truth k (truth_values T S))
 leaf F T K.Number k S = scalar_leaf K.Number Alt.Number k (F.numbers S)
 leaf F T K.Text k S = scalar_leaf K.Text (λ w. Alt.Text) k (F.strings S)
 leaf F T K.Array k S = array_leaf T k S
@@ -146,8 +152,8 @@ names_of (Ok C) c k = name C c k
 names_of (Err e) c k = []
 
 -- the word that is found
-abbrev pub word_of : Result (List (List ℕ)) LimitKind → ℕ → ℕ → List ℕ
-word_of (Ok (w ∷ ws)) c k = w
+abbrev pub word_of : Result (Option (List ℕ)) LimitKind → ℕ → ℕ → List ℕ
+word_of (Ok (Some w)) c k = w
 word_of _ c k = []
 
 -- word k of cell c of a branch: a name at objects, the word that was found at strings

@@ -16,7 +16,8 @@ use Rattle.frame_laws.proofs.CompletePlans.{IsComplete}
 use Rattle.cells.specs.Cells.{Cells, cell_of}
 use Rattle.frames.specs.ObjectFrame.{number, object_frame}
 use Rattle.frames.specs.Fillers.{times}
-use Rattle.expansions.specs.ObjectValues.{name, named, object_of, with_cells}
+use Rattle.expansions.specs.Leaves.{name}
+use Rattle.object_laws.specs.ObjectValues.{named, object_of, with_cells}
 use Rattle.object_laws.proofs.Sets.{AreArranged}
 use Rattle.cell_laws.specs.RightCells.{AreWords}
 use Rattle.object_laws.proofs.Names.{name_is, named_from, in_named, named_length, Fit, named_of, named_apart, named_fit, sorted_length, depth_below}

@@ -11,7 +11,7 @@ use Rattle.frames.specs.Plan.{Split, Complete, Plan, plan, member as member_of, 
 use Rattle.cells.specs.Cells.{Cells, cells}
 use Rattle.frames.specs.ObjectFrame.{object_frame}
 use Rattle.frames.specs.Fillers.{filler, fillers, goals, is_met_by}
-use Rattle.expansions.specs.ObjectValues.{object_of, values}
+use Rattle.object_laws.specs.ObjectValues.{object_of, values}
 
 table : List Position
 table = Has (97 ∷ []) ∷ MembersOf (Named (97 ∷ [])) 2 ∷ Types (Null ∷ []) ∷ PropsMin 2 ∷ MembersOf

@@ -28,7 +28,7 @@ use Rattle.frame_laws.proofs.FewMembers as F
 use Rattle.cells.specs.Cells.{Cells, cell_of}
 use Rattle.frames.specs.ObjectFrame.{number, cap, room, is_allowed, object_frame}
 use Rattle.frames.specs.Fillers.{fillers, rooms_of, passes, goals, is_met_by, child_of, fill}
-use Rattle.expansions.specs.ObjectValues.{named, object_of, values}
+use Rattle.object_laws.specs.ObjectValues.{named, object_of, values}
 use Rattle.object_laws.proofs.Sets.{AreMet, AreArranged, arranged, literals_met}
 use Rattle.cell_laws.specs.RightCells.{AreCells, AreWords}
 use Rattle.object_laws.proofs.Numbered.{entry_at, at_in, arrangement, caps_bound, is_arranged}

@@ -11,7 +11,8 @@ use Rattle.object_laws.proofs.SortedMembersLaws.{AreApart, AreFit}
 use Rattle.cells.specs.Cells.{Cells, cell_of}
 use Rattle.frames.specs.ObjectFrame.{number}
 use Rattle.frames.specs.Fillers.{times}
-use Rattle.expansions.specs.ObjectValues.{name, named}
+use Rattle.expansions.specs.Leaves.{name}
+use Rattle.object_laws.specs.ObjectValues.{named}
 use Rattle.cell_laws.specs.RightCells.{IsOf, AreWords}
 
 word_in : (k : ℕ) (ws : List (List ℕ)) → k < length ws → IsIn (get_or ws k []) ws

@@ -10,7 +10,8 @@ use Rattle.list_laws.specs.In.{IsIn, Distinct}
 use Rattle.list_laws.proofs.Lists.{from_flat_map}
 use Rattle.cells.specs.Cells.{Cells}
 use Rattle.frames.specs.Fillers.{Filler, with_room, filler_at, fillers, times, child_of, fill}
-use Rattle.expansions.specs.ObjectValues.{name, named, with_cells, values, member_slots, copies, filler_slots, at_slot}
+use Rattle.expansions.specs.Leaves.{name}
+use Rattle.object_laws.specs.ObjectValues.{named, with_cells, values, member_slots, copies, filler_slots, at_slot}
 use Rattle.frame_laws.proofs.FillersLaws.{filler_is, fillers_from}
 
 -- the cells of names used, after so many of one cell

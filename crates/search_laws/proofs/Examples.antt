@@ -20,7 +20,7 @@ T : List Position
 T = Types (K.Array ∷ []) ∷ Contains 2 ∷ Types (K.Null ∷ []) ∷ All (0 ∷ 1 ∷ []) ∷ []
 
 F : Finders
-F = record { numbers = λ S. Ok []; strings = λ S. Ok []; cells = λ S. Err States }
+F = record { numbers = λ S. Ok None; strings = λ S. Ok None; cells = λ S. Err States }
 
 with_null : Alternative
 with_null = record {

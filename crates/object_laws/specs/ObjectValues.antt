@@ -1,17 +1,14 @@
 -- The object of a plan: its members, and further ones, each with the next name of its cell.
-use Rattle.std.specs.Prelude.{ℕ, zero, suc, ◌-◌, min, List, [], ◌∷◌, ◌++◌, map, Bool, cond, get_or}
+use Rattle.std.specs.Prelude.{ℕ, zero, suc, ◌-◌, min, List, [], ◌∷◌, ◌++◌, map, Bool, cond}
 use Rattle.documents.specs.Document.{Document, object}
 use Rattle.positions.specs.Position.{Position}
 use Rattle.goals.specs.Signed.{Signed}
 use Rattle.frames.specs.Frame.{In, Frame}
 use Rattle.frames.specs.Plan.{Member, Plan, goal_of, need}
 use Rattle.expansions.specs.SortedMembers.{sorted}
+use Rattle.expansions.specs.Leaves.{name}
 use Rattle.cells.specs.Cells.{Cells}
 use Rattle.frames.specs.Fillers.{Filler, fillers, times, child_of, fill}
-
--- name k of a cell
-abbrev pub name : Cells → ℕ → ℕ → List ℕ
-name C c k = get_or (C.words c) k []
 
 -- each value, in its cell, with the first name of the cell that is not yet used; `before` are the cells of names used
 abbrev pub named : Cells → List ℕ → List (ℕ × Document) → List (List ℕ × Document)
