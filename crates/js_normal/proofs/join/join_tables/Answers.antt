@@ -6,8 +6,8 @@ use Rattle.positions.specs.Holds.{holds}
 use Rattle.js_normal.proofs.Joins.{joined-built, joined-table}
 use Rattle.js_normal.proofs.join.join_tables.Goals as goal
 
-pub make-core-requires-clause-table : goal.make-core-requires-clause-table
-make-core-requires-clause-table c =
+pub make-requires-clause-table : goal.make-requires-clause-table
+make-requires-clause-table c =
     joined-table c.args.a.now.positions c.args.b.now.positions (map node_view c.from_vec-nodes.result) c.args.a.now.ranks
     c.args.b.now.ranks c.from_vec.result c.append.new.ranks.items
     (joined-built c.args.a.now.positions c.args.b.now.positions _
