@@ -9,4 +9,8 @@ pub mod Sorting
 pub mod Closeness
 pub mod Contained
 mod Equal
+-- Where references end.
+pub mod Ended
 pub mod Choosing
+-- Tables that tests make.
+pub mod Chains

@@ -9,4 +9,5 @@ pub mod Order
 pub mod Numbers
 pub mod Rules
 pub mod Close
+pub mod Ends
 pub mod TreeCode

@@ -5,6 +5,7 @@ use Rattle.documents.specs.Kind as K
 use Rattle.positions.specs.Position as P
 use Rattle.positions.specs.NameFormula as F
 use Rattle.goals.specs.Signed as S
+use Rattle.js_algebra.specs.Ends.{AreEnds}
 use Rattle.js_pattern.specs.View.{view}
 use Rattle.js_algebra.specs.declared.node.JsonKind.{JsonKind}
 use Rattle.js_algebra.specs.declared.node.JsonKind.TheVariants as V
@@ -92,7 +93,8 @@ pub record Table : Type 0 where
   pub positions : List P.Position
   pub ranks : List ℕ
 
--- a table has fewer positions than a place can number
-pub record IsCore (positions : List P.Position) (ranks : List ℕ) : Type 0 where
+-- a table has fewer positions than a place can number, and the ends of its references
+pub record IsCore (positions : List P.Position) (ranks : List ℕ) (ends : List S.Signed) : Type 0 where
   pub table : P.is_table positions ranks ≡ true
   pub small : length positions < 2 ^ 32
+  pub ended : AreEnds positions ends

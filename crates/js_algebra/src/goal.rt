@@ -128,41 +128,6 @@ impl Core {
         }
     }
 
-    /// The signed position that `x` stands for, where it is a reference.
-    fn reference(&self, x: Signed) -> Option<Signed>
-        requires { is_in_table self.now.positions (signed_view x) ≡ true }
-        ensures value { option_map signed_view result ≡ G.reference self.now.positions (signed_view x) }
-        ensures in_table { IfSome result (λ y. is_in_table self.now.positions (signed_view y) ≡ true) }
-    {
-        match self.node(x.pos) {
-            Node::Same(q) => Some(Signed {
-                pos: *q,
-                plus: x.plus,
-            }),
-            Node::Not(q) => Some(Signed {
-                pos: *q,
-                plus: !x.plus,
-            }),
-            _ => None,
-        }
-    }
-
-    /// The end of the references that start at `x`: ranks fall along them, so there are fewer than positions.
-    fn follow(&self, x: Signed) -> Signed
-        requires { is_in_table self.now.positions (signed_view x) ≡ true }
-        ensures value { signed_view result ≡ G.follow self.now.positions (signed_view x) }
-        ensures in_table { is_in_table self.now.positions (signed_view result) ≡ true }
-    {
-        let mut at = x;
-        for _ in 0..self.len() {
-            match self.reference(at) {
-                Some(next) => at = next,
-                None => return at,
-            }
-        }
-        at
-    }
-
     fn followed(&self, alloc: Global, list: &[Signed]) -> Result<Vec<Signed>, Memory>
         requires { are_in_table self.now.positions (map signed_view list.now) ≡ true }
         ensures value { IfOk result (λ v. map signed_view v.items ≡ G.followed self.now.positions

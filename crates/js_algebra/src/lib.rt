@@ -8,6 +8,7 @@
 mod branch;
 mod choice;
 mod copies;
+mod ends;
 mod goal;
 mod keys;
 mod kinds;

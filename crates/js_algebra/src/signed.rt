@@ -14,6 +14,7 @@ pub struct Signed {
 impl Signed {
     ghost use Rattle.goals.specs.Signed as S;
     ghost use Rattle.js_algebra.specs.View.{signed_view};
+    ghost use Rattle.js_algebra.specs.Ends.{signed_by};
     ghost use Rattle.js_algebra.specs.Order.{order_of};
     ghost use Rattle.js_algebra.specs.Numbers.{signed_at};
 
@@ -35,6 +36,16 @@ impl Signed {
         Signed {
             pos: self.pos,
             plus: !self.plus,
+        }
+    }
+
+    /// Itself with plus, and its opposite with minus.
+    pub(crate) fn signed_by(self, plus: bool) -> Signed
+        ensures { signed_view result ≡ signed_by plus (signed_view self) }
+    {
+        Signed {
+            pos: self.pos,
+            plus: self.plus == plus,
         }
     }
 

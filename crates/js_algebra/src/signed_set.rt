@@ -76,9 +76,10 @@ impl SignedSet {
         Ok(())
     }
 
-    /// Adds each of a list. After an error it may have some of them.
+    /// Adds each of a list. After an error it may have some of them, behind those that it had.
     pub fn add_all(&mut self, list: &[Signed]) -> Result<(), Memory>
-        ensures { OnOk result (self.new ≡ with_members (map signed_view list.now) self.old) }
+        ensures members { OnOk result (self.new ≡ with_members (map signed_view list.now) self.old) }
+        ensures err { OnErr result (take (length self.old) self.new ≡ self.old) }
     {
         for x in list {
             self.add(*x)?;
@@ -86,9 +87,10 @@ impl SignedSet {
         Ok(())
     }
 
-    /// Adds each of a choice. After an error it may have some of them.
+    /// Adds each of a choice. After an error it may have some of them, behind those that it had.
     pub fn add_each(&mut self, choice: Choice<'_>) -> Result<(), Memory>
-        ensures { OnOk result (self.new ≡ with_members (choice_view choice.entry) self.old) }
+        ensures members { OnOk result (self.new ≡ with_members (choice_view choice.entry) self.old) }
+        ensures err { OnErr result (take (length self.old) self.new ≡ self.old) }
     {
         for k in 0..choice.len() {
             self.add(choice.at(k))?;

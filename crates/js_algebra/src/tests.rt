@@ -1,6 +1,6 @@
 //! Small tables, with the goals and choices that they give.
 
-ghost use Rattle.std.specs.Prelude.{◌≡◌, IfOk, length};
+ghost use Rattle.std.specs.Prelude.{◌≡◌, ◌<◌, ◌+◌, ◌^◌, IfOk, length};
 
 use crate::{
     Core, Goal, JsonKind, KindList, Node, NodeList, Pos, PosList, RankList, Signed, SignedSet,
@@ -19,7 +19,8 @@ fn table(alloc: Global) -> Result<Core, Fail>
     let kinds = KindList::from_vec(vec![in alloc; JsonKind::Null]?);
     let nodes = vec![in alloc; Node::Not(Pos(1)), Node::Types(kinds)]?;
     let ranks = vec![in alloc; 1, 0]?;
-    Ok(Core::make(NodeList::from_vec(nodes), RankList::from_vec(ranks)))
+    let nodes = NodeList::from_vec(nodes);
+    Ok(Core::make(alloc, nodes, RankList::from_vec(ranks))?)
 }
 
 #[test]
@@ -57,7 +58,8 @@ fn wide_table(alloc: Global) -> Result<Core, Fail>
     nodes.push(Node::CountMin(1))?;
     nodes.push(Node::Depends(Pos(3), Pos(4)))?;
     let ranks = vec![in alloc; 1, 0, 1, 0, 0, 1]?;
-    Ok(Core::make(NodeList::from_vec(nodes), RankList::from_vec(ranks)))
+    let nodes = NodeList::from_vec(nodes);
+    Ok(Core::make(alloc, nodes, RankList::from_vec(ranks))?)
 }
 
 #[test]
@@ -65,6 +67,36 @@ fn references_are_followed(rt: HostRuntime) -> Result<(), Fail> {
     let core = wide_table(rt.alloc())?;
     let goal = form(rt.alloc(), &core, &[Signed::minus(Pos(0))])?.ok_or("a clash")?;
     assert_eq!(rt; goal.as_slice(), [Signed::minus(Pos(1))].as_slice());
+    Ok(())
+}
+
+/// At least one character, and then so many positions, each the opposite of the one before it.
+fn chain(alloc: Global, links: u32) -> Result<Core, Fail>
+    requires { links < 2 ^ 20 }
+    ensures { IfOk result (λ core. length core.positions ≡ links + 1) }
+{
+    let mut nodes = vec![in alloc; Node::LengthMin(1)]?;
+    let mut ranks = vec![in alloc; 0]?;
+    for k in 0..links {
+        nodes.push(Node::Not(Pos(k)))?;
+        ranks.push(u64::from(k) + 1)?;
+    }
+    let nodes = NodeList::from_vec(nodes);
+    Ok(Core::make(alloc, nodes, RankList::from_vec(ranks))?)
+}
+
+/// Followed at each forming, the references would take fifty million steps.
+#[test]
+fn a_long_chain_is_followed_once(rt: HostRuntime) -> Result<(), Fail> {
+    let core = chain(rt.alloc(), 10_000)?;
+    for p in 0..10_000 {
+        let goal = form(rt.alloc(), &core, &[Signed::plus(Pos(p))])?.ok_or("a clash")?;
+        let end = Signed {
+            pos: Pos(0),
+            plus: p % 2 == 0,
+        };
+        assert!(rt; goal.as_slice() == [end].as_slice());
+    }
     Ok(())
 }
 
@@ -127,6 +159,14 @@ fn same_key<T: Hash + Eq>(a: &T, b: &T) -> bool {
 
 fn shared<T: Send + Sync>(x: &T) -> &T {
     x
+}
+
+/// Threads may send and share tables.
+#[test]
+fn tables_cross_threads(rt: HostRuntime) -> Result<(), Fail> {
+    let core = table(rt.alloc())?;
+    assert_eq!(rt; shared(&core).len(), 2);
+    Ok(())
 }
 
 #[test]

@@ -50,7 +50,8 @@ fn table(alloc: Global) -> Result<Core, Fail>
         Node::Types(both),
     ]?;
     let ranks = vec![in alloc; 1, 0, 1, 0]?;
-    Ok(Core::make(NodeList::from_vec(nodes), RankList::from_vec(ranks)))
+    let nodes = NodeList::from_vec(nodes);
+    Ok(Core::make(alloc, nodes, RankList::from_vec(ranks))?)
 }
 
 #[test]

@@ -111,7 +111,8 @@ fn is_dead<D: Dead>(dead: &D, goal: &Goal) -> bool {
 fn goal(alloc: Global) -> Result<Goal, Fail> {
     let nodes = vec![in alloc; Node::BoolIs(true)]?;
     let ranks = vec![in alloc; 0]?;
-    let core = Core::make(NodeList::from_vec(nodes), RankList::from_vec(ranks));
+    let nodes = NodeList::from_vec(nodes);
+    let core = Core::make(alloc, nodes, RankList::from_vec(ranks))?;
     Ok(form(alloc, &core, &[Signed::plus(Pos(0))])?.ok_or("a clash")?)
 }
 

@@ -122,7 +122,8 @@ impl Expander for Small {
 fn expander(alloc: Global) -> Result<Small, Fail> {
     let nodes = vec![in alloc; Node::BoolIs(true), Node::BoolIs(true), Node::BoolIs(true)]?;
     let ranks = vec![in alloc; 0, 1, 2]?;
-    let core = Core::make(NodeList::from_vec(nodes), RankList::from_vec(ranks));
+    let nodes = NodeList::from_vec(nodes);
+    let core = Core::make(alloc, nodes, RankList::from_vec(ranks))?;
     Ok(Small {
         first: form(alloc, &core, &[Signed::plus(Pos(0))])?.ok_or("a clash")?,
         second: form(alloc, &core, &[Signed::plus(Pos(1))])?.ok_or("a clash")?,

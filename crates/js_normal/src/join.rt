@@ -33,7 +33,8 @@ pub fn join_tables(alloc: Global, a: &Core, b: &Core) -> Result<(Core, Pos, Pos)
     let mut ranks = Vec::with_capacity(alloc, (a.len() + b.len()) as usize)?;
     append(alloc, a, 0, &mut nodes, &mut ranks)?;
     append(alloc, b, a.len(), &mut nodes, &mut ranks)?;
-    let core = Core::make(NodeList::from_vec(nodes), RankList::from_vec(ranks));
+    let nodes = NodeList::from_vec(nodes);
+    let core = Core::make(alloc, nodes, RankList::from_vec(ranks))?;
     Ok((core, Pos(0), Pos(a.len())))
 }
 

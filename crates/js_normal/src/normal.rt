@@ -42,7 +42,7 @@ pub fn normalise(alloc: Global, schema: &Schema, ranks: &Ranks) -> Result<Core, 
     for entry in 0..schema.len() {
         parts.add_entry(alloc, schema.form(entry), ranks.rank(entry))?;
     }
-    parts.into_core()
+    parts.into_core(alloc)
 }
 
 /// The positions of some entries, and the nodes that these need, with their ranks.
@@ -85,7 +85,7 @@ impl Parts {
     }
 
     /// The table of the entries and then the nodes.
-    fn into_core(self) -> Result<Core, Memory>
+    fn into_core(self, alloc: Global) -> Result<Core, Memory>
         requires table { is_table ((made_of self).entries ++ (made_of self).nodes)
             ((made_of self).entry_ranks ++ (made_of self).node_ranks) ≡ true }
         requires small { length ((made_of self).entries ++ (made_of self).nodes) < 2 ^ 32 }
@@ -101,7 +101,7 @@ impl Parts {
         entries.append(&mut builder.into_nodes())?;
         entry_ranks.append(&mut node_ranks)?;
         let nodes = NodeList::from_vec(entries);
-        Ok(Core::make(nodes, RankList::from_vec(entry_ranks)))
+        Core::make(alloc, nodes, RankList::from_vec(entry_ranks))
     }
 }
 

@@ -1,94 +1,18 @@
 -- A chain of positions, each of which asks the one before it twice, is a table.
-use Rattle.std.proofs.Common.{◌≡◌, ℕ, zero, suc, ◌+◌, ◌<◌, ◌≤◌, List, [], ◌∷◌, ◌++◌, length, get_or, true, ◌&&◌, nat_eq, ◌⊎◌, inl, inr, refl, ap, ap₂, sym, ◌∙◌, arith}
-use Rattle.std.proofs.lemmas.Bool.{eq-eqb, and_from, and_parts, cases_lt, lt-ltb}
-use Rattle.std.proofs.lemmas.List.{length-append}
-use Rattle.documents.specs.Tests.{every}
-use Rattle.positions.specs.Position.{Position, All, LengthMin, names_below, in_range, ranks_fall, is_table}
-use Rattle.name_laws.proofs.Tests.{every-join}
+use Rattle.std.proofs.Common.{◌≡◌, ℕ, [], ◌∷◌, true, ◌&&◌, refl, ap}
+use Rattle.std.proofs.lemmas.Bool.{lt-ltb}
+use Rattle.positions.specs.Position.{Position, All, is_table}
+use Rattle.js_algebra.proofs.Chains.{IsLink, numbers, chain, chain-is_table}
 
-abbrev pub chain : ℕ → List Position
-chain zero = LengthMin 1 ∷ []
-chain (suc n) = chain n ++ All (n ∷ n ∷ []) ∷ []
+abbrev pub twice : ℕ → Position
+twice n = All (n ∷ n ∷ [])
 
-abbrev pub numbers : ℕ → List ℕ
-numbers zero = 0 ∷ []
-numbers (suc n) = numbers n ++ suc n ∷ []
+twice-IsLink : (n : ℕ) → IsLink n (twice n)
+twice-IsLink n = record {
+  named = λ m l. ap (λ b. (b && (b && true)) && true) (lt-ltb n m l);
+  ranged = refl;
+  falls = λ ranks p l. ap (λ b. b && (b && true)) (lt-ltb _ _ l);
+}
 
-pub length-chain : (n : ℕ) → length (chain n) ≡ suc n
-length-chain zero = refl
-length-chain (suc n) = length-append (chain n) (All (n ∷ n ∷ []) ∷ []) ∙ omega (arith, length-chain n)
-
-length-numbers : (n : ℕ) → length (numbers n) ≡ suc n
-length-numbers zero = refl
-length-numbers (suc n) = length-append (numbers n) (suc n ∷ []) ∙ omega (arith, length-numbers n)
-
-get_or-left : (xs ys : List ℕ) (k : ℕ) → k < length xs → get_or (xs ++ ys) k 0 ≡ get_or xs k 0
-get_or-left [] ys k l = absurd (omega (arith, l))
-get_or-left (x ∷ xs) ys zero l = refl
-get_or-left (x ∷ xs) ys (suc k) l = get_or-left xs ys k (omega (arith, l))
-
-get_or-last : (xs : List ℕ) (y k : ℕ) → k ≡ length xs → get_or (xs ++ y ∷ []) k 0 ≡ y
-get_or-last [] y zero e = refl
-get_or-last [] y (suc k) e = absurd (omega (arith, e))
-get_or-last (x ∷ xs) y zero e = absurd (omega (arith, e))
-get_or-last (x ∷ xs) y (suc k) e = get_or-last xs y k (omega (arith, e))
-
-number-at : (m k : ℕ) → k ≤ m → get_or (numbers m) k 0 ≡ k
-number-at zero k l = ap (λ i. get_or (0 ∷ []) i 0) none ∙ sym none where
-  none : k ≡ 0
-  none = omega (arith, l)
-number-at (suc m) k l = go (split k m l) (λ h. number-at m k h) where
-  split : (k m : ℕ) → k ≤ suc m → (k ≤ m) ⊎ (k ≡ suc m)
-  split k m l = elim (cases_lt m k) [ inl a ↦ inr (omega (arith, a, l)) | inr b ↦ inl b ]
-
-  go : (k ≤ m) ⊎ (k ≡ suc m) → (k ≤ m → get_or (numbers m) k 0 ≡ k) → get_or (numbers m ++ suc m ∷ []) k 0 ≡ k
-  go (inl h) before = get_or-left (numbers m) (suc m ∷ []) k (omega (arith, h, length-numbers m)) ∙ before h
-  go (inr h) before = get_or-last (numbers m) (suc m) k (omega (arith, h, length-numbers m)) ∙ sym h
-
-ranks_fall-append : (ranks : List ℕ) (k : ℕ) (xs ys : List Position)
-    → ranks_fall ranks k xs ≡ true → ranks_fall ranks (k + length xs) ys ≡ true → ranks_fall ranks k (xs ++ ys) ≡ true
-ranks_fall-append ranks k [] ys g h =
-    let same : k ≡ k + 0 = omega arith in ap (λ i. ranks_fall ranks i ys) same ∙ h
-ranks_fall-append ranks k (x ∷ xs) ys g h =
-    let (one, more) = and_parts _ (ranks_fall ranks (suc k) xs) g in
-    let same : suc k + length xs ≡ k + suc (length xs) = omega arith in
-    and_from _ (ranks_fall ranks (suc k) (xs ++ ys)) one
-    (ranks_fall-append ranks (suc k) xs ys more (ap (λ i. ranks_fall ranks i ys) same ∙ h))
-
-below : (n m : ℕ) → n < m → every (names_below m) (chain n) ≡ true
-below zero m l = refl
-below (suc n) m l =
-    every-join (names_below m) (chain n) (All (n ∷ n ∷ []) ∷ []) (below n m (omega (arith, l)))
-    (ap (λ b. ((b && (b && true)) && true) && true) (lt-ltb n m (omega (arith, l))))
-
-fall : (n m : ℕ) → n ≤ m → ranks_fall (numbers m) 0 (chain n) ≡ true
-fall zero m l = refl
-fall (suc n) m l =
-    let p = 0 + length (chain n) in
-    let at : p ≡ suc n = omega (arith, length-chain n) in
-    let less : get_or (numbers m) n 0 < get_or (numbers m) p 0 =
-    omega (arith, number-at m n (omega (arith, l)), number-at m p (omega (arith, l, at)), at) in
-    ranks_fall-append (numbers m) 0 (chain n) (All (n ∷ n ∷ []) ∷ []) (fall n m (omega (arith, l)))
-    (ap (λ b. (b && (b && true)) && true) (lt-ltb _ _ less))
-
-ranged : (n : ℕ) → every in_range (chain n) ≡ true
-ranged zero = refl
-ranged (suc n) = every-join in_range (chain n) (All (n ∷ n ∷ []) ∷ []) (ranged n) refl
-
-pub chain-is_table : (n : ℕ) → is_table (chain n) (numbers n) ≡ true
-chain-is_table n =
-    and_from _ (ranks_fall (numbers n) 0 (chain n))
-    (and_from _ (every in_range (chain n))
-    (and_from (nat_eq (length (chain n)) (length (numbers n))) (every (names_below (length (chain n))) (chain n))
-    (eq-eqb _ _ (length-chain n ∙ sym (length-numbers n)))
-    (below n (length (chain n)) (omega (arith, length-chain n)))) (ranged n)) (fall n n (omega arith))
-
--- one more position, and one more rank
-
-pub chain-more : (T : List Position) (n m : ℕ) (P : Position) → T ≡ chain n → m ≡ suc n → P ≡ All (n ∷ n ∷ [])
-    → T ++ P ∷ [] ≡ chain m
-chain-more T n m P e f g = ap₂ (λ xs x. xs ++ x ∷ []) e g ∙ ap chain (sym f)
-
-pub numbers-more : (ranks : List ℕ) (n m r : ℕ) → ranks ≡ numbers n → m ≡ suc n → r ≡ suc n
-    → ranks ++ r ∷ [] ≡ numbers m
-numbers-more ranks n m r e f g = ap₂ (λ xs x. xs ++ x ∷ []) e g ∙ ap numbers (sym f)
+pub twice-is_table : (n : ℕ) → is_table (chain twice n) (numbers n) ≡ true
+twice-is_table n = chain-is_table twice twice-IsLink n

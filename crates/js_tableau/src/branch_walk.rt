@@ -90,7 +90,8 @@ impl BranchWalk {
     {
         match self.tree.next(core, self.kind) {
             Ok(step) => Ok(step),
-            Err(_) => Err(Memory),
+            Err(TableauFault::LimitBranches) => unreachable!(),
+            Err(TableauFault::Memory) => Err(Memory),
         }
     }
 }

@@ -50,7 +50,8 @@ fn table(alloc: Global) -> Result<Core, Fail>
         Node::Depends(Pos(0), Pos(1)),
     ]?;
     let ranks = vec![in alloc; 1, 0, 2, 2]?;
-    Ok(Core::make(NodeList::from_vec(nodes), RankList::from_vec(ranks)))
+    let nodes = NodeList::from_vec(nodes);
+    Ok(Core::make(alloc, nodes, RankList::from_vec(ranks))?)
 }
 
 #[test]
@@ -104,7 +105,8 @@ fn chain(alloc: Global, links: u32) -> Result<Core, Fail>
         nodes.push(Node::All(twice))?;
         ranks.push(u64::from(k) + 1)?;
     }
-    Ok(Core::make(NodeList::from_vec(nodes), RankList::from_vec(ranks)))
+    let nodes = NodeList::from_vec(nodes);
+    Ok(Core::make(alloc, nodes, RankList::from_vec(ranks))?)
 }
 
 /// Entered once for each way to it, the shorter one would take a thousand million visits, and the longer one has no end.
@@ -130,7 +132,8 @@ fn choice(alloc: Global) -> Result<Core, Fail>
     let both = KindList::from_vec(vec![in alloc; JsonKind::Null, JsonKind::Array]?);
     let nodes = vec![in alloc; Node::Any(any), Node::Types(null), Node::Types(both)]?;
     let ranks = vec![in alloc; 1, 0, 0]?;
-    Ok(Core::make(NodeList::from_vec(nodes), RankList::from_vec(ranks)))
+    let nodes = NodeList::from_vec(nodes);
+    Ok(Core::make(alloc, nodes, RankList::from_vec(ranks))?)
 }
 
 #[test]

@@ -1,28 +1,36 @@
--- One step along a reference uses one of the steps that are left.
-use Rattle.std.proofs.Common.{◌≡◌, ℕ, suc, ◌-◌, List, Some, arith, ap, sym, ◌∙◌}
+-- The end is kept for the position with plus.
+use Rattle.std.proofs.Common.{◌≡◌, ap, sym, ◌∙◌, subst, get_or, map, length, true, arith}
+use Rattle.std.proofs.lemmas.List.{get_or-map, length-map}
 use Rattle.positions.specs.Position.{Position}
-use Rattle.goals.specs.Signed.{Signed}
-use Rattle.goals.specs.Goal.{follow, follow_within, follow_on, reference}
-use Rattle.js_algebra.specs.View.{signed_view}
+use Rattle.goals.specs.Signed.{Plus}
+use Rattle.goals.specs.Goal.{follow}
+use Rattle.js_algebra.specs.View.{node_view, signed_view, is_in_table, Table}
+use Rattle.js_algebra.specs.Ends.{signed_by}
+use Rattle.js_algebra.proofs.Ended.{inside, follow-signed, follow-in_table}
 use Rattle.js_algebra.proofs.table.Core.follow.Goals as goal
 
-next_follows : (T : List Position) (n m : ℕ) (x y : Signed) → n ≡ suc m → Some y ≡ reference T x
-    → follow_within T n x ≡ follow_within T m y
-next_follows T n m x y e r = ap (λ k. follow_within T k x) e ∙ ap (λ o. follow_on (follow_within T m) x o) (sym r)
+pub returns-clause-value : goal.returns-clause-value
+returns-clause-value c =
+    let v = c.self.view_is in
+    let T = map node_view c.self.inside.nodes in
+    let p = c.args.x.pos.0 in
+    let i : is_in_table T (signed_view c.args.x) ≡ true =
+    subst (λ (t : Table). is_in_table t.positions (signed_view c.args.x) ≡ true) (sym v) c.requires in
+    let l = inside T c.args.x.plus p i in
+    let found : signed_view c.index.result.now ≡ follow T (Plus p) =
+    ap signed_view c.index.ensures
+    ∙ sym (get_or-map signed_view c.self.inside.ends.items p c.index.result.now (Plus p)
+    (omega (arith, l, c.self.invariant.ended.count, length-map c.self.inside.ends.items signed_view)))
+    ∙ c.self.invariant.ended.each p l in
+    c.signed_by.ensures ∙ ap (signed_by c.args.x.plus) found ∙ sym (follow-signed T c.args.x.plus p)
+    ∙ ap (λ (t : Table). follow t.positions (signed_view c.args.x)) v
 
-pub loop-init : goal.loop-init
-unfolding follow
-loop-init c = (
-  ap (λ n. follow_within c.args.self.now.positions n (signed_view c.args.x))
-      (omega (arith, c.len-end.ensures.value)),
-  c.requires,
-  c.len-end.ensures.value,
-)
-
-pub loop-preserved : goal.loop-preserved
-loop-preserved c = (
-  sym (next_follows _ (c.len-end.result - c.loop.counter) _ (signed_view c.loop.at) _
-      (omega arith) c.in-Some.ensures.value) ∙ c.loop.invariant.0,
-  c.in-Some.ensures.in_table,
-  c.loop.invariant.2,
-)
+pub returns-clause-in_table : goal.returns-clause-in_table
+returns-clause-in_table c =
+    let v = c.self.view_is in
+    let T = map node_view c.self.inside.nodes in
+    let i : is_in_table T (signed_view c.args.x) ≡ true =
+    subst (λ (t : Table). is_in_table t.positions (signed_view c.args.x) ≡ true) (sym v) c.requires in
+    ap (is_in_table c.args.self.now.positions) (returns-clause-value c)
+    ∙ subst (λ (t : Table). is_in_table t.positions (follow t.positions (signed_view c.args.x)) ≡ true) v
+    (follow-in_table T c.self.inside.ranks c.self.invariant.table (signed_view c.args.x) i)
