@@ -4,5 +4,6 @@ pub mod Rounds
 pub mod Rise
 pub mod Settled
 pub mod Answers
+pub mod Built
 pub mod Decided
 pub mod Examples
