@@ -25,10 +25,19 @@ module _ (has : ℕ → Bool) where
   abbrev pub contents_of : Numbered → List NumberedPlaced
   contents_of a = a.members ++ added_fillers a.need a.fillers
 
+abbrev pub before : ℕ → ℕ
+before zero = 0
+before (suc r) = r
+
 -- the round before the one of an answer
 abbrev pub round_before : Option (ℕ × ℕ) → ℕ
 round_before None = 0
-round_before (Some a) = a.0 - 1
+round_before (Some a) = before a.0
+
+-- its alternative
+abbrev pub chosen_in : List Numbered → Option (ℕ × ℕ) → Option Numbered
+chosen_in bs None = None
+chosen_in bs (Some a) = slice_get bs a.1
 
 module _ (expansion : List Signed → Expansion) (f : Found) where
   -- the numbers of the goals
@@ -55,10 +64,6 @@ module _ (expansion : List Signed → Expansion) (f : Found) where
   abbrev pub in_order : ℕ → List ℕ
   in_order zero = []
   in_order (suc r) = in_order r ++ filter (is_added r) numbers
-
-  abbrev pub chosen_in : List Numbered → Option (ℕ × ℕ) → Option Numbered
-  chosen_in bs None = None
-  chosen_in bs (Some a) = slice_get bs a.1
 
   -- the alternative of a goal's answer
   abbrev pub chosen : ℕ → Option Numbered

@@ -5,5 +5,6 @@ pub mod Rise
 pub mod Settled
 pub mod Answers
 pub mod Built
+pub mod Used
 pub mod Decided
 pub mod Examples
