@@ -10,3 +10,4 @@ pub mod Parts
 pub mod Witness
 pub mod Decided
 pub mod Examples
+pub mod WitnessExamples
