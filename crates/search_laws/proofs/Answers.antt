@@ -106,7 +106,7 @@ module _ (expansion : List Signed → Expansion) (f : Found) where
     differ e = cc
 
   -- nothing is added: answers stay
-  same_answer : (r m n : ℕ) → r ≤ m → (Round m n ≡ true → Round r n ≡ true) → Answer m n ≡ Answer r n
+  pub same_answer : (r m n : ℕ) → r ≤ m → (Round m n ≡ true → Round r n ≡ true) → Answer m n ≡ Answer r n
   same_answer r m n l h = go (Answer r n) refl where
     go : (o : Option (ℕ × ℕ)) → Answer r n ≡ o → Answer m n ≡ o
     go (Some a) e = answer_on r m n a l e
@@ -125,7 +125,7 @@ module _ (expansion : List Signed → Expansion) (f : Found) where
       differ : true ≡ false → ⊥
       differ e = cc
 
-  none_added : (r n : ℕ) → some (is_added expansion f r) (numbers expansion f) ≡ false
+  pub none_added : (r n : ℕ) → some (is_added expansion f r) (numbers expansion f) ≡ false
       → Round (suc r) n ≡ true → Round r n ≡ true
   none_added r n e h = go (Round (suc r) n) (Round r n) h
       (none_at (is_added expansion f r) n (numbers expansion f) e

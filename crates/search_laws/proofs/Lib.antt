@@ -6,6 +6,7 @@ pub mod Settled
 pub mod Answers
 pub mod Built
 pub mod Used
+pub mod Quiet
 pub mod Parts
 pub mod Witness
 pub mod Decided
