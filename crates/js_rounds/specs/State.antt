@@ -3,7 +3,7 @@ use Rattle.std.specs.Prelude.{◌≡◌, ℕ, suc, ◌+◌, List, [], ◌∷◌,
 use Rattle.goals.specs.Signed.{Signed}
 use Rattle.alternatives.specs.Expansion.{Expansion}
 use Rattle.search.specs.Explored.{Found}
-use Rattle.search.specs.Rounds.{is_met, first_place, told, answer}
+use Rattle.search.specs.Rounds.{is_met, first_place, told, alternatives_of, round, answer}
 use Rattle.search.specs.Uses.{satisfied, last_round, in_order}
 use Rattle.js_explore.specs.Exploration.{Exploration, alternatives_at}
 use Rattle.js_rounds.specs.Seen.{seen}
@@ -28,6 +28,14 @@ pub record IsNew (n : ℕ) (r : Rounds) : Type 0 where
   pub last : r.last ≡ 0
   pub has_run : r.has_run ≡ false
 
+-- rounds that were made for n goals; until they are run, nothing is known
+pub record IsFor (n : ℕ) (r : Rounds) : Type 0 where
+  pub roomy : IsRoomy n r
+  pub new : r.has_run ≡ false → IsNew n r
+
+abbrev pub answer_to : Rounds → ℕ → Option (ℕ × ℕ)
+answer_to r g = get_or r.known.items g None
+
 -- the answer of a goal after one more look at it
 abbrev pub look_at : Exploration → List (Option (ℕ × ℕ)) → ℕ → ℕ → Option (ℕ × ℕ)
 look_at e known r g = told r (get_or known g None) (first_place (is_met (seen known r)) (alternatives_at e g))
@@ -47,3 +55,11 @@ module _ (expansion : List Signed → Expansion) (f : Found) where
     pub answers : (g : ℕ) → get_or r.known.items g None ≡ satisfied expansion f g
     pub order : take r.count r.order.items ≡ in_order expansion f (length f.goals)
     pub last : r.last ≡ last_round expansion f
+
+  -- what an answer says: without one no round has the goal; with one, its round has the goal, the round before lacks it
+  -- and meets that alternative first
+  abbrev pub IsLeast : ℕ → Option (ℕ × ℕ) → Type 0
+  IsLeast g None = (k : ℕ) → round expansion f k g ≡ false
+  IsLeast g (Some a) = (q : ℕ) × (a.0 ≡ suc q) × (round expansion f (suc q) g ≡ true)
+      × (round expansion f q g ≡ false)
+      × (first_place (is_met (round expansion f q)) (alternatives_of expansion f g) ≡ Some a.1)
