@@ -1,3 +1,5 @@
 mod Answered
 mod Sweeps
-mod Runs
+mod Rounding
+mod SpreadLemmas
+mod Marks

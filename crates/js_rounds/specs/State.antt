@@ -3,8 +3,8 @@ use Rattle.std.specs.Prelude.{◌≡◌, ℕ, suc, ◌+◌, List, [], ◌∷◌,
 use Rattle.goals.specs.Signed.{Signed}
 use Rattle.alternatives.specs.Expansion.{Expansion}
 use Rattle.search.specs.Explored.{Found}
-use Rattle.search.specs.Rounds.{is_met, first_place, told, alternatives_of, round, answer}
-use Rattle.search.specs.Uses.{satisfied, last_round, in_order}
+use Rattle.search.specs.Rounds.{NumberedPlaced, Numbered, is_met, first_place, told, alternatives_of, round, answer}
+use Rattle.search.specs.Uses.{contents_of, round_before, chosen_in, satisfied, last_round, in_order}
 use Rattle.js_explore.specs.Exploration.{Exploration, alternatives_at}
 use Rattle.js_rounds.specs.Seen.{seen}
 use Rattle.js_rounds.specs.declared.rounds.Rounds.{Rounds}
@@ -39,6 +39,15 @@ answer_to r g = get_or r.known.items g None
 -- the answer of a goal after one more look at it
 abbrev pub look_at : Exploration → List (Option (ℕ × ℕ)) → ℕ → ℕ → Option (ℕ × ℕ)
 look_at e known r g = told r (get_or known g None) (first_place (is_met (seen known r)) (alternatives_at e g))
+
+-- what the answer's alternative is made of
+abbrev pub contents_seen : (ℕ → Bool) → Option Numbered → List NumberedPlaced
+contents_seen has None = []
+contents_seen has (Some a) = contents_of has a
+
+abbrev pub contents_at : Exploration → Rounds → ℕ → List NumberedPlaced
+contents_at e r g =
+    contents_seen (seen r.known.items (round_before (answer_to r g))) (chosen_in (alternatives_at e g) (answer_to r g))
 
 -- the goal, where the look found an answer
 abbrev pub with_goal : ℕ → Option (ℕ × ℕ) → Option (ℕ × ℕ) → List ℕ

@@ -6,5 +6,7 @@
 
 mod meeting;
 mod rounds;
+mod runs;
+mod used;
 
 pub use rounds::Rounds;

@@ -19,11 +19,11 @@ use std::alloc::Global;
 /// The rounds of explored goals.
 #[derive(Drop)]
 pub struct Rounds {
-    known: Vec<Answer>,
+    pub(crate) known: Vec<Answer>,
     /// The goals that have an answer, in order of rounds and then numbers; behind them is room for the others.
-    order: Vec<u32>,
+    pub(crate) order: Vec<u32>,
     /// How many goals have an answer.
-    count: usize,
+    pub(crate) count: usize,
     last: u32,
     has_run: bool,
 }

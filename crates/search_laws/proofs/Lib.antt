@@ -7,6 +7,7 @@ pub mod Answers
 pub mod Built
 pub mod Used
 pub mod Quiet
+pub mod Marking
 pub mod Parts
 pub mod Witness
 pub mod Decided

@@ -165,7 +165,7 @@ module _ (expansion : List Signed → Expansion) (f : Found) where
   abbrev Uses : ℕ → ℕ → ℕ → Bool
   Uses k n m = uses expansion f k n m
 
-  uses_itself : (k n : ℕ) → Uses k n n ≡ true
+  pub uses_itself : (k n : ℕ) → Uses k n n ≡ true
   uses_itself zero n = eq-eqb n n refl
   uses_itself (suc k) n =
       or_left (nat_eq n n) (some (λ p. uses expansion f k p.goal n) (contents expansion f n)) (eq-eqb n n refl)
@@ -235,7 +235,7 @@ module _ (expansion : List Signed → Expansion) (f : Found) where
   used_itself n = uses_itself Count n
 
   -- a round that has a goal has all that it uses
-  uses_round : (k r n m : ℕ) → Round r n ≡ true → Uses k n m ≡ true → Round r m ≡ true
+  pub uses_round : (k r n m : ℕ) → Round r n ≡ true → Uses k n m ≡ true → Round r m ≡ true
   uses_round zero r n m h e = subst (λ z. Round r z ≡ true) (eqb-true n m e) h
   uses_round (suc k) r n m h e =
       go (or_cases (nat_eq n m) (some (λ p. uses expansion f k p.goal m) (contents expansion f n)) e)

@@ -1,7 +1,7 @@
 -- A round that adds no goal ends it.
 use Rattle.std.proofs.Common.{◌<◌, length, sym, ◌∙◌, arith}
 use Rattle.js_explore.specs.ExploredView.{explored_view}
-use Rattle.js_rounds.proofs.Runs.{run_down}
+use Rattle.js_rounds.proofs.Rounding.{run_down}
 use Rattle.js_rounds.proofs.rounds.Rounds.run_all.Goals as goal
 
 pub returns-then-not-sweep-clause-rounds : goal.returns-then-not-sweep-clause-rounds

@@ -5,7 +5,7 @@ use Rattle.alternatives.specs.Expansion.{Expansion}
 use Rattle.js_explore.specs.Exploration.{Explores}
 use Rattle.js_explore.specs.ExploredView.{explored_view}
 use Rattle.js_rounds.specs.State.{IsRoomy}
-use Rattle.js_rounds.proofs.Runs.{HasRun}
+use Rattle.js_rounds.proofs.Rounding.{HasRun}
 use Rattle.js_rounds.proofs.rounds.Rounds.run_all.Given as goal
 
 abbrev pub invariant-loop-round : goal.invariant-loop-round

@@ -2,7 +2,7 @@
 use Rattle.std.proofs.Common.{◌≡◌, ℕ, Option, None, subst, sym, ◌∙◌, rules}
 use Rattle.search.specs.Uses as U
 use Rattle.js_rounds.specs.State.{IsLeast, answer_to}
-use Rattle.js_rounds.proofs.Runs.{satisfied_least}
+use Rattle.js_rounds.proofs.Rounding.{satisfied_least}
 use Rattle.js_rounds.proofs.rounds.Rounds.satisfied.Goals as goal
 
 pub returns-in-Some-clause-meaning : goal.returns-in-Some-clause-meaning
