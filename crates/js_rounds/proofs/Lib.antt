@@ -3,3 +3,4 @@ mod Sweeps
 mod Rounding
 mod SpreadLemmas
 mod Marks
+mod Using

@@ -38,7 +38,7 @@ some_filter p (x ∷ xs) = go (p x) (some_filter p xs) where
   go true e = sym (lt-ltb 0 (suc (length (filter p xs))) (omega arith))
   go false e = e
 
-length_take : {A : Type 0} (n : ℕ) (xs : List A) → n ≤ length xs → length (take n xs) ≡ n
+pub length_take : {A : Type 0} (n : ℕ) (xs : List A) → n ≤ length xs → length (take n xs) ≡ n
 length_take zero xs l = refl
 length_take (suc n) [] l = absurd (omega (arith, l))
 length_take (suc n) (x ∷ xs) l = ap suc (length_take n xs (omega (arith, l)))

@@ -1,6 +1,6 @@
 //! The goals that a document uses, from the last round back.
 
-ghost use Rattle.std.specs.Prelude.{◌≡◌, ◌<◌, ◌≤◌, ◌||◌, [], ◌∷◌, ℕ, List, false, IfOk, OnOk, IfSome, option_map, get_or, length, nat_eq, reverse};
+ghost use Rattle.std.specs.Prelude.{◌≡◌, ◌<◌, ◌≤◌, ◌||◌, ◌&&◌, ◌++◌, [], ◌∷◌, ℕ, List, true, false, cond, is_some, IfOk, OnOk, IfSome, option_map, get_or, length, nat_eq, reverse};
 ghost use Rattle.documents.specs.Tests.{some};
 ghost use Rattle.goals.specs.Signed.{Signed};
 ghost use Rattle.alternatives.specs.Expansion as X;
@@ -49,6 +49,15 @@ fn mark_runs(marks: &mut [bool], runs: &[Run])
     }
 }
 
+fn is_marked(marks: &[bool], goal: u32) -> bool
+    ensures { result ≡ get_or marks.now goal false }
+{
+    match marks.get(goal as usize) {
+        Some(mark) => *mark,
+        None => false,
+    }
+}
+
 impl Rounds {
     /// The alternative of the goal's answer.
     pub(crate) fn choice<'a>(&self, explored: &'a Explored, goal: u32) -> Option<Choice<'a>>
@@ -83,6 +92,30 @@ impl Rounds {
         }
     }
 
+    /// Takes a goal that is marked, and marks what it contains.
+    fn take_marked(
+        &self,
+        alloc: Global,
+        explored: &Explored,
+        goal: u32,
+        marks: &mut [bool],
+        found: &mut Vec<u32>,
+    ) -> Result<(), Memory>
+        ensures length { length marks.new ≡ length marks.old }
+        ensures marks { OnOk result ((m : ℕ) → m < length marks.old → get_or marks.new m false
+            ≡ (get_or marks.old m false || (get_or marks.old goal false
+                && some (λ p. nat_eq p.goal m) (contents_at (explored_view explored.now) self.now goal)))) }
+        ensures found { OnOk result (found.new.items
+            ≡ found.old.items ++ cond (get_or marks.old goal false) (goal ∷ []) []) }
+    {
+        if is_marked(marks, goal) {
+            let runs = self.runs_of(alloc, explored, goal)?;
+            mark_runs(marks, &runs);
+            found.push(goal)?;
+        }
+        Ok(())
+    }
+
     /// The goals that the document of a goal uses, the last one first. It goes back through the goals that have an
     /// answer, and looks at what each used one contains.
     pub(crate) fn used(
@@ -95,17 +128,14 @@ impl Rounds {
         requires goal { goal < length (explored_view explored.now).found.goals }
         ensures { (expansion : List Signed → X.Expansion) → Explores expansion (explored_view explored.now)
             → AreRounds expansion (explored_view explored.now).found self.now
+            → is_some (U.satisfied expansion (explored_view explored.now).found goal) ≡ true
             → IfOk result (λ v. reverse v.items ≡ U.used_goals expansion (explored_view explored.now).found goal) }
     {
         let mut marks = vec![in alloc; false; self.known.len()]?;
         marks[goal as usize] = true;
         let mut found = Vec::new(alloc);
         for place in (0..self.count).rev() {
-            let next = self.order[place];
-            if marks[next as usize] {
-                mark_runs(&mut marks, &self.runs_of(alloc, explored, next)?);
-                found.push(next)?;
-            }
+            self.take_marked(alloc, explored, self.order[place], &mut marks, &mut found)?;
         }
         Ok(found)
     }
