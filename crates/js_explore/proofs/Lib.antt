@@ -4,5 +4,6 @@ mod Front
 mod Settled
 mod Going
 mod Steps
+mod Few
 -- The words of the expander that the tests have.
 pub mod NoWords

@@ -1,0 +1,6 @@
+mod Answered
+mod Sweeps
+mod Rounding
+mod SpreadLemmas
+mod Marks
+mod Using
