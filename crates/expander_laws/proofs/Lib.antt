@@ -1,2 +1,5 @@
 pub mod Formed
 pub mod Inside
+pub mod Slots
+pub mod Alternatives
+pub mod Laws
