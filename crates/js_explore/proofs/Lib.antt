@@ -4,3 +4,4 @@ mod Front
 mod Settled
 mod Going
 mod Steps
+mod Few

@@ -26,6 +26,7 @@ use std::alloc::Global;
 struct Answer {
     alternatives: Vec<Numbered>,
     hole: Option<LimitKind>,
+    ghost few: { length alternatives.items < 2 ^ 32 },
 }
 
 /// Explored goals, with the alternatives of those that were taken; `explored_view` is what it stands for.
@@ -78,6 +79,7 @@ impl Explored {
         ensures value { map numbered_view result.now ≡ alternatives_at (explored_view self.now) n }
         ensures explored { (expansion : List Signed → X.Expansion) → Explores expansion (explored_view self.now)
             → map numbered_view result.now ≡ alternatives_of expansion (explored_view self.now).found n }
+        ensures few { length result.now < 2 ^ 32 }
     {
         match self.answers.get(n as usize) {
             Some(answer) => answer.alternatives.as_slice(),
@@ -182,7 +184,7 @@ impl Explored {
         alloc: Global,
         expansion: &Expansion,
         most_goals: u32,
-        most_total: u64,
+        most_total: u32,
     ) -> Result<bool, Memory>
         requires within { (found_view self.old).places ≤ most_total }
         requires next { (found_view self.old).taken < length (found_view self.old).goals }
@@ -192,7 +194,7 @@ impl Explored {
             ((found_view self.old).places + places (expansion_view expansion.now).alternatives))) }
     {
         let places = expansion.alternatives.places();
-        if u128::from(most_total - self.places) < places {
+        if u128::from(u64::from(most_total) - self.places) < places {
             self.pass(LimitKind::Total);
             return Ok(false);
         }
@@ -213,7 +215,7 @@ impl Explored {
         alloc: Global,
         expander: &E,
         most_goals: u32,
-        most_total: u64,
+        most_total: u32,
     ) -> Result<bool, Memory>
         requires { GoesOn most_goals most_total (E.takes expander.now) (E.expansion expander.now)
             (explored_view self.old) }

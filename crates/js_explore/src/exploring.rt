@@ -1,6 +1,7 @@
 //! The search for goals, from a root on.
 
 ghost use Rattle.std.specs.Prelude.{◌≡◌, None, true, length, IfOk};
+ghost use Rattle.documents.specs.Tests.{every};
 ghost use Rattle.search.specs.Explored.{explored};
 ghost use Rattle.js_explore.specs.Exploration.{Explores};
 ghost use Rattle.js_explore.specs.ExploredView.{explored_view};
@@ -15,7 +16,7 @@ use std::alloc::Global;
 pub const MOST_GOALS: u32 = 65_536;
 
 /// Places of the alternatives of all goals that are taken.
-pub const MOST_TOTAL: u64 = 16_777_216;
+pub const MOST_TOTAL: u32 = 16_777_216;
 
 /// Explores from a root: it has number 0, goals are taken by number, and what the alternatives of one name is mentioned
 /// in order, members before fillers.
@@ -28,6 +29,7 @@ pub fn explore<E: Expander>(alloc: Global, expander: &E, root: Goal) -> Result<E
     ensures found { IfOk result (λ e. (explored_view e).found
         ≡ explored MOST_GOALS MOST_TOTAL (E.expansion expander.now) root) }
     ensures answers { IfOk result (λ e. Explores (E.expansion expander.now) (explored_view e)) }
+    ensures taken { IfOk result (λ e. every (E.takes expander.now) (explored_view e).found.goals ≡ true) }
     ensures whole { IfOk result (λ e. (explored_view e).found.over ≡ None
         → (explored_view e).found.taken ≡ length (explored_view e).found.goals) }
 {
@@ -40,12 +42,13 @@ pub(crate) fn explore_within<E: Expander>(
     expander: &E,
     root: Goal,
     most_goals: u32,
-    most_total: u64,
+    most_total: u32,
 ) -> Result<Explored, Memory>
     requires { E.takes expander.now root ≡ true }
     ensures found { IfOk result (λ e. (explored_view e).found
         ≡ explored most_goals most_total (E.expansion expander.now) root) }
     ensures answers { IfOk result (λ e. Explores (E.expansion expander.now) (explored_view e)) }
+    ensures taken { IfOk result (λ e. every (E.takes expander.now) (explored_view e).found.goals ≡ true) }
 {
     let mut search = Explored::new(alloc, root)?;
     for turn in 0..most_goals {

@@ -150,7 +150,7 @@ fn numbers(alloc: Global, explored: &Explored) -> Result<Vec<usize>, Memory> {
 
 struct Case {
     most_goals: u32,
-    most_total: u64,
+    most_total: u32,
     taken: u32,
     over: Option<LimitKind>,
     numbers: &'static [usize],

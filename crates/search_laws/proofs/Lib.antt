@@ -3,5 +3,11 @@ pub mod Whole
 pub mod Rounds
 pub mod Rise
 pub mod Settled
+pub mod Answers
+pub mod Built
+pub mod Used
+pub mod Parts
+pub mod Witness
 pub mod Decided
 pub mod Examples
+pub mod WitnessExamples

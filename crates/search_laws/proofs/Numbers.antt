@@ -121,7 +121,7 @@ module _ (p : ℕ → Bool) (gs : List (List Signed)) where
     go None e = e
     go (Some n) e = ap (λ r. cond (p n) (f.room + r) r) e
 
-  one_met : (a : Alternative)
+  pub one_met : (a : Alternative)
       → some (is_met p) (with_members gs a (number_members gs a.members)) ≡ E.is_met (λ g. by_number false p gs g) a
   one_met a = go (number_members gs a.members) refl where
     or_false : (b : Bool) → (b || false) ≡ b

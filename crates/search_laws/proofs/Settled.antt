@@ -82,7 +82,7 @@ module _ (expansion : List Signed → Expansion) (f : Found) where
   abbrev Round : ℕ → ℕ → Bool
   Round r n = round expansion f r n
 
-  past : (r n : ℕ) → length f.goals ≤ n → Round r n ≡ false
+  pub past : (r n : ℕ) → length f.goals ≤ n → Round r n ≡ false
   past zero n l = refl
   past (suc r) n l =
       ap (λ o. some (is_met (round expansion f r)) (cond (nat_lt n f.taken) (alternatives_at expansion f o) []))
@@ -123,7 +123,7 @@ module _ (expansion : List Signed → Expansion) (f : Found) where
         plus : (k r : ℕ) → suc (k + r) ≡ suc k + r
         plus k r = omega arith
 
-  rise_to : (r m n : ℕ) → r ≤ m → Round r n ≡ true → Round m n ≡ true
+  pub rise_to : (r m n : ℕ) → r ≤ m → Round r n ≡ true → Round m n ≡ true
   rise_to r m n l e = subst (λ z. Round z n ≡ true) (omega (arith, l)) (rise_by (m - r) r n e)
 
   -- a goal that some round has is in the round whose number is that of all goals

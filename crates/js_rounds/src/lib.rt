@@ -1,0 +1,10 @@
+//! Rounds over explored goals: which goals have a document, by which alternative, and the document's parts.
+//!
+//! A round has the goals with an alternative whose goals the round before has; so the least round of a goal is no less
+//! than the depth of its document. `run` costs a look at each place of each alternative in each round.
+#![tactic(auto)]
+
+mod meeting;
+mod rounds;
+
+pub use rounds::Rounds;
