@@ -1,2 +1,4 @@
 pub mod Verdicts
+pub mod Full
+pub mod Few
 pub mod Decisions
