@@ -1,7 +1,7 @@
 -- What is decided of two positions of a table: the document meets the first and not the second one; where there is no
 -- document, each document of which the first holds has the second holding; and limits are named as they are met.
-use Rattle.std.proofs.Common.{◌≡◌, ℕ, suc, ◌<◌, ◌⊎◌, inl, inr, Bool, true, false, not, ◌&&◌, true≢false, List, length, Option, Some, None, Ok, is_some, slice_get, refl, ap, sym, ◌∙◌, subst, arith}
-use Rattle.std.proofs.lemmas.Bool.{and_parts, and_from}
+use Rattle.std.proofs.Common.{◌≡◌, ℕ, suc, ◌<◌, ◌⊎◌, inl, inr, Bool, true, false, not, ◌&&◌, true≢false, nat_lt, List, [], ◌∷◌, length, Option, Some, None, Ok, is_some, slice_get, refl, ap, sym, ◌∙◌, subst, arith}
+use Rattle.std.proofs.lemmas.Bool.{and_parts, and_from, lt-ltb}
 use Rattle.std.proofs.lemmas.List.{length-map}
 use Rattle.documents.specs.Kind as K
 use Rattle.documents.specs.Kind.{Kind}
@@ -11,14 +11,16 @@ use Rattle.shared_documents.specs.Part.{Part}
 use Rattle.shared_documents.specs.Unshared.{unshared}
 use Rattle.positions.specs.Position.{Position}
 use Rattle.positions.specs.Holds.{holds, IsTable}
-use Rattle.goals.specs.Signed.{Signed, Plus, Minus, meets}
+use Rattle.goals.specs.Signed.{Signed, Plus, Minus, position_of, meets}
 use Rattle.goals.specs.Goal.{form}
 use Rattle.goal_laws.specs.Formed.{meets_goal}
 use Rattle.goal_laws.specs.Saturated.{IsSaturated}
-use Rattle.goal_laws.proofs.Forms.{meets-root}
+use Rattle.goal_laws.proofs.Forms.{form-IsFormed, form-inside, meets-root}
 use Rattle.list_laws.proofs.Tests.{not_true}
 use Rattle.cells.specs.Cells.{Cells}
-use Rattle.alternatives.specs.Alternative.{Number, Text}
+use Rattle.documents.specs.Tests.{every}
+use Rattle.list_laws.proofs.Lists.{every_from}
+use Rattle.alternatives.specs.Alternative.{Number, Text, named}
 use Rattle.alternatives.specs.Limit.{LimitKind, Goals, Total}
 use Rattle.alternatives.specs.Expansion.{Expansion}
 use Rattle.expansions.specs.Leaves.{Finders, leaf, words_of}
@@ -36,19 +38,13 @@ use Rattle.search_laws.proofs.Decided.{met_settled}
 use Rattle.search_laws.proofs.Parts.{place_last}
 use Rattle.search_laws.proofs.Witness.{IsWitness, witness_made}
 use Rattle.decisions.specs.Decision.{Verdict, Document, Limit, NoDocument, Decided, verdict_of, of_root, root_of}
-use Rattle.decision_laws.proofs.Verdicts.{Says, verdict_says, IsLeast}
-
--- the parts stand for a document that meets the first position and not the second one
-pub record IsCounterexample (T : List Position) (a b : ℕ) (ps : List Part) (i : ℕ) : Type 0 where
-  pub good : is_document (unshared ps i) ≡ true
-  pub first : holds T a (unshared ps i) ≡ true
-  pub second : holds T b (unshared ps i) ≡ false
-  -- the last part is the document
-  pub last : suc i ≡ length ps
-
--- each document of which the first position holds has the second one holding
-abbrev pub IsIncluded : List Position → ℕ → ℕ → Type 0
-IsIncluded T a b = (J : D.Document) → is_document J ≡ true → holds T a J ≡ true → holds T b J ≡ true
+use Rattle.decisions.specs.Meaning.{IsCounterexample, IsIncluded, IsUnmet, AreOpen, IsLeast, OfRoot, Means}
+use Rattle.expander_laws.specs.Expander.{is_formed, is_goal}
+use Rattle.expander_laws.proofs.Formed.{is_formed-from}
+use Rattle.expander_laws.proofs.Inside.{goals_named}
+use Rattle.decision_laws.proofs.Verdicts.{Says, verdict_says, says_verdict}
+use Rattle.decision_laws.proofs.Full.{IsKept, explored_kept}
+use Rattle.decision_laws.proofs.Few.{many, few_goals}
 
 module _ (F : Finders) (T : List Position) (most most_places a b : ℕ) where
   abbrev pub Expanded : List Signed → Expansion
@@ -75,40 +71,50 @@ module _ (F : Finders) (T : List Position) (most most_places a b : ℕ) where
   root_says (Some root) = verdict_says (by_branch T (words_of F)) (expansion T (leaf F T))
       (explored most most_places (expansion T (leaf F T)) root)
 
-  -- the root goal, which was explored
-  pub record HasRoot (P : Found → Type 0) : Type 0 where
-    pub root : List Signed
-    pub is_root : root_of T a b ≡ Some root
-    pub holds : P (explored most most_places (expansion T (leaf F T)) root)
-
-  abbrev Unmet : Found → Type 0
-  Unmet f = (r : ℕ) → round (expansion T (leaf F T)) f r 0 ≡ false
-
-  abbrev Open : Found → Type 0
-  Open f = (n : ℕ) → hole_of (expansion T (leaf F T)) f n ≡ None
-
   no_limit : (k : LimitKind) (o : Option (List Signed)) → Limit k o ≡ NoDocument → ⊥
   no_limit k o e = cc
 
   -- a goal is named where the root is in no round, and the goal is the explored one of least number that has a hole
   pub limit_of_goal : (k : LimitKind) (g : List Signed) → Decision.verdict ≡ Limit k (Some g)
-      → HasRoot (λ f. Unmet f × IsLeast (by_branch T (words_of F)) (expansion T (leaf F T)) f k g)
+      → OfRoot F T most most_places a b (λ e f. IsUnmet e f × IsLeast e f k g)
   limit_of_goal k g e = go (root_of T a b) refl (subst (λ v. RootSays (root_of T a b) v) e (root_says (root_of T a b)))
     where
       go : (o : Option (List Signed)) → root_of T a b ≡ o → RootSays o (Limit k (Some g))
-          → HasRoot (λ f. Unmet f × IsLeast (by_branch T (words_of F)) (expansion T (leaf F T)) f k g)
+          → OfRoot F T most most_places a b (λ e f. IsUnmet e f × IsLeast e f k g)
       go None p s = absurd (no_limit k (Some g) s)
       go (Some root) p s = record { root = root; is_root = p; holds = s }
 
+  limits : (root : List Signed) (k : LimitKind)
+      → (explored most most_places (expansion T (leaf F T)) root).over ≡ Some k → (k ≡ Goals) ⊎ (k ≡ Total)
+  limits root k e =
+      let h : IsKept most most_places (expansion T (leaf F T)) (λ g. true)
+      (λ g. every_from (λ g. true) (named (expansion T (leaf F T) g).alternatives) (λ x i. refl))
+      (explored most most_places (expansion T (leaf F T)) root) =
+      explored_kept most most_places (expansion T (leaf F T)) (λ g. true)
+      (λ g. every_from (λ g. true) (named (expansion T (leaf F T) g).alternatives) (λ x i. refl)) root refl in
+      h.limits k e
+
   -- no goal is named where no explored goal has a hole, and the limit on all of them was passed
   pub limit_of_all : (k : LimitKind) → Decision.verdict ≡ Limit k None
-      → HasRoot (λ f. Unmet f × (f.over ≡ Some k) × Open f)
+      → OfRoot F T most most_places a b
+      (λ e f. IsUnmet e f × (f.over ≡ Some k) × AreOpen e f × ((k ≡ Goals) ⊎ (k ≡ Total)))
   limit_of_all k e = go (root_of T a b) refl (subst (λ v. RootSays (root_of T a b) v) e (root_says (root_of T a b)))
     where
       go : (o : Option (List Signed)) → root_of T a b ≡ o → RootSays o (Limit k None)
-          → HasRoot (λ f. Unmet f × (f.over ≡ Some k) × Open f)
+          → OfRoot F T most most_places a b
+          (λ e f. IsUnmet e f × (f.over ≡ Some k) × AreOpen e f × ((k ≡ Goals) ⊎ (k ≡ Total)))
       go None p s = absurd (no_limit k None s)
-      go (Some root) p s = record { root = root; is_root = p; holds = s }
+      go (Some root) p (u, o, h) =
+          record { root = root; is_root = p; holds = (u, o, h, limits root k o) }
+
+  -- and what a verdict says of the root decides it
+  pub verdict_where : (v : Verdict) → RootSays (root_of T a b) v → Decision.verdict ≡ v
+  verdict_where v s = go (root_of T a b) s where
+    go : (o : Option (List Signed)) → RootSays o v
+        → (of_root (by_branch T (words_of F)) (expansion T (leaf F T)) most most_places o).verdict ≡ v
+    go None s = sym s
+    go (Some root) s = says_verdict (by_branch T (words_of F)) (expansion T (leaf F T))
+        (explored most most_places (expansion T (leaf F T)) root) v s
 
   module _ (ok : IsTable T)
       (numbers : IsFinder T K.Number (words_of F K.Number) Number F.numbers)
@@ -184,3 +190,29 @@ module _ (F : Finders) (T : List Position) (most most_places a b : ℕ) where
                 none false h = refl
                 none true h = absurd (true≢false (sym (met_settled F T ok numbers strings cells most most_places root l
                     over open_ J good h) ∙ unmet _))
+
+    pub means : 0 < most → Means F T most most_places a b Decision.verdict
+    means l = go Decision.verdict refl where
+      go : (v : Verdict) → Decision.verdict ≡ v → Means F T most most_places a b v
+      go (Document ps i) e = document_right ps i e
+      go NoDocument e = none_right l e
+      go (Limit k (Some g)) e = limit_of_goal k g e
+      go (Limit k None) e = limit_of_all k e
+
+  -- a table with few positions has too few goals to pass the limit on them
+  pub never_goals : (ok : IsTable T) → a < length T → b < length T → many (length T) < most
+      → Decision.verdict ≡ Limit Goals None → ⊥
+  never_goals ok a_in b_in l e =
+      let h = limit_of_all Goals e in
+      let (u, over, open_, kind) = h.holds in
+      let good : is_goal T h.root ≡ true =
+      and_from (is_formed T h.root) (every (λ x. nat_lt (position_of x) (length T)) h.root)
+      (is_formed-from T h.root (form-IsFormed T ok (Plus a ∷ Minus b ∷ []) h.root h.is_root))
+      (form-inside T ok (Plus a ∷ Minus b ∷ []) h.root h.is_root
+      (and_from (nat_lt a (length T)) (nat_lt b (length T) && true) (lt-ltb a (length T) a_in)
+      (and_from (nat_lt b (length T)) true (lt-ltb b (length T) b_in) refl))) in
+      let k : IsKept most most_places (expansion T (leaf F T)) (is_goal T) (goals_named T ok F)
+      (explored most most_places (expansion T (leaf F T)) h.root) =
+      explored_kept most most_places (expansion T (leaf F T)) (is_goal T) (goals_named T ok F) h.root good in
+      let few = few_goals T (explored most most_places (expansion T (leaf F T)) h.root).goals k.differ k.are_good in
+      omega (arith, k.full over, few, l)
