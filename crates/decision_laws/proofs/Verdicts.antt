@@ -46,12 +46,12 @@ module _ (words : List Signed → Kind → ℕ → ℕ → ℕ → List ℕ) (ex
   hole_parts k l g h e = (ap (λ o. kind_in k o) e, ap (λ o. goal_in g o) e)
 
   pub first_is : (gs : List (List Signed)) (k : LimitKind) (g : List Signed)
-      → first_hole words expansion gs ≡ hole k g → IsFirst gs k g
+      → first_hole expansion gs ≡ hole k g → IsFirst gs k g
   first_is [] k g e = cc
   first_is (x ∷ gs) k g e = go (expansion x).hole refl e (first_is gs k g) where
     go : (o : Option LimitKind) → (expansion x).hole ≡ o
-        → or_later x o (first_hole words expansion gs) ≡ hole k g
-        → (first_hole words expansion gs ≡ hole k g → IsFirst gs k g) → IsFirst (x ∷ gs) k g
+        → or_later x o (first_hole expansion gs) ≡ hole k g
+        → (first_hole expansion gs ≡ hole k g → IsFirst gs k g) → IsFirst (x ∷ gs) k g
     go (Some l) p e more =
         let (a, b) = hole_parts l k x g e in
         record {
@@ -68,12 +68,12 @@ module _ (words : List Signed → Kind → ℕ → ℕ → ℕ → List ℕ) (ex
           before r zero h l f = ap (λ z. (expansion z).hole) (sym (same_goal x h f)) ∙ p
           before r (suc m) h l f = r.before m h (omega (arith, l)) f
 
-  pub none_open : (gs : List (List Signed)) → first_hole words expansion gs ≡ None → HaveNone gs
+  pub none_open : (gs : List (List Signed)) → first_hole expansion gs ≡ None → HaveNone gs
   none_open [] e m h f = cc
   none_open (x ∷ gs) e m h f = go (expansion x).hole refl e m f (none_open gs) where
     go : (o : Option LimitKind) → (expansion x).hole ≡ o
-        → or_later x o (first_hole words expansion gs) ≡ None → (m : ℕ) → slice_get (x ∷ gs) m ≡ Some h
-        → (first_hole words expansion gs ≡ None → HaveNone gs) → (expansion h).hole ≡ None
+        → or_later x o (first_hole expansion gs) ≡ None → (m : ℕ) → slice_get (x ∷ gs) m ≡ Some h
+        → (first_hole expansion gs ≡ None → HaveNone gs) → (expansion h).hole ≡ None
     go (Some l) p e m f more = cc
     go None p e zero f more = ap (λ z. (expansion z).hole) (sym (same_goal x h f)) ∙ p
     go None p e (suc m) f more = more e m h f
@@ -150,10 +150,10 @@ module _ (words : List Signed → Kind → ℕ → ℕ → ℕ → List ℕ) (ex
 
     pub verdict_says : Says (verdict_of words expansion f)
     verdict_says = go (is_some (satisfied expansion f 0)) refl
-        (first_hole words expansion (take f.taken f.goals)) f.over refl refl where
+        (first_hole expansion (take f.taken f.goals)) f.over refl refl where
           go : (b : Bool) → is_some (satisfied expansion f 0) ≡ b
               → (h : Option (LimitKind × List Signed)) (o : Option LimitKind)
-              → first_hole words expansion (take f.taken f.goals) ≡ h → f.over ≡ o
+              → first_hole expansion (take f.taken f.goals) ≡ h → f.over ≡ o
               → Says (cond b (Document (parts words expansion f 0) (place_in (used_goals expansion f 0) 0))
               (by_limits h o))
           go true e h o p q = (e, refl, refl)

@@ -40,19 +40,19 @@ abbrev pub or_later : {A B : Type 0} → B → Option A → Option (A × B) → 
 or_later y (Some x) o = Some (x, y)
 or_later y None o = o
 
+-- the first of the goals that has a hole, with it
+abbrev pub first_hole : (List Signed → Expansion) → List (List Signed) → Option (LimitKind × List Signed)
+first_hole expansion [] = None
+first_hole expansion (g ∷ gs) = or_later g (expansion g).hole (first_hole expansion gs)
+
 -- `words`: word k of cell c of a branch of a goal, by the branch's kind and number
 module _ (words : List Signed → Kind → ℕ → ℕ → ℕ → List ℕ) (expansion : List Signed → Expansion) where
-  -- the first of the goals that has a hole, with it
-  abbrev pub first_hole : List (List Signed) → Option (LimitKind × List Signed)
-  first_hole [] = None
-  first_hole (g ∷ gs) = or_later g (expansion g).hole (first_hole gs)
-
   -- goal 0 has a document where some round has it; else a hole of a goal that was taken is told before the limit on all
   abbrev pub verdict_of : Found → Verdict
   verdict_of f =
       cond (is_some (satisfied expansion f 0))
       (Document (parts words expansion f 0) (place_in (used_goals expansion f 0) 0))
-      (by_limits (first_hole (take f.taken f.goals)) f.over)
+      (by_limits (first_hole expansion (take f.taken f.goals)) f.over)
 
   abbrev pub of_found : Found → Decided
   of_found f = decided (verdict_of f) (length f.goals) (last_round expansion f)
