@@ -11,9 +11,9 @@ use Rattle.alternatives.specs.Limit.{Goals, most_goals, most_total}
 use Rattle.expansions.specs.Leaves.{Finders, words_of}
 use Rattle.expansion_laws.proofs.Leaf.{IsFinder}
 use Rattle.expansion_laws.proofs.Containers.{IsCells}
-use Rattle.decisions.specs.Decision.{Verdict, Limit, decision}
+use Rattle.decisions.specs.Decision.{Limit, decision}
 use Rattle.decisions.specs.Meaning.{Means}
-use Rattle.decision_laws.proofs.Few.{many, many_rise}
+use Rattle.decision_laws.proofs.Few.{many_rise}
 use Rattle.decision_laws.proofs.Decisions.{means, never_goals}
 
 module _ (F : Finders) (T : List Position) (ok : IsTable T) (a b : ℕ) where

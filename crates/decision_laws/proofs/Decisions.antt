@@ -1,6 +1,6 @@
 -- What is decided of two positions of a table: the document meets the first and not the second one; where there is no
 -- document, each document of which the first holds has the second holding; and limits are named as they are met.
-use Rattle.std.proofs.Common.{◌≡◌, ℕ, suc, ◌<◌, ◌⊎◌, inl, inr, Bool, true, false, not, ◌&&◌, true≢false, nat_lt, List, [], ◌∷◌, length, Option, Some, None, Ok, is_some, slice_get, refl, ap, sym, ◌∙◌, subst, arith}
+use Rattle.std.proofs.Common.{◌≡◌, ℕ, ◌<◌, ◌⊎◌, Bool, true, false, not, ◌&&◌, true≢false, nat_lt, List, [], ◌∷◌, length, Option, Some, None, Ok, is_some, refl, ap, sym, ◌∙◌, subst, arith}
 use Rattle.std.proofs.lemmas.Bool.{and_parts, and_from, lt-ltb}
 use Rattle.std.proofs.lemmas.List.{length-map}
 use Rattle.documents.specs.Kind as K
@@ -12,7 +12,6 @@ use Rattle.shared_documents.specs.Unshared.{unshared}
 use Rattle.positions.specs.Position.{Position}
 use Rattle.positions.specs.Holds.{holds, IsTable}
 use Rattle.goals.specs.Signed.{Signed, Plus, Minus, position_of, meets}
-use Rattle.goals.specs.Goal.{form}
 use Rattle.goal_laws.specs.Formed.{meets_goal}
 use Rattle.goal_laws.specs.Saturated.{IsSaturated}
 use Rattle.goal_laws.proofs.Forms.{form-IsFormed, form-inside, meets-root}
@@ -26,10 +25,10 @@ use Rattle.alternatives.specs.Expansion.{Expansion}
 use Rattle.expansions.specs.Leaves.{Finders, leaf, words_of}
 use Rattle.expansions.specs.Expansion.{expansion}
 use Rattle.expansions.specs.DocumentOf.{by_branch}
-use Rattle.expansion_laws.proofs.Leaf.{IsMade, IsFinder}
+use Rattle.expansion_laws.proofs.Leaf.{IsFinder}
 use Rattle.expansion_laws.proofs.Containers.{IsCells}
 use Rattle.search.specs.Explored.{Found, explored}
-use Rattle.search.specs.Rounds.{hole_of, round}
+use Rattle.search.specs.Rounds.{round}
 use Rattle.search.specs.Uses.{satisfied, used_goals}
 use Rattle.search.specs.Witness.{place_in, part, parts}
 use Rattle.search_laws.proofs.Rise.{answer_round}
@@ -37,7 +36,7 @@ use Rattle.search_laws.proofs.Whole.{root_first}
 use Rattle.search_laws.proofs.Decided.{met_settled}
 use Rattle.search_laws.proofs.Parts.{place_last}
 use Rattle.search_laws.proofs.Witness.{IsWitness, witness_made}
-use Rattle.decisions.specs.Decision.{Verdict, Document, Limit, NoDocument, Decided, verdict_of, of_root, root_of}
+use Rattle.decisions.specs.Decision.{Verdict, Document, Limit, NoDocument, Decided, of_root, root_of}
 use Rattle.decisions.specs.Meaning.{IsCounterexample, IsIncluded, IsUnmet, AreOpen, IsLeast, OfRoot, Means}
 use Rattle.expander_laws.specs.Expander.{is_formed, is_goal}
 use Rattle.expander_laws.proofs.Formed.{is_formed-from}
@@ -47,17 +46,8 @@ use Rattle.decision_laws.proofs.Full.{IsKept, explored_kept}
 use Rattle.decision_laws.proofs.Few.{many, few_goals}
 
 module _ (F : Finders) (T : List Position) (most most_places a b : ℕ) where
-  abbrev pub Expanded : List Signed → Expansion
-  Expanded g = expansion T (leaf F T) g
-
-  abbrev pub Words : List Signed → Kind → ℕ → ℕ → ℕ → List ℕ
-  Words = by_branch T (words_of F)
-
   abbrev pub Decision : Decided
   Decision = of_root (by_branch T (words_of F)) (expansion T (leaf F T)) most most_places (root_of T a b)
-
-  abbrev pub Explored : List Signed → Found
-  Explored root = explored most most_places (expansion T (leaf F T)) root
 
   -- what a verdict says of a root, and of the goals that are explored from it
   abbrev pub RootSays : Option (List Signed) → Verdict → Type 0
@@ -120,84 +110,90 @@ module _ (F : Finders) (T : List Position) (most most_places a b : ℕ) where
       (numbers : IsFinder T K.Number (words_of F K.Number) Number F.numbers)
       (strings : IsFinder T K.Text (words_of F K.Text) (λ w. Text) F.strings)
       (cells : (S : List Signed) → IsSaturated T K.Object S → (C : Cells) → F.cells S ≡ Ok C → IsCells T ok S C)
-      where
-    root_met : (root : List Signed) → root_of T a b ≡ Some root → (J : D.Document)
-        → meets T root J ≡ (holds T a J && not (holds T b J))
-    root_met root p J = sym (ap (λ o. meets_goal T o J) p) ∙ meets-root T ok J a b
+    where
+      root_met : (root : List Signed) → root_of T a b ≡ Some root → (J : D.Document)
+          → meets T root J ≡ (holds T a J && not (holds T b J))
+      root_met root p J = sym (ap (λ o. meets_goal T o J) p) ∙ meets-root T ok J a b
 
-    same_goal : (g h : List Signed) → Some g ≡ Some h → g ≡ h
-    same_goal g h e = cc
+      same_goal : (g h : List Signed) → Some g ≡ Some h → g ≡ h
+      same_goal g h e = cc
 
-    no_document : (ps : List Part) (i : ℕ) → Document ps i ≡ NoDocument → ⊥
-    no_document ps i e = cc
+      no_document : (ps : List Part) (i : ℕ) → Document ps i ≡ NoDocument → ⊥
+      no_document ps i e = cc
 
-    -- a document that is told is one, and shows that the first position isn't included in the second one
-    pub document_right : (ps : List Part) (i : ℕ) → Decision.verdict ≡ Document ps i → IsCounterexample T a b ps i
-    document_right ps i e =
-        go (root_of T a b) refl (subst (λ v. RootSays (root_of T a b) v) e (root_says (root_of T a b))) where
-          go : (o : Option (List Signed)) → root_of T a b ≡ o → RootSays o (Document ps i)
-              → IsCounterexample T a b ps i
-          go None p s = absurd (no_document ps i s)
-          go (Some root) p (has, is, at) =
-              subst (λ n. IsCounterexample T a b ps n) (sym at)
-              (subst (λ z. IsCounterexample T a b z (place_in (used_goals E f 0) 0)) (sym is)
-              (by (satisfied E f 0) refl has)) where
-                E : List Signed → Expansion
-                E = expansion T (leaf F T)
+      module _ (root : List Signed) (is_root : root_of T a b ≡ Some root) where
+        abbrev E : List Signed → Expansion
+        E = expansion T (leaf F T)
 
-                f : Found
-                f = explored most most_places (expansion T (leaf F T)) root
+        abbrev f : Found
+        f = explored most most_places (expansion T (leaf F T)) root
 
-                by : (s : Option (ℕ × ℕ)) → satisfied E f 0 ≡ s → is_some s ≡ true
-                    → IsCounterexample T a b (parts (by_branch T (words_of F)) E f 0) (place_in (used_goals E f 0) 0)
-                by None q h = cc
-                by (Some x) q h =
-                    let w : IsWitness F T ok numbers strings cells f 0 x.0
-                    (unshared (parts (by_branch T (words_of F)) E f 0) (place_in (used_goals E f 0) 0)) =
-                    witness_made F T ok numbers strings cells f 0 x.0 x.1 q in
-                    let same : w.goal ≡ root = same_goal w.goal root (sym w.at ∙ root_first most most_places E root) in
-                    let (good, deep, m) = w.made in
-                    let (first, second) = and_parts _ _ (sym (root_met root p
-                    (unshared (parts (by_branch T (words_of F)) E f 0) (place_in (used_goals E f 0) 0)))
-                    ∙ subst (λ g. meets T g (unshared (parts (by_branch T (words_of F)) E f 0)
-                    (place_in (used_goals E f 0) 0)) ≡ true) same m) in
-                    let reached : round E f (length f.goals) 0 ≡ true =
-                    sym (answer_round E f (length f.goals) 0) ∙ ap is_some q in
-                    record {
-                      good = good;
-                      first = first;
-                      second = not_true _ second;
-                      last = place_last (by_branch T (words_of F)) E f 0 reached
-                          ∙ sym (length-map (used_goals E f 0) (part (by_branch T (words_of F)) E f
-                          (place_in (used_goals E f 0))));
-                    }
+        abbrev Ps : List Part
+        Ps = parts (by_branch T (words_of F)) E f 0
 
-    -- where there is none, the first position is included in the second one
-    pub none_right : 0 < most → Decision.verdict ≡ NoDocument → IsIncluded T a b
-    none_right l e J good first =
-        go (root_of T a b) refl (subst (λ v. RootSays (root_of T a b) v) e (root_says (root_of T a b))) where
-          by : (x y : Bool) → (x && not y) ≡ false → x ≡ true → y ≡ true
-          by true true m h = refl
-          by true false m h = cc
-          by false y m h = cc
+        abbrev own : ℕ
+        own = place_in (used_goals E f 0) 0
 
-          go : (o : Option (List Signed)) → root_of T a b ≡ o → RootSays o NoDocument → holds T b J ≡ true
-          go None p s = by (holds T a J) (holds T b J)
-              (sym (meets-root T ok J a b) ∙ ap (λ o. meets_goal T o J) p) first
-          go (Some root) p (unmet, over, open_) =
-              by (holds T a J) (holds T b J) (sym (root_met root p J) ∙ none (meets T root J) refl) first where
-                none : (m : Bool) → meets T root J ≡ m → m ≡ false
-                none false h = refl
-                none true h = absurd (true≢false (sym (met_settled F T ok numbers strings cells most most_places root l
-                    over open_ J good h) ∙ unmet _))
+        -- where some round has the root, its parts stand for a document that meets it
+        parts_right : (s : Option (ℕ × ℕ)) → satisfied E f 0 ≡ s → is_some s ≡ true → IsCounterexample T a b Ps own
+        parts_right None q h = cc
+        parts_right (Some x) q h =
+            let w : IsWitness F T ok numbers strings cells f 0 x.0 (unshared Ps own) =
+            witness_made F T ok numbers strings cells f 0 x.0 x.1 q in
+            let same : w.goal ≡ root = same_goal w.goal root (sym w.at ∙ root_first most most_places E root) in
+            let (good, deep, m) = w.made in
+            let met = subst (λ g. meets T g (unshared Ps own) ≡ true) same m in
+            let (first, second) = and_parts _ _ (sym (root_met root is_root (unshared Ps own)) ∙ met) in
+            let reached : round E f (length f.goals) 0 ≡ true =
+            sym (answer_round E f (length f.goals) 0) ∙ ap is_some q in
+            let many = length-map (used_goals E f 0) (part (by_branch T (words_of F)) E f (place_in (used_goals E f 0)))
+            in
+            record {
+              good = good;
+              first = first;
+              second = not_true _ second;
+              last = place_last (by_branch T (words_of F)) E f 0 reached ∙ sym many;
+            }
 
-    pub means : 0 < most → Means F T most most_places a b Decision.verdict
-    means l = go Decision.verdict refl where
-      go : (v : Verdict) → Decision.verdict ≡ v → Means F T most most_places a b v
-      go (Document ps i) e = document_right ps i e
-      go NoDocument e = none_right l e
-      go (Limit k (Some g)) e = limit_of_goal k g e
-      go (Limit k None) e = limit_of_all k e
+      -- a document that is told is one, and shows that the first position isn't included in the second one
+      pub document_right : (ps : List Part) (i : ℕ) → Decision.verdict ≡ Document ps i → IsCounterexample T a b ps i
+      document_right ps i e =
+          go (root_of T a b) refl (subst (λ v. RootSays (root_of T a b) v) e (root_says (root_of T a b))) where
+            go : (o : Option (List Signed)) → root_of T a b ≡ o → RootSays o (Document ps i)
+                → IsCounterexample T a b ps i
+            go None p s = absurd (no_document ps i s)
+            go (Some root) p (has, is, at) =
+                subst (λ n. IsCounterexample T a b ps n) (sym at)
+                (subst (λ z. IsCounterexample T a b z (own root p)) (sym is)
+                (parts_right root p (satisfied (E root p) (f root p) 0) refl has))
+
+      -- where there is none, the first position is included in the second one
+      pub none_right : 0 < most → Decision.verdict ≡ NoDocument → IsIncluded T a b
+      none_right l e J good first =
+          go (root_of T a b) refl (subst (λ v. RootSays (root_of T a b) v) e (root_says (root_of T a b))) where
+            by : (x y : Bool) → (x && not y) ≡ false → x ≡ true → y ≡ true
+            by true true m h = refl
+            by true false m h = cc
+            by false y m h = cc
+
+            go : (o : Option (List Signed)) → root_of T a b ≡ o → RootSays o NoDocument → holds T b J ≡ true
+            go None p s = by (holds T a J) (holds T b J)
+                (sym (meets-root T ok J a b) ∙ ap (λ o. meets_goal T o J) p) first
+            go (Some root) p (unmet, over, open_) =
+                by (holds T a J) (holds T b J) (sym (root_met root p J) ∙ none (meets T root J) refl) first where
+                  none : (m : Bool) → meets T root J ≡ m → m ≡ false
+                  none false h = refl
+                  none true h =
+                      let r = met_settled F T ok numbers strings cells most most_places root l over open_ J good h in
+                      absurd (true≢false (sym r ∙ unmet _))
+
+      pub means : 0 < most → Means F T most most_places a b Decision.verdict
+      means l = go Decision.verdict refl where
+        go : (v : Verdict) → Decision.verdict ≡ v → Means F T most most_places a b v
+        go (Document ps i) e = document_right ps i e
+        go NoDocument e = none_right l e
+        go (Limit k (Some g)) e = limit_of_goal k g e
+        go (Limit k None) e = limit_of_all k e
 
   -- a table with few positions has too few goals to pass the limit on them
   pub never_goals : (ok : IsTable T) → a < length T → b < length T → many (length T) < most

@@ -1,6 +1,6 @@
 -- There are no more goals over n positions than lists that say of each position that it holds, that it doesn't, or
 -- nothing.
-use Rattle.std.proofs.Common.{◌≡◌, ℕ, zero, suc, ◌+◌, ◌<◌, ◌≤◌, inl, inr, ⊎_elim, Bool, true, false, ◌||◌, nat_lt, nat_le, List, [], ◌∷◌, ◌++◌, map, length, Option, Some, None, is_some, refl, ap, sym, ◌∙◌, subst, arith, length-append}
+use Rattle.std.proofs.Common.{◌≡◌, ℕ, zero, suc, ◌+◌, ◌<◌, ◌≤◌, inl, inr, ⊎_elim, true, ◌||◌, nat_lt, List, [], ◌∷◌, ◌++◌, map, length, Option, Some, None, is_some, refl, ap, sym, ◌∙◌, subst, arith, length-append}
 use Rattle.std.proofs.lemmas.Bool.{and_parts, or_parts, ltb-true, leb-true, cases_eq, true≢false}
 use Rattle.std.proofs.lemmas.List.{length-map}
 use Rattle.std.proofs.lemmas.Option.{slice_get_within}
@@ -13,7 +13,7 @@ use Rattle.list_laws.specs.In.{IsIn, Distinct}
 use Rattle.list_laws.proofs.Lists.{every_at, in_left, in_right, in_map, from_map}
 use Rattle.list_laws.proofs.Pigeons.{pigeon}
 use Rattle.frame_laws.proofs.Signs.{in_has}
-use Rattle.search.specs.Explored.{number_in, is_listed}
+use Rattle.search.specs.Explored.{number_in}
 use Rattle.search_laws.proofs.Numbers.{number_at}
 use Rattle.expander_laws.specs.Expander.{is_formed, is_goal}
 use Rattle.expander_laws.proofs.Formed.{is_formed-true}

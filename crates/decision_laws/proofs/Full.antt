@@ -1,5 +1,5 @@
 -- Which limits stop an exploration, and what its goals are: different, and no more than there is room for.
-use Rattle.std.proofs.Common.{◌≡◌, ℕ, zero, suc, ◌+◌, ◌<◌, ◌≤◌, ◌⊎◌, inl, inr, ⊎_elim, Bool, true, false, cond, nat_lt, List, [], ◌∷◌, ◌++◌, length, Option, Some, None, option_map, is_some, slice_get, refl, ap, sym, ◌∙◌, subst, arith, length-append}
+use Rattle.std.proofs.Common.{◌≡◌, ℕ, zero, suc, ◌+◌, ◌≤◌, ◌⊎◌, inl, inr, ⊎_elim, Bool, true, false, cond, nat_lt, List, [], ◌∷◌, ◌++◌, length, Option, Some, None, option_map, is_some, slice_get, refl, ap, sym, subst, arith, length-append}
 use Rattle.std.proofs.lemmas.Bool.{and_parts, and_from, ltb-false}
 use Rattle.documents.specs.Tests.{every}
 use Rattle.goals.specs.Signed.{Signed}
@@ -9,7 +9,6 @@ use Rattle.cell_laws.proofs.Lists.{distinct_append}
 use Rattle.alternatives.specs.Alternative.{named, places}
 use Rattle.alternatives.specs.Limit.{LimitKind, Goals, Total}
 use Rattle.alternatives.specs.Expansion.{Expansion, first_limit}
-use Rattle.expansion_laws.proofs.Goals.{get_in}
 use Rattle.search.specs.Explored.{Found, found, same_goal, number_in, is_listed, mention, mention_goals, take_goal, step, after, explored}
 use Rattle.search_laws.proofs.Numbers.{same_goal_itself}
 

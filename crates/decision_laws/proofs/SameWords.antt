@@ -1,9 +1,8 @@
 -- The words of a branch by its cells are those by its set, where an alternative names them: so parts and decisions are the
 -- same by either.
-use Rattle.std.proofs.Common.{◌≡◌, ℕ, zero, suc, ◌+◌, ◌<◌, ◌≤◌, ◌⊎◌, inl, inr, ⊎_elim, Bool, true, false, cond, nat_lt, List, [], ◌∷◌, map, length, take, get_or, Option, Some, None, Result, Ok, Err, is_some, slice_get, refl, ap, ap₂, sym, ◌∙◌, subst, arith}
+use Rattle.std.proofs.Common.{◌≡◌, ℕ, ◌<◌, ◌≤◌, ◌⊎◌, inl, inr, Bool, true, false, cond, nat_lt, List, [], ◌∷◌, map, length, take, get_or, Option, Some, None, Result, Ok, Err, is_some, slice_get, refl, ap, ap₂, sym, ◌∙◌, subst, arith}
 use Rattle.std.proofs.lemmas.Bool.{cases_lt}
 use Rattle.std.proofs.lemmas.List.{get_or_past}
-use Rattle.documents.specs.Tests.{every, is_scalar}
 use Rattle.documents.specs.Kind as K
 use Rattle.documents.specs.Kind.{Kind}
 use Rattle.shared_documents.specs.Part.{Part}
@@ -15,11 +14,11 @@ use Rattle.goals.specs.Tree as G
 use Rattle.goal_laws.specs.Saturated.{IsSaturated}
 use Rattle.list_laws.specs.In.{IsIn}
 use Rattle.list_laws.proofs.Lists.{from_flat_map}
-use Rattle.cells.specs.Cells.{Cells, cell_of}
+use Rattle.cells.specs.Cells.{Cells}
 use Rattle.alternatives.specs.Alternative as Alt
 use Rattle.alternatives.specs.Alternative.{Slot, Index, Name, Shape, Alternative}
 use Rattle.alternatives.specs.Limit.{LimitKind}
-use Rattle.alternatives.specs.Slots.{cell_at, word_at}
+use Rattle.alternatives.specs.Slots.{word_at}
 use Rattle.alternatives.specs.Expansion.{Expansion}
 use Rattle.expansions.specs.Leaves.{Finders, leaf, name, names_of, word_of, words_of}
 use Rattle.expansions.specs.Expansion.{expansion}
@@ -30,11 +29,11 @@ use Rattle.expansion_laws.proofs.Origins.{IsFrom, origin}
 use Rattle.search.specs.Explored.{Found, explored}
 use Rattle.search.specs.Rounds.{NumberedPlaced, Numbered, number_members, with_members, numbered, alternatives_at, alternatives_of}
 use Rattle.search.specs.Uses.{satisfied, last_round, chosen_in, chosen, contents, used_goals}
-use Rattle.search.specs.Witness.{put, sorted, place_in, named, by_shape, of_alternative, of_goal, part, parts}
+use Rattle.search.specs.Witness.{sorted, place_in, named, by_shape, of_goal, part, parts}
 use Rattle.expander_laws.specs.Expander.{text_cells, name_cells, set_cells, branch_cells}
 use Rattle.expander_laws.proofs.Alternatives.{cell_is, cells_many, of_branch}
 use Rattle.expander_laws.proofs.Laws.{branch_saturated}
-use Rattle.decisions.specs.Decision.{Decided, Document, by_limits, first_hole, verdict_of, of_found, of_root}
+use Rattle.decisions.specs.Decision.{Document, by_limits, first_hole, of_found, of_root}
 
 -- words of a branch that agree where an alternative of a shape names them
 abbrev pub Agree : Shape → (ℕ → ℕ → List ℕ) → (ℕ → ℕ → List ℕ) → Type 0
@@ -109,12 +108,12 @@ module _ (v w : List Signed → Kind → ℕ → ℕ → ℕ → List ℕ) (expa
 
   pub found_same : of_found v expansion f ≡ of_found w expansion f
   found_same = ap (λ ps. record {
-      verdict = cond (is_some (satisfied expansion f 0))
-          (Document ps (place_in (used_goals expansion f 0) 0))
-          (by_limits (first_hole expansion (take f.taken f.goals)) f.over);
-      goals = length f.goals;
-      rounds = last_round expansion f;
-    }) (parts_same 0)
+    verdict = cond (is_some (satisfied expansion f 0))
+        (Document ps (place_in (used_goals expansion f 0) 0))
+        (by_limits (first_hole expansion (take f.taken f.goals)) f.over);
+    goals = length f.goals;
+    rounds = last_round expansion f;
+  }) (parts_same 0)
 
 -- the words that are found
 
@@ -176,9 +175,6 @@ module _ (F : Finders) (T : List Position) (ok : IsTable T)
       (words_of F z (get_or (G.branches (G.steps T z g)) a.branch []))) (sym x)
       (subst (λ n. Agree a.shape (word_at (set_cells F o.kind (get_or (G.branches (G.steps T o.kind g)) n [])))
       (words_of F o.kind (get_or (G.branches (G.steps T o.kind g)) n []))) (sym y) here)
-
-  abbrev pub CellWords : List Signed → Kind → ℕ → ℕ → ℕ → List ℕ
-  CellWords g t k c i = word_at (branch_cells F T g t k) c i
 
   -- so what is decided with the words of cells is what is decided
   pub same_decided : (most most_places : ℕ) (o : Option (List Signed))

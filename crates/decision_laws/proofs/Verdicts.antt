@@ -1,8 +1,7 @@
 -- What each verdict on explored goals says of them.
 use Rattle.std.proofs.Common.{◌≡◌, ℕ, zero, suc, ◌<◌, ◌≤◌, ◌⊎◌, inl, inr, Bool, true, false, cond, nat_lt, List, [], ◌∷◌, length, take, Option, Some, None, is_some, slice_get, refl, ap, ap₂, true≢false, sym, ◌∙◌, arith}
-use Rattle.std.proofs.lemmas.Bool.{lt-ltb, ltb-true, le-ltb, cases_lt}
+use Rattle.std.proofs.lemmas.Bool.{lt-ltb, le-ltb, cases_lt}
 use Rattle.documents.specs.Kind.{Kind}
-use Rattle.shared_documents.specs.Part.{Part}
 use Rattle.goals.specs.Signed.{Signed}
 use Rattle.alternatives.specs.Limit.{LimitKind}
 use Rattle.alternatives.specs.Expansion.{Expansion}
@@ -184,14 +183,14 @@ module _ (words : List Signed → Kind → ℕ → ℕ → ℕ → List ℕ) (ex
     least_once k l g h x y = elim (cases_lt x.number y.number) [
       | inl j ↦ absurd (some_not k (sym x.hole ∙ y.before x.number j))
       | inr j ↦ elim (cases_lt y.number x.number) [
-          | inl i ↦ absurd (some_not l (sym y.hole ∙ x.before y.number i))
-          | inr i ↦
-              let n = x.number in let m = y.number in
-              let s : n ≡ m = omega (arith, i, j) in
-              ap₂ (λ a b. Limit a (Some b))
-              (kind_inner k l (sym x.hole ∙ ap (hole_of expansion f) s ∙ y.hole))
-              (same_goal g h (sym x.at ∙ ap (slice_get f.goals) s ∙ y.at))
-        ]
+        | inl i ↦ absurd (some_not l (sym y.hole ∙ x.before y.number i))
+        | inr i ↦
+            let n = x.number in let m = y.number in
+            let s : n ≡ m = omega (arith, i, j) in
+            ap₂ (λ a b. Limit a (Some b))
+            (kind_inner k l (sym x.hole ∙ ap (hole_of expansion f) s ∙ y.hole))
+            (same_goal g h (sym x.at ∙ ap (slice_get f.goals) s ∙ y.at))
+      ]
     ] where
       some_not : (k : LimitKind) → Some k ≡ None → ⊥
       some_not k e = cc

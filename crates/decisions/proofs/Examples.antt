@@ -2,8 +2,8 @@
 use Rattle.std.proofs.Common.{◌≡◌, ℕ, List, [], ◌∷◌, Some, None, Ok, Err, refl}
 use Rattle.documents.specs.Kind as K
 use Rattle.shared_documents.specs.Part as P
-use Rattle.positions.specs.Position.{Position, True, False, Types, Contains, CountMin, CountMax, All}
-use Rattle.goals.specs.Signed.{Plus, Minus}
+use Rattle.positions.specs.Position.{Position, True, False, Types, Contains, CountMin, All}
+use Rattle.goals.specs.Signed.{Plus}
 use Rattle.goals.specs.Goal as GG
 use Rattle.goals.specs.Tree as G
 use Rattle.frames.specs.Plan.{plan_steps}

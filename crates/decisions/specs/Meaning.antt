@@ -1,5 +1,5 @@
 -- What each verdict means.
-use Rattle.std.specs.Prelude.{◌≡◌, ◌<◌, ◌⊎◌, ℕ, suc, List, length, true, false, Option, Some, None, slice_get}
+use Rattle.std.specs.Prelude.{◌≡◌, ◌<◌, ◌⊎◌, ℕ, suc, List, length, true, false, Some, None, slice_get}
 use Rattle.documents.specs.Document as D
 use Rattle.documents.specs.Document.{is_document}
 use Rattle.shared_documents.specs.Part.{Part}

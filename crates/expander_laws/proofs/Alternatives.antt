@@ -1,6 +1,6 @@
 -- What holds of an alternative by its branch: its kind and number, its slots, and the words that they name.
-use Rattle.std.proofs.Common.{◌≡◌, ℕ, zero, suc, ◌+◌, ◌-◌, ◌<◌, ◌≤◌, min, inl, inr, ⊎_elim, Bool, true, false, not, ◌&&◌, cond, nat_eq, nat_lt, nat_le, List, [], ◌∷◌, ◌++◌, map, flat_map, length, get_or, Option, Some, None, Result, Ok, refl, ap, ap₂, sym, ◌∙◌, subst, arith}
-use Rattle.std.proofs.lemmas.Bool.{and_from, and_parts, eqb-true, lt-ltb, le-leb, ltb-true, ltb-false}
+use Rattle.std.proofs.Common.{◌≡◌, ℕ, zero, suc, ◌+◌, ◌-◌, ◌<◌, ◌≤◌, min, inl, inr, ⊎_elim, Bool, true, false, ◌&&◌, cond, nat_eq, nat_lt, nat_le, List, [], ◌∷◌, ◌++◌, map, flat_map, length, Some, None, Ok, refl, ap, ap₂, sym, ◌∙◌, subst, arith}
+use Rattle.std.proofs.lemmas.Bool.{and_from, lt-ltb, le-leb, ltb-true, ltb-false}
 use Rattle.std.proofs.lemmas.List.FromFn.{get_or-map-range_with_len, length-map-range_with_len}
 use Rattle.std.specs.List.{range_with_len}
 use Rattle.documents.specs.Tests.{every, same_word}
@@ -14,7 +14,7 @@ use Rattle.frames.specs.Frame.{Place, In, Frame}
 use Rattle.frames.specs.Plan.{Member, Plan, count_in, size, placed, complete, plan_steps, ends}
 use Rattle.frames.specs.ArrayFrame.{array_frame}
 use Rattle.frames.specs.ObjectFrame.{number, cap, is_allowed, object_frame}
-use Rattle.frames.specs.Fillers.{Filler, fillers, times}
+use Rattle.frames.specs.Fillers.{fillers, times}
 use Rattle.frame_laws.proofs.FillersLaws.{fillers_from}
 use Rattle.frame_laws.proofs.CompletePlans.{IsComplete}
 use Rattle.frame_laws.proofs.FewMembers as F
@@ -29,15 +29,14 @@ use Rattle.cell_laws.specs.RightCells.{AreWords}
 use Rattle.object_laws.proofs.Slots.{fillers_differ}
 use Rattle.alternatives.specs.Alternative as Alt
 use Rattle.alternatives.specs.Alternative.{Slot, Index, Name, Shape, Placed, Alternative}
-use Rattle.alternatives.specs.Limit.{LimitKind}
-use Rattle.alternatives.specs.Slots.{capacity, cell_at, has_room, has_text, has_words, slots_from, slots_of, same_slot, has_different_slots, has_different_words, fits_slot, has_fitting_slots}
-use Rattle.expansions.specs.Leaves.{Naming, by_index, by_name, cell_of, members_of, filling_of, plan_alternative, scalar, Finders}
+use Rattle.alternatives.specs.Slots.{capacity, cell_at, has_room, has_words, slots_from, slots_of, same_slot, has_different_slots, has_different_words, fits_slot, has_fitting_slots}
+use Rattle.expansions.specs.Leaves.{by_index, by_name, cell_of, filling_of, plan_alternative, scalar, Finders}
 use Rattle.expansion_laws.proofs.Containers.{IsCells}
 use Rattle.expansion_laws.proofs.Parts.{no_heads}
 use Rattle.expansion_laws.proofs.PlanLeaf.{complete_plan}
-use Rattle.expansion_laws.proofs.Origins.{IsPlanned, IsScalar, IsFrom}
+use Rattle.expansion_laws.proofs.Origins.{IsScalar, IsFrom}
 use Rattle.expander_laws.specs.Expander.{text_cells, name_cells, set_cells}
-use Rattle.expander_laws.proofs.Slots.{different, same_slot-true, index_from, name_from, member_slot, filler_slots, index_of_member, members_at_once, filler_at_once, name_of_member, members_named_once, fillers_named_once, index_inner, cell_inner, place_inner}
+use Rattle.expander_laws.proofs.Slots.{different, same_slot-true, index_from, name_from, place_cell, member_slot, filler_slots, index_of_member, members_at_once, filler_at_once, name_of_member, members_named_once, fillers_named_once, index_inner, cell_inner, place_inner}
 
 -- elements
 
@@ -79,9 +78,15 @@ module _ (T : List Position) (S : List Signed) (k : ℕ) (q : Plan) where
 -- members
 
 count_cells : (c : ℕ) (ms : List Member)
-    → times c (map (λ (s : Place × List Signed). cell_of s.0) (map (λ m. (In m.cell, m.served)) ms)) ≡ count_in c ms
+    → times c (map place_cell (map (λ m. (In m.cell, m.served)) ms)) ≡ count_in c ms
 count_cells c [] = refl
 count_cells c (m ∷ ms) = ap (λ n. cond (nat_eq m.cell c) (suc n) n) (count_cells c ms)
+
+cell_of_one : (c : ℕ) (ms : List Member) → IsIn c (map place_cell (map (λ m. (In m.cell, m.served)) ms))
+    → (m : Member) × IsIn m ms × (c ≡ m.cell)
+cell_of_one c [] i = absurd i
+cell_of_one c (m ∷ ms) (inl e) = (m, inl refl, e)
+cell_of_one c (m ∷ ms) (inr i) = let (n, j, e) = cell_of_one c ms i in (n, inr j, e)
 
 -- the words of a cell are those of the cells
 pub cell_is : (C : Cells) (c : ℕ) → c < length C.vectors → cell_at (name_cells (Ok C)) c ≡ C.words c
@@ -112,14 +117,11 @@ module _ (T : List Position) (S : List Signed) (C : Cells) (k : ℕ) (q : Plan)
       → (c : ℕ) × ((j : ℕ) × (x ≡ Name c j) × IsIn c (object_frame T C S).cells × (j < count_in c q.members))
   member_named x a =
       let (c, (j, e, u, l, h)) = name_of_member T object 0 [] (placed (object_frame T C S) q) x a in
-      let many : times c (map (λ (s : Place × List Signed). cell_of s.0) (placed (object_frame T C S) q)) ≡ count_in c q.members =
-      ap (λ z. times c (map (λ (s : Place × List Signed). cell_of s.0) z)) front ∙ count_cells c q.members in
-      let (s, v, f) = from_map (λ (s : Place × List Signed). cell_of s.0) c (placed (object_frame T C S) q) u in
-      let (m, w, g) = from_map (λ m. (In m.cell, m.served)) s q.members
-      (subst (λ z. IsIn s z) front v) in
-      let own : c ≡ m.cell = f ∙ ap (λ z. cell_of z.0) g in
-      (c, (j, e, subst (λ z. IsIn z (object_frame T C S).cells) (sym own) (is_complete.kept.cells m w),
-      omega (arith, h, many)))
+      let many : times c (map place_cell (placed (object_frame T C S) q)) ≡ count_in c q.members =
+      ap (λ z. times c (map place_cell z)) front ∙ count_cells c q.members in
+      let (m, w, own) = cell_of_one c q.members (subst (λ z. IsIn c (map place_cell z)) front u) in
+      let inside = subst (λ z. IsIn z (object_frame T C S).cells) (sym own) (is_complete.kept.cells m w) in
+      (c, (j, e, inside, omega (arith, h, many)))
 
   -- a filler goes on after the members of its cell, as far as the cell has words
   filler_named : (f : Alt.Filler) → IsIn f named.fillers
@@ -239,9 +241,6 @@ module _ (T : List Position) (C : Cells) (words : AreWords T C) where
 -- by kinds
 
 module _ (F : Finders) (T : List Position) where
-  abbrev From : Kind → ℕ → List Signed → Alternative → Type 0
-  From t k S a = IsFrom F T t k S a
-
   pub of_branch : (t : Kind) (k : ℕ) (S : List Signed) (a : Alternative) → IsFrom F T t k S a
       → (a.kind ≡ t) × (a.branch ≡ k)
   of_branch K.Null k S a h = (ap (λ z. z.kind) h.is, ap (λ z. z.branch) h.is)
@@ -283,9 +282,6 @@ module _ (F : Finders) (T : List Position) where
   fits K.Array k S a h = subst (λ z. has_fitting_slots z ≡ true) (sym h.is) (elements_fit S k h.plan)
   fits K.Object k S a (C, f, h) =
       subst (λ z. has_fitting_slots z ≡ true) (sym h.is) (members_fitting T S C k h.plan h.is_plan)
-
-  abbrev Once : Alternative → Type 0
-  Once a = has_different_slots a ≡ true
 
   pub once : (t : Kind) (k : ℕ) (S : List Signed) (a : Alternative) → IsFrom F T t k S a
       → has_different_slots a ≡ true

@@ -1,5 +1,5 @@
 -- What is asked of elements and members names positions of the table, so goals of them are in it.
-use Rattle.std.proofs.Common.{◌≡◌, ℕ, zero, suc, ◌<◌, Bool, true, false, ◌&&◌, cond, nat_lt, List, [], ◌∷◌, ◌++◌, flat_map, length, Some, None, refl, ap, sym, ◌∙◌, subst, arith}
+use Rattle.std.proofs.Common.{◌≡◌, ℕ, zero, suc, ◌<◌, Bool, true, false, ◌&&◌, nat_lt, List, [], ◌∷◌, ◌++◌, flat_map, length, refl, sym, subst}
 use Rattle.std.proofs.lemmas.Bool.{and_from, and_parts, lt-ltb}
 use Rattle.std.specs.List.{AllByRecursion}
 use Rattle.documents.specs.Tests.{every}
@@ -8,10 +8,9 @@ use Rattle.documents.specs.Kind.{Kind}
 use Rattle.positions.specs.Position.{Position, Items, Contains, MembersOf, position_at, of_parts}
 use Rattle.positions.specs.Holds.{IsTable}
 use Rattle.goals.specs.Signed.{Signed, Plus, Minus, position_of}
-use Rattle.goals.specs.Goal.{form}
 use Rattle.goal_laws.proofs.Forms.{form-inside}
 use Rattle.list_laws.specs.In.{IsIn}
-use Rattle.list_laws.proofs.Lists.{every_from, every_at, from_flat_map}
+use Rattle.list_laws.proofs.Lists.{every_from, from_flat_map}
 use Rattle.frames.specs.Frame.{Place, Head, In, Frame, list_at}
 use Rattle.frames.specs.ArrayFrame as A
 use Rattle.frames.specs.ArrayFrame.{longest, index_of, item_at, array_frame}
@@ -22,8 +21,8 @@ use Rattle.alternatives.specs.Alternative.{Alternative, named, named_by}
 use Rattle.expansions.specs.Leaves.{Finders, leaf}
 use Rattle.expansions.specs.Expansion.{expansion}
 use Rattle.expansion_laws.proofs.Origins.{origin}
-use Rattle.expansion_laws.proofs.Formed.{IsFrame, IsListed, from_named, named_formed}
-use Rattle.expander_laws.specs.Expander.{is_formed, is_goal, takes}
+use Rattle.expansion_laws.proofs.Formed.{IsFrame, from_named, named_formed}
+use Rattle.expander_laws.specs.Expander.{is_formed, is_goal}
 use Rattle.expander_laws.proofs.Formed.{is_formed-from}
 
 module _ (n : ℕ) where

@@ -1,6 +1,6 @@
 -- The laws of an expander, of the goals that it takes: whatever finds numbers, words and cells, but that cells are found
 -- rightly where words are named.
-use Rattle.std.proofs.Common.{◌≡◌, ℕ, ◌<◌, Bool, true, ◌&&◌, nat_lt, List, [], length, Option, Some, Ok, slice_get, get_or, refl, ap, sym, ◌∙◌, subst}
+use Rattle.std.proofs.Common.{◌≡◌, ℕ, Bool, true, ◌&&◌, nat_lt, List, [], length, Some, Ok, slice_get, get_or, sym, subst}
 use Rattle.std.proofs.lemmas.Bool.{and_parts, and_from, ltb-true, lt-ltb}
 use Rattle.std.proofs.lemmas.Option.{slice_get_within}
 use Rattle.documents.specs.Tests.{every}
@@ -14,7 +14,6 @@ use Rattle.goals.specs.Goal.{contains}
 use Rattle.goals.specs.Tree as G
 use Rattle.goal_laws.specs.Saturated.{IsSaturated}
 use Rattle.goal_laws.proofs.Branches.{branches-are}
-use Rattle.list_laws.specs.In.{IsIn}
 use Rattle.list_laws.proofs.Lists.{every_from, every_at}
 use Rattle.cells.specs.Cells.{Cells}
 use Rattle.alternatives.specs.Alternative.{Alternative, named}

@@ -1,22 +1,21 @@
 -- The slots of an alternative of a plan: they fit its shape, and none comes twice.
-use Rattle.std.proofs.Common.{◌≡◌, ℕ, zero, suc, ◌+◌, ◌<◌, ◌≤◌, inl, inr, ⊎_elim, Bool, true, false, not, ◌&&◌, cond, nat_eq, List, [], ◌∷◌, ◌++◌, map, flat_map, length, Option, Some, None, refl, ap, ap₂, sym, ◌∙◌, subst, arith}
+use Rattle.std.proofs.Common.{◌≡◌, ℕ, zero, suc, ◌+◌, ◌<◌, ◌≤◌, inl, inr, Bool, true, false, not, cond, nat_eq, List, [], ◌∷◌, ◌++◌, map, flat_map, length, Option, Some, None, refl, ap, ap₂, sym, ◌∙◌, subst, arith}
 use Rattle.std.proofs.lemmas.Bool.{and_from, and_parts, eqb-true, eq-eqb}
 use Rattle.std.proofs.lemmas.List.{append-nil}
-use Rattle.documents.specs.Tests.{every, some}
-use Rattle.documents.specs.Kind.{Kind}
+use Rattle.documents.specs.Tests.{some}
 use Rattle.positions.specs.Position.{Position}
 use Rattle.goals.specs.Signed.{Signed}
 use Rattle.frames.specs.Frame.{Place, Frame}
 use Rattle.frames.specs.Plan.{goal_of}
 use Rattle.frames.specs.Fillers.{Filler, times}
 use Rattle.list_laws.specs.In.{IsIn, Distinct}
-use Rattle.list_laws.proofs.Lists.{every_from, in_map, from_map, in_append, in_left, in_right, in_flat_map, from_flat_map}
+use Rattle.list_laws.proofs.Lists.{in_map, from_map, from_flat_map}
 use Rattle.list_laws.proofs.Tests.{some_none}
 use Rattle.cell_laws.proofs.Lists.{distinct_append}
 use Rattle.alternatives.specs.Alternative as Alt
 use Rattle.alternatives.specs.Alternative.{Slot, Index, Name, Placed}
-use Rattle.alternatives.specs.Slots.{next_slot, slots_from, same_slot, are_different}
-use Rattle.expansions.specs.Leaves.{Naming, by_index, by_name, cell_of, placed_as, members_of, filling_of}
+use Rattle.alternatives.specs.Slots.{slots_from, same_slot, are_different}
+use Rattle.expansions.specs.Leaves.{by_index, by_name, cell_of, placed_as, members_of, filling_of}
 
 -- tests of difference
 
@@ -79,6 +78,9 @@ names_once c k (suc n) = (
   names_once c (suc k) n,
 )
 
+abbrev pub place_cell : Place × List Signed → ℕ
+place_cell s = cell_of s.0
+
 abbrev pub member_slot : Placed → Slot
 member_slot m = m.slot
 
@@ -95,9 +97,6 @@ module _ (T : List Position) (frame : Frame) where
   index_of_member i before [] x a = absurd a
   index_of_member i before (s ∷ ss) x a =
       go (goal_of T frame s) a (index_of_member (suc i) (cell_of s.0 ∷ before) ss x) where
-        Here : Type 0
-        Here = (j : ℕ) × (x ≡ Index j) × (i ≤ j) × (j < i + suc (length ss))
-
         go : (o : Option (List Signed))
             → IsIn x (map member_slot
             (placed_as (Index i) o ++ members_of by_index T frame (suc i) (cell_of s.0 ∷ before) ss))
@@ -138,7 +137,7 @@ filler_at_once n (f ∷ g ∷ fs) d z =
 
 module _ (T : List Position) (frame : Frame) where
   abbrev cells : List (Place × List Signed) → List ℕ
-  cells ss = map (λ s. cell_of s.0) ss
+  cells ss = map place_cell ss
 
   -- those of a cell take its words one after another
   pub name_of_member : (i : ℕ) (before : List ℕ) (ss : List (Place × List Signed)) (x : Slot)
@@ -151,8 +150,8 @@ module _ (T : List Position) (frame : Frame) where
         moved : (c : ℕ) → times c (cell_of s.0 ∷ before) + times c (cells ss) ≡ times c before + times c
             (cell_of s.0 ∷ cells ss)
         moved c = by (nat_eq (cell_of s.0) c) where
-          by : (b : Bool) → cond b (suc (times c before)) (times c before) + times c (cells ss) ≡ times c before + cond b
-              (suc (times c (cells ss))) (times c (cells ss))
+          by : (b : Bool) → cond b (suc (times c before)) (times c before) + times c (cells ss)
+              ≡ times c before + cond b (suc (times c (cells ss))) (times c (cells ss))
           by true = omega arith
           by false = refl
 

@@ -1,5 +1,5 @@
 -- The goals that an expander takes, how many branches a goal has at a kind, and the cells of a branch.
-use Rattle.std.specs.Prelude.{ℕ, List, [], ◌∷◌, map, length, Bool, not, ◌&&◌, nat_lt, Option, Some, None, Result, Ok, Err, get_or}
+use Rattle.std.specs.Prelude.{ℕ, List, [], ◌∷◌, map, length, Bool, not, ◌&&◌, nat_lt, Option, Some, Result, Ok, Err, get_or}
 use Rattle.std.specs.Option.{is_none}
 use Rattle.std.specs.List.{range_with_len}
 use Rattle.documents.specs.Tests.{every}

@@ -1,14 +1,10 @@
 -- Where the alternatives of a goal come from: each is that of a scalar, or of a complete plan.
-use Rattle.std.proofs.Common.{◌≡◌, ℕ, ◌≤◌, ⊎_elim, true, Bool, List, [], ◌∷◌, Option, Some, Result, Ok, Err, slice_get, refl, ap, sym, ◌∙◌, subst}
-use Rattle.std.specs.List.{AllByRecursion}
+use Rattle.std.proofs.Common.{◌≡◌, ℕ, ◌≤◌, ⊎_elim, true, Bool, List, [], ◌∷◌, Option, Some, Result, Ok, Err, slice_get, refl, sym, ◌∙◌, subst}
 use Rattle.documents.specs.Kind as K
 use Rattle.documents.specs.Kind.{Kind}
 use Rattle.positions.specs.Position.{Position}
-use Rattle.positions.specs.Holds.{IsTable}
 use Rattle.goals.specs.Signed.{Signed}
 use Rattle.goals.specs.Tree as G
-use Rattle.goal_laws.specs.Saturated.{IsSaturated}
-use Rattle.goal_laws.proofs.Branches.{branches-are}
 use Rattle.frames.specs.Frame.{Frame}
 use Rattle.frames.specs.Plan.{Plan, ends, complete, plan_steps}
 use Rattle.frames.specs.ArrayFrame as A
@@ -84,11 +80,14 @@ module _ (F : Finders) (T : List Position) where
 
   leaf_from : (t : Kind) (k : ℕ) (S : List Signed) (more : List Alternative) → leaf F T t k S ≡ Ok more
       → (a : Alternative) → IsIn a more → IsFrom t k S a
-  leaf_from K.Null k S more e a i = let (x, p, s) = listed K.Null (λ (b : Bool). Alt.Null) k (Ok (true ∷ [])) more e a i in
+  leaf_from K.Null k S more e a i =
+      let (x, p, s) = listed K.Null (λ (b : Bool). Alt.Null) k (Ok (true ∷ [])) more e a i in
       record { shape = Alt.Null; no_text = λ cells. refl; is = s }
-  leaf_from K.Boolean k S more e a i = let (x, p, s) = listed K.Boolean Alt.Truth k (Ok (truth_values T S)) more e a i in
+  leaf_from K.Boolean k S more e a i =
+      let (x, p, s) = listed K.Boolean Alt.Truth k (Ok (truth_values T S)) more e a i in
       record { shape = Alt.Truth x; no_text = λ cells. refl; is = s }
-  leaf_from K.Number k S more e a i = let (x, p, s) = found K.Number Alt.Number k (F.numbers S) more e a i in
+  leaf_from K.Number k S more e a i =
+      let (x, p, s) = found K.Number Alt.Number k (F.numbers S) more e a i in
       record { shape = Alt.Number x; no_text = λ cells. refl; is = s }
   leaf_from K.Text k S more e a i = found K.Text (λ w. Alt.Text) k (F.strings S) more e a i
   leaf_from K.Array k S more e a i =
