@@ -40,7 +40,7 @@ use Rattle.decisions.specs.Decision.{Verdict, Document, Limit, NoDocument, Decid
 use Rattle.decisions.specs.Meaning.{IsCounterexample, IsIncluded, IsUnmet, AreOpen, IsLeast, OfRoot, Means}
 use Rattle.expander_laws.specs.Expander.{is_formed, is_goal}
 use Rattle.expander_laws.proofs.Formed.{is_formed-from}
-use Rattle.expander_laws.proofs.Inside.{goals_named}
+use Rattle.expander_laws.proofs.Inside.{goals_named, formed_goal}
 use Rattle.decision_laws.proofs.Verdicts.{Says, verdict_says, says_verdict}
 use Rattle.decision_laws.proofs.Full.{IsKept, explored_kept}
 use Rattle.decision_laws.proofs.Few.{many, few_goals}
@@ -195,18 +195,21 @@ module _ (F : Finders) (T : List Position) (most most_places a b : ℕ) where
         go (Limit k (Some g)) e = limit_of_goal k g e
         go (Limit k None) e = limit_of_all k e
 
+  -- the root is a goal of the table
+  pub root_goal : (ok : IsTable T) → a < length T → b < length T → (root : List Signed) → root_of T a b ≡ Some root
+      → is_goal T root ≡ true
+  root_goal ok a_in b_in root e =
+      formed_goal T ok (Plus a ∷ Minus b ∷ []) root e
+      (and_from (nat_lt a (length T)) (nat_lt b (length T) && true) (lt-ltb a (length T) a_in)
+      (and_from (nat_lt b (length T)) true (lt-ltb b (length T) b_in) refl))
+
   -- a table with few positions has too few goals to pass the limit on them
   pub never_goals : (ok : IsTable T) → a < length T → b < length T → many (length T) < most
       → Decision.verdict ≡ Limit Goals None → ⊥
   never_goals ok a_in b_in l e =
       let h = limit_of_all Goals e in
       let (u, over, open_, kind) = h.holds in
-      let good : is_goal T h.root ≡ true =
-      and_from (is_formed T h.root) (every (λ x. nat_lt (position_of x) (length T)) h.root)
-      (is_formed-from T h.root (form-IsFormed T ok (Plus a ∷ Minus b ∷ []) h.root h.is_root))
-      (form-inside T ok (Plus a ∷ Minus b ∷ []) h.root h.is_root
-      (and_from (nat_lt a (length T)) (nat_lt b (length T) && true) (lt-ltb a (length T) a_in)
-      (and_from (nat_lt b (length T)) true (lt-ltb b (length T) b_in) refl))) in
+      let good = root_goal ok a_in b_in h.root h.is_root in
       let k : IsKept most most_places (expansion T (leaf F T)) (is_goal T) (goals_named T ok F)
       (explored most most_places (expansion T (leaf F T)) h.root) =
       explored_kept most most_places (expansion T (leaf F T)) (is_goal T) (goals_named T ok F) h.root good in

@@ -1,5 +1,5 @@
 -- What is asked of elements and members names positions of the table, so goals of them are in it.
-use Rattle.std.proofs.Common.{◌≡◌, ℕ, zero, suc, ◌<◌, Bool, true, false, ◌&&◌, nat_lt, List, [], ◌∷◌, ◌++◌, flat_map, length, refl, sym, subst}
+use Rattle.std.proofs.Common.{◌≡◌, ℕ, zero, suc, ◌<◌, Bool, true, false, ◌&&◌, nat_lt, List, [], ◌∷◌, ◌++◌, flat_map, length, Some, refl, sym, subst}
 use Rattle.std.proofs.lemmas.Bool.{and_from, and_parts, lt-ltb}
 use Rattle.std.specs.List.{AllByRecursion}
 use Rattle.documents.specs.Tests.{every}
@@ -8,7 +8,8 @@ use Rattle.documents.specs.Kind.{Kind}
 use Rattle.positions.specs.Position.{Position, Items, Contains, MembersOf, position_at, of_parts}
 use Rattle.positions.specs.Holds.{IsTable}
 use Rattle.goals.specs.Signed.{Signed, Plus, Minus, position_of}
-use Rattle.goal_laws.proofs.Forms.{form-inside}
+use Rattle.goals.specs.Goal.{form}
+use Rattle.goal_laws.proofs.Forms.{form-IsFormed, form-inside}
 use Rattle.list_laws.specs.In.{IsIn}
 use Rattle.list_laws.proofs.Lists.{every_from, from_flat_map}
 use Rattle.frames.specs.Frame.{Place, Head, In, Frame, list_at}
@@ -143,3 +144,9 @@ module _ (T : List Position) (ok : IsTable T) where
       let (a, j, k) = from_flat_map named_by h (expansion T (leaf F T) g).alternatives i in
       and_from (is_formed T h) (Within h) (is_formed-from T h (named_formed F T ok g a j h k))
       (named_inside F g a j h k))
+
+  -- what a list of the table forms is one of its goals
+  pub formed_goal : (xs g : List Signed) → form T xs ≡ Some g → Within xs ≡ true → is_goal T g ≡ true
+  formed_goal xs g e inside =
+      and_from (is_formed T g) (Within g) (is_formed-from T g (form-IsFormed T ok xs g e))
+      (form-inside T ok xs g e inside)

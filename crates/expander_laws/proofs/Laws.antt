@@ -1,6 +1,6 @@
 -- The laws of an expander, of the goals that it takes: whatever finds numbers, words and cells, but that cells are found
 -- rightly where words are named.
-use Rattle.std.proofs.Common.{◌≡◌, ℕ, Bool, true, ◌&&◌, nat_lt, List, [], length, Some, Ok, slice_get, get_or, sym, subst}
+use Rattle.std.proofs.Common.{◌≡◌, ℕ, ◌<◌, Bool, true, ◌&&◌, nat_lt, List, [], length, Some, Ok, slice_get, get_or, sym, subst}
 use Rattle.std.proofs.lemmas.Bool.{and_parts, and_from, ltb-true, lt-ltb}
 use Rattle.std.proofs.lemmas.Option.{slice_get_within}
 use Rattle.documents.specs.Tests.{every}
@@ -9,8 +9,8 @@ use Rattle.documents.specs.Kind.{Kind}
 use Rattle.positions.specs.Position.{Position, is_table}
 use Rattle.positions.specs.Holds.{IsTable}
 use Rattle.position_laws.proofs.Tables.{is_table-IsTable}
-use Rattle.goals.specs.Signed.{Signed}
-use Rattle.goals.specs.Goal.{contains}
+use Rattle.goals.specs.Signed.{Signed, position_of}
+use Rattle.goals.specs.Goal.{form, contains}
 use Rattle.goals.specs.Tree as G
 use Rattle.goal_laws.specs.Saturated.{IsSaturated}
 use Rattle.goal_laws.proofs.Branches.{branches-are}
@@ -24,7 +24,7 @@ use Rattle.expansion_laws.proofs.Containers.{IsCells}
 use Rattle.expansion_laws.proofs.Goals.{all_in, get_in, get_is}
 use Rattle.expansion_laws.proofs.Origins.{IsFrom, origin}
 use Rattle.expander_laws.specs.Expander.{is_goal, takes, branch_count, set_cells, branch_cells}
-use Rattle.expander_laws.proofs.Inside.{goals_named}
+use Rattle.expander_laws.proofs.Inside.{goals_named, formed_goal}
 use Rattle.expander_laws.proofs.Alternatives.{of_branch, fits, once, has, apart}
 
 module _ (T : List Position) (ranks : List ℕ) where
@@ -103,3 +103,12 @@ module _ (T : List Position) (ranks : List ℕ) where
         words_differ = by_origin (λ t k S a. has_different_words (set_cells F t S)) (λ t k S a e h.
             apart F T (taken_table g taken) (right (taken_table g taken)) t k S
             (branch_saturated (taken_table g taken) t g S k e) a h)
+
+  -- what a list of the table forms is taken
+  pub formed_taken : is_table T ranks ≡ true → 0 < length T → (xs g : List Signed) → form T xs ≡ Some g
+      → every (λ x. nat_lt (position_of x) (length T)) xs ≡ true → takes T ranks g ≡ true
+  formed_taken table some xs g e inside =
+      let ok = is_table-IsTable T ranks table some in
+      and_from (is_table T ranks && nat_lt 0 (length T)) (is_goal T g)
+      (and_from (is_table T ranks) (nat_lt 0 (length T)) table (lt-ltb 0 (length T) some))
+      (formed_goal T ok xs g e inside)

@@ -3,3 +3,4 @@ pub mod Inside
 pub mod Slots
 pub mod Alternatives
 pub mod Laws
+pub mod Named

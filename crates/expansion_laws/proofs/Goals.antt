@@ -67,7 +67,7 @@ module _ (T : List Position) (ok : IsTable T) (words : Kind → List Signed → 
       → (a : Alternative) → IsIn a (expansion T leaves g).alternatives → is_met can a ≡ true
       → IsMade T (suc d) g (document_of can child (words a.kind (branch_of T g a)) a)
   expansion_made g d can child are a i u =
-      let (t, (k, (S, j, (more, e, l)))) = expansion_from T leaves g a i in
+      let (t, (k, (S, j, few, (more, e, l)))) = expansion_from T leaves g a i in
       let (full, big) = branch_is t g S (get_in S (G.branches (G.steps T t g)) k j) in
       let (x, y) = (right t).of_branch k S more e a l in
       let same : branch_of T g a ≡ S = ap (λ z. get_or (G.branches (G.steps T z g)) a.branch []) x

@@ -16,7 +16,7 @@ use Rattle.list_laws.specs.In.{IsIn}
 use Rattle.list_laws.proofs.Lists.{from_map}
 use Rattle.alternatives.specs.Alternative as Alt
 use Rattle.alternatives.specs.Alternative.{Shape, Alternative}
-use Rattle.alternatives.specs.Limit.{LimitKind}
+use Rattle.alternatives.specs.Limit.{LimitKind, most_ends}
 use Rattle.alternatives.specs.Slots.{has_text}
 use Rattle.expansions.specs.Leaves.{Naming, by_index, by_name, plan_alternative, plan_leaf, scalar, scalars, one_or_none, scalar_leaf, result_map, truth_values, Finders, leaf}
 use Rattle.expansions.specs.Expansion.{expansion}
@@ -111,9 +111,11 @@ module _ (F : Finders) (T : List Position) where
     pub number : ℕ
     pub branch : List Signed
     pub at : slice_get (G.branches (G.steps T kind g)) number ≡ Some branch
+    -- so the branches of its kind are told
+    pub few : G.ends (G.steps T kind g) ≤ most_ends
     pub from : IsFrom kind number branch a
 
   pub origin : (g : List Signed) (a : Alternative) → IsIn a (expansion T (leaf F T) g).alternatives → HasOrigin g a
   origin g a i =
-      let (t, (k, (S, p, (more, e, l)))) = expansion_from T (leaf F T) g a i in
-      record { kind = t; number = k; branch = S; at = p; from = leaf_from t k S more e a l }
+      let (t, (k, (S, p, few, (more, e, l)))) = expansion_from T (leaf F T) g a i in
+      record { kind = t; number = k; branch = S; at = p; few = few; from = leaf_from t k S more e a l }
