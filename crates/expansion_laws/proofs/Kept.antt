@@ -1,5 +1,6 @@
 -- What an expansion keeps: without a hole all that the leaves give, and in any case nothing else.
-use Rattle.std.proofs.Common.{◌≡◌, ℕ, suc, ◌+◌, ◌⊎◌, inl, inr, ⊎_elim, Bool, true, false, cond, nat_lt, List, [], ◌∷◌, ◌++◌, flat_map, Option, Some, None, Result, Ok, Err, slice_get, refl, ap, sym, ◌∙◌, subst, arith}
+use Rattle.std.proofs.Common.{◌≡◌, ℕ, suc, ◌+◌, ◌≤◌, ◌⊎◌, inl, inr, ⊎_elim, Bool, true, false, cond, nat_lt, List, [], ◌∷◌, ◌++◌, flat_map, Option, Some, None, Result, Ok, Err, slice_get, refl, ap, sym, ◌∙◌, subst, arith}
+use Rattle.std.proofs.lemmas.Bool.{ltb-false}
 use Rattle.documents.specs.Tests.{some}
 use Rattle.documents.specs.Kind as K
 use Rattle.documents.specs.Kind.{Kind, all_kinds}
@@ -149,11 +150,12 @@ module _ (T : List Position) (leaf : Kind → ℕ → List Signed → Answer) wh
         (up (leaf t k S) j') in
         (k, (more, p, q))
 
-  -- each alternative is that of a branch
+  -- each alternative is that of a branch of a tree that passes no limit
   pub expansion_from : (g : List Signed) (a : Alternative) → IsIn a (expansion T leaf g).alternatives
       → (t : Kind) ×
       ((k : ℕ) ×
       ((S : List Signed) × (slice_get (G.branches (G.steps T t g)) k ≡ Some S)
+      × (G.ends (G.steps T t g) ≤ most_ends)
       × ((more : List Alternative) × (leaf t k S ≡ Ok more) × IsIn a more)))
   unfolding expansion
   expansion_from g a i =
@@ -163,21 +165,24 @@ module _ (T : List Position) (leaf : Kind → ℕ → List Signed → Answer) wh
             → (t : Kind) ×
             ((k : ℕ) ×
             ((S : List Signed) × (slice_get (G.branches (G.steps T t g)) k ≡ Some S)
+            × (G.ends (G.steps T t g) ≤ most_ends)
             × ((new : List Alternative) × (leaf t k S ≡ Ok new) × IsIn a new)))
         at more x y =
             let (t, u, v) = from_flat_map (at_kind T leaf g) (Ok more) all_kinds x in
-            go t (nat_lt most_ends (G.ends (G.steps T t g))) v where
-              go : (t : Kind) (b : Bool)
+            go t (nat_lt most_ends (G.ends (G.steps T t g))) refl v where
+              go : (t : Kind) (b : Bool) → nat_lt most_ends (G.ends (G.steps T t g)) ≡ b
                   → IsIn (Ok more) (cond b (Err Branches ∷ []) (from_branch T leaf t 0 (G.branches (G.steps T t g))))
                   → (t : Kind) ×
                   ((k : ℕ) ×
                   ((S : List Signed) × (slice_get (G.branches (G.steps T t g)) k ≡ Some S)
+                  × (G.ends (G.steps T t g) ≤ most_ends)
                   × ((new : List Alternative) × (leaf t k S ≡ Ok new) × IsIn a new)))
-              go t true (inl e) = absurd (no_limit more Branches e)
-              go t true (inr e) = absurd e
-              go t false v =
+              go t true few (inl e) = absurd (no_limit more Branches e)
+              go t true few (inr e) = absurd e
+              go t false few v =
                   let (k, (S, p, e)) = branch_from t 0 (G.branches (G.steps T t g)) (Ok more) v in
-                  (t, (k, (S, p, (more, sym (e ∙ ap (λ z. leaf t z S) (plus k)), y))))
+                  let l = ltb-false most_ends (G.ends (G.steps T t g)) few in
+                  (t, (k, (S, p, l, (more, sym (e ∙ ap (λ z. leaf t z S) (plus k)), y))))
                 where
                   plus : (k : ℕ) → 0 + k ≡ k
                   plus k = omega arith

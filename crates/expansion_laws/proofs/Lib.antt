@@ -4,5 +4,6 @@ pub mod PlanLeaf
 pub mod Scalars
 pub mod Parts
 pub mod Containers
+pub mod Origins
 pub mod Formed
 pub mod Goals

@@ -31,6 +31,12 @@ map_over : {A B : Type 0} (f : A → B) (xs ys : List A) → map f (xs ++ ys) �
 map_over f [] ys = refl
 map_over f (x ∷ xs) ys = ap (λ z. f x ∷ z) (map_over f xs ys)
 
+-- without first places nothing stands at them
+pub no_heads : (n : ℕ) (xs : List (List Signed)) → length xs ≡ 0 → take n (heads_from 0 xs) ≡ []
+no_heads zero xs e = refl
+no_heads (suc n) [] e = refl
+no_heads (suc n) (x ∷ xs) e = absurd (omega (arith, e))
+
 module _ (can : List Signed → Bool) (child : List Signed → Document) (T : List Position) (frame : Frame) where
   abbrev Child : Placed → Slot × Document
   Child m = (m.slot, child m.goal)
@@ -149,11 +155,6 @@ module _ (can : List Signed → Bool) (child : List Signed → Document) (T : Li
           ∙ ap₂ (λ x y. x ++ y) (name_copies f.cell f.first (min n f.room) (child f.goal)) (more (n - f.room))
           ∙ sym (map_over (at_slot C) (O.copies f.cell f.first (min n f.room) (child f.goal))
           (filler_slots can child (n - f.room) fs))
-
-    no_heads : (n : ℕ) (xs : List (List Signed)) → length xs ≡ 0 → take n (heads_from 0 xs) ≡ []
-    no_heads zero xs e = refl
-    no_heads (suc n) [] e = refl
-    no_heads (suc n) (x ∷ xs) e = absurd (omega (arith, e))
 
     pub object_same : (k : ℕ) (q : Plan) → IsComplete T frame q → frame.heads ≡ 0 → Distinct frame.cells
         → document_of can child (name C) (plan_alternative by_name K.Object k T frame q) ≡ object_of C

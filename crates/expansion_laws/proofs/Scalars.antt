@@ -67,7 +67,7 @@ module _ {A : Type 0} (T : List Position) (t : Kind) (shape : A → Shape)
   abbrev ok : Option A → Result (Option A) LimitKind
   ok o = Ok o
 
-  one_found : (r : Result (Option A) LimitKind) (xs : List A) → result_map one_or_none r ≡ Ok xs
+  pub one_found : (r : Result (Option A) LimitKind) (xs : List A) → result_map one_or_none r ≡ Ok xs
       → ((x : A) → IsIn x xs → r ≡ Ok (Some x)) × ((r ≡ Ok None) ⊎ ((x : A) × IsIn x xs))
   one_found (Ok None) xs e =
       let q : [] ≡ xs = ok_same [] xs (result_map one_or_none (ok None)) refl e in

@@ -27,6 +27,34 @@ pile_other (suc n) c e before ne = pile_other n c e (c ∷ before) ne ∙ go (na
   go true p = absurd (ne (eqb-true c e p))
   go false p = refl
 
+-- fillers stand in different cells
+module _ (T : List Position) (frame : Frame) (q : Plan) where
+  cells_differ : (cs : List ℕ) → Distinct cs → Distinct (map (λ f. f.cell) (flat_map (filler_at T frame q) cs))
+  cells_differ [] d = tt
+  cells_differ (c ∷ cs) d =
+      go (goal_of T frame (In c, [])) (frame.room c (count_in c q.members)) (cells_differ cs d.1) where
+        away : (fs : List Filler) → ((f : Filler) → IsIn f fs → IsIn f.cell cs) → IsIn c (map (λ f. f.cell) fs) → ⊥
+        away [] h i = i
+        away (f ∷ fs) h (inl e) = d.0 (subst (λ z. IsIn z cs) (sym e) (h f (inl refl)))
+        away (f ∷ fs) h (inr i) = away fs (λ g j. h g (inr j)) i
+
+        go : (o : Option (List Signed)) (n : ℕ) → Distinct (map (λ f. f.cell) (flat_map (filler_at T frame q) cs))
+            → Distinct (map (λ f. f.cell) (with_room c (count_in c q.members) o n ++ flat_map (filler_at T frame q) cs))
+        go o zero h = h
+        go None (suc n) h = h
+        go (Some g) (suc n) h = (
+          away (flat_map (filler_at T frame q) cs) (λ f i.
+              let (e, a, b) = from_flat_map (filler_at T frame q) f cs i in
+              let k = filler_is T frame q e f b in subst (λ z. IsIn z cs) (sym k.cell) a),
+          h,
+        )
+
+  pub fillers_differ : Distinct frame.cells → Distinct (map (λ f. f.cell) (fillers T frame q))
+  fillers_differ d = go (nat_eq (need frame q) 0) where
+    go : (b : Bool) → Distinct (map (λ f. f.cell) (cond b [] (flat_map (filler_at T frame q) frame.cells)))
+    go true = tt
+    go false = cells_differ frame.cells d
+
 module _ (C : Cells) where
   abbrev Named : List ℕ → List (ℕ × Document) → List (List ℕ × Document)
   Named before vs = named C before vs
@@ -99,35 +127,7 @@ module _ (C : Cells) where
             ∙ sym (map-append (at_slot C) (copies f.cell f.first (min n f.room) (child f.goal))
             (filler_slots can child (n - f.room) fs))
 
-    -- fillers stand in different cells
     module _ (T : List Position) (frame : Frame) (q : Plan) where
-      cells_differ : (cs : List ℕ) → Distinct cs → Distinct (map (λ f. f.cell) (flat_map (filler_at T frame q) cs))
-      cells_differ [] d = tt
-      cells_differ (c ∷ cs) d =
-          go (goal_of T frame (In c, [])) (frame.room c (count_in c q.members)) (cells_differ cs d.1) where
-            away : (fs : List Filler) → ((f : Filler) → IsIn f fs → IsIn f.cell cs) → IsIn c (map (λ f. f.cell) fs) → ⊥
-            away [] h i = i
-            away (f ∷ fs) h (inl e) = d.0 (subst (λ z. IsIn z cs) (sym e) (h f (inl refl)))
-            away (f ∷ fs) h (inr i) = away fs (λ g j. h g (inr j)) i
-
-            go : (o : Option (List Signed)) (n : ℕ) → Distinct (map (λ f. f.cell) (flat_map (filler_at T frame q) cs))
-                → Distinct (map (λ f. f.cell) (with_room c (count_in c q.members) o n
-                ++ flat_map (filler_at T frame q) cs))
-            go o zero h = h
-            go None (suc n) h = h
-            go (Some g) (suc n) h = (
-              away (flat_map (filler_at T frame q) cs) (λ f i.
-                  let (e, a, b) = from_flat_map (filler_at T frame q) f cs i in
-                  let k = filler_is T frame q e f b in subst (λ z. IsIn z cs) (sym k.cell) a),
-              h,
-            )
-
-      fillers_differ : Distinct frame.cells → Distinct (map (λ f. f.cell) (fillers T frame q))
-      fillers_differ d = go (nat_eq (need frame q) 0) where
-        go : (b : Bool) → Distinct (map (λ f. f.cell) (cond b [] (flat_map (filler_at T frame q) frame.cells)))
-        go true = tt
-        go false = cells_differ frame.cells d
-
       pub slots_named : Distinct frame.cells
           → named C [] (values can child T frame q)
           ≡ map (at_slot C)
@@ -143,7 +143,7 @@ module _ (C : Cells) where
           let e = after_times f.cell [] q.members in
           let h : count_in c q.members ≡ count_in f.cell q.members = ap (λ z. count_in z q.members) (sym k.cell) in
           let first = k.first in omega (arith, first, h, e))
-          (fillers_differ d))
+          (fillers_differ T frame q d))
           ∙ sym (map-append (at_slot C)
           (member_slots (λ m. child_of can child (goal_of T frame (In m.cell, m.served))) [] q.members)
           (filler_slots can child (need frame q) (fillers T frame q)))
