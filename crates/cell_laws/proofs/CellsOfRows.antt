@@ -138,9 +138,11 @@ module _ (characters : List ℕ) (different : Distinct characters)
     words_are = record {
       of_cell = λ c w i.
           let (a, b) = from_filter (λ w. nat_eq (place (vector T (naming T S) w) (vectors_of T (naming T S) rows)) c)
-          w (shorter characters far) i in
-          ((shorter_is characters different scalars far w a).1, eqb-true
-              (place (vector T (naming T S) w) (vectors_of T (naming T S) rows)) c b);
+          w (shorter characters far) i in (
+            (shorter_is characters different scalars far w a).1,
+            eqb-true
+                (place (vector T (naming T S) w) (vectors_of T (naming T S) rows)) c b,
+          );
       differ = λ c. differ_filter (λ w. nat_eq (place (vector T (naming T S) w) (vectors_of T (naming T S) rows)) c)
           (shorter characters far) (shorter_differ characters different scalars far);
       all = exact_count;

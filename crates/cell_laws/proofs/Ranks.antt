@@ -68,14 +68,14 @@ module _ (letters : List ℕ) (to : ℕ → ℕ → ℕ) (in_cell : ℕ → Bool
           ⊎_elim (λ a. omega (arith, j, a)) (λ a. omega (arith, b, a.1)) (cut m (to r c)) in
           get_or_append_left (map (λ w. c ∷ w) (of_length letters to in_cell m (to r c))) _ [] k (omega (arith, n, q))
           ∙ get_or-map (λ w. c ∷ w) (of_length letters to in_cell m (to r c)) k [] []
-              (let z = counted m (to r c) in omega (arith, z, q))
+          (let z = counted m (to r c) in omega (arith, z, q))
           ∙ ap (λ z. c ∷ z) (h (to r c) k b q)
       at false e more =
           let j = ltb-false k (count m (to r c)) e in
           let q : count m (to r c) ≡ count_of letters to in_cell m (to r c) =
           ⊎_elim (λ a. a) (λ a. absurd (omega (arith, b, j, a.0))) (cut m (to r c)) in
           get_or-append_right (map (λ w. c ∷ w) (of_length letters to in_cell m (to r c))) _ k []
-              (omega (arith, n, j, q))
+          (omega (arith, n, j, q))
           ∙ ap (λ z. get_or (flat_map (λ c. map (λ w. c ∷ w) (of_length letters to in_cell m (to r c))) cs) (k - z)
           []) (n ∙ sym q)
           ∙ more (omega (arith, b)) (omega (arith, l, j, q)) h

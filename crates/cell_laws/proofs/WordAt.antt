@@ -34,7 +34,7 @@ module _ (letters : List ℕ) (to : ℕ → ℕ → ℕ) (in_cell : ℕ → Bool
           let h = count_rises (suc m) n r (omega (arith, l, ne)) in
           let q = count_is letters to in_cell n r in
           get_or_append_left (shorter letters to in_cell n r) (of_length letters to in_cell n r) [] k
-              (omega (arith, h, q, b))
+          (omega (arith, h, q, b))
           ∙ nth n m r k (omega (arith, l, ne)) a b c
     ] where
       here : get_or (shorter letters to in_cell m r ++ of_length letters to in_cell m r) k [] ≡ word_at letters to
@@ -42,6 +42,6 @@ module _ (letters : List ℕ) (to : ℕ → ℕ → ℕ) (in_cell : ℕ → Bool
       here =
           let q = count_is letters to in_cell m r in
           get_or-append_right (shorter letters to in_cell m r) (of_length letters to in_cell m r) k []
-              (omega (arith, q, a))
+          (omega (arith, q, a))
           ∙ ap (λ z. get_or (of_length letters to in_cell m r) (k - z) []) q
           ∙ word_is letters to in_cell counts bound cut m r (k - count letters to in_cell m r) c (omega (arith, a, b))

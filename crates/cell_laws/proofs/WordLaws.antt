@@ -59,13 +59,13 @@ module _ (rank : ℕ → ℕ) where
     Of (suc m) r [] h e = absurd (omega (arith, e))
     Of (suc m) r (c ∷ w) h e = go letters h.0.0 (in_map (λ w. c ∷ w) w _
         (Of m (to r c) w (h.0.1, h.1) (omega (arith, e)))) where
-      go : (cs : List ℕ) → IsIn c cs → IsIn (c ∷ w) (map (λ w. c ∷ w) (of_length letters to in_cell m (to r c)))
-          → IsIn (c ∷ w) (flat_map (λ c. map (λ w. c ∷ w) (of_length letters to in_cell m (to r c))) cs)
-      go [] i k = absurd i
-      go (b ∷ cs) (inl q) k =
-          in_left (c ∷ w) _ _
-          (subst (λ z. IsIn (c ∷ w) (map (λ w. z ∷ w) (of_length letters to in_cell m (to r z)))) q k)
-      go (b ∷ cs) (inr i) k = in_right (c ∷ w) _ _ (go cs i k)
+          go : (cs : List ℕ) → IsIn c cs → IsIn (c ∷ w) (map (λ w. c ∷ w) (of_length letters to in_cell m (to r c)))
+              → IsIn (c ∷ w) (flat_map (λ c. map (λ w. c ∷ w) (of_length letters to in_cell m (to r c))) cs)
+          go [] i k = absurd i
+          go (b ∷ cs) (inl q) k =
+              in_left (c ∷ w) _ _
+              (subst (λ z. IsIn (c ∷ w) (map (λ w. z ∷ w) (of_length letters to in_cell m (to r z)))) q k)
+          go (b ∷ cs) (inr i) k = in_right (c ∷ w) _ _ (go cs i k)
 
     From : (m r : ℕ) (w : List ℕ) → IsIn w (of_length letters to in_cell m r)
         → Leads letters to in_cell r w × (length w ≡ m)

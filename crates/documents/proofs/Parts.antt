@@ -68,4 +68,4 @@ pub value_well_formed : (p : List (List ℕ)) (j v : Json) → is_json j ≡ tru
 value_well_formed [] j v h e = ap is_json (sym (same_Some j v e)) ∙ h
 value_well_formed (t ∷ p) j v h e =
     below_child p (child_at t j) v (λ u is. child_well_formed t j u h is)
-        (λ u well at. value_well_formed p u v well at) e
+    (λ u well at. value_well_formed p u v well at) e

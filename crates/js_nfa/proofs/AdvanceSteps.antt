@@ -46,7 +46,7 @@ module _ (first : Bool) (read : ℕ → Bool) (c : ℕ) where
     length-reads (either ts) base b = length-reads_of_one ts base b
     length-reads (repeated t low None) base b =
         length-copies_on (λ at some. reads_next t first read c at some)
-            (λ at some. ends_here t first false read at some)
+        (λ at some. ends_here t first false read at some)
         (count_of t) (length-reads t) (low - 1) base b
         ∙ ap (λ k. k * count_of t) (omega arith)
     length-reads (repeated t low (Some high)) base b =

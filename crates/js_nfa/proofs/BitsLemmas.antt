@@ -301,7 +301,7 @@ pub added-fits : (bits count place : ℕ) → bits < 2 ^ count → place + count
 added-fits bits count place small one =
     let below = shl_below bits count place small in
     let most : 2 ^ (count + place) ≤ 2 ^ 64 = pow_mono {i = count + place} {j = 64} (omega (arith, one)) in
-        omega (arith, below, most)
+    omega (arith, below, most)
 
 module _ (words : List ℕ) (len word bits count : ℕ) (room : len + count ≤ 64 * length words) (some : 0 < count)
     (one : len % 64 + count ≤ 64) (small : bits < 2 ^ count)

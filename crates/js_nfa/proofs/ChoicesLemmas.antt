@@ -303,7 +303,7 @@ module _ (ts : Trees) (c size bits : ℕ) (choice : IsChoice ts c size bits) (fi
       sym (ends_after-all (λ at some. ends_here (either ts) first last read at some) size read
       (λ at b. sym (choice.ends first last read at b)) low n s base begins ends f)
       ∙ ap₂ (λ k x. ends_after
-          (λ at some. ends_here (either ts) first last read at some) size low k 0 base begins x) e g
+      (λ at some. ends_here (either ts) first last read at some) size low k 0 base begins x) e g
       ∙ ap (λ k. ends_after (λ at some. ends_here (either ts) first last read at some) k low (copies low high) 0 base
       begins (nat_le low 0 && begins)) (sym choice.counted)
       ∙ ends_repeated first last read (either ts) low high base begins

@@ -164,7 +164,7 @@ module _ (read : ℕ → Bool) where
   flags_of-copies zero base bits first begins some one h e = absurd (omega (arith, some))
   flags_of-copies (suc count) base bits first begins some one h e =
       ext_get_or false _ _ (length-flags_of ((bits * 2 + first) ∷ []) (suc count)
-          ∙ sym (length-moved (suc count) base begins))
+      ∙ sym (length-moved (suc count) base begins))
       (λ p l. let within : p < suc count = rw length-flags_of at l in
       get_or-flags_of ((bits * 2 + first) ∷ []) (suc count) p within ∙ each p within) where
         inside : (p : ℕ) → p < 64 → bit_of ((bits * 2 + first) ∷ []) p ≡ eqb (bit_at (bits * 2 ^ 1 + first) p) 1

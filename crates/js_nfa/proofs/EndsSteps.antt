@@ -47,7 +47,7 @@ module _ (first last : Bool) (read : ℕ → Bool) (t : Tree) (low : ℕ) (high 
       ap (λ k. ends_after (λ at some. ends_here t first last read at some) (count_of t) low k 0 base begins ends)
       (all n (copies low high) e)
       ∙ ap (ends_after (λ at some. ends_here t first last read at some) (count_of t) low
-          (copies low high) 0 base begins) f
+      (copies low high) 0 base begins) f
       ∙ ends_repeated first last read t low high base begins where
         all : (n m : ℕ) → n ≡ m → n - 0 ≡ m
         all n m e = omega (arith, e)
@@ -58,10 +58,10 @@ module _ (first last : Bool) (read : ℕ → Bool) (t : Tree) (low : ℕ) (high 
       → Left (n - i) i at here ends → Left (n - (i + 1)) (i + 1) after one more
   ends-next n i at after here one ends more h e f g left =
       ap (λ k. ends_after (λ at some. ends_here t first last read at some) (count_of t) low
-          (n - (i + 1)) k after one more)
+      (n - (i + 1)) k after one more)
       (next i)
       ∙ ap (λ k. ends_after (λ at some. ends_here t first last read at some) (count_of t) low (n - (i + 1))
-          (suc i) k one more) f
+      (suc i) k one more) f
       ∙ ap (ends_after (λ at some. ends_here t first last read at some) (count_of t) low (n - (i + 1)) (suc i)
       (at + count_of t) one) (g ∙ ap (λ k. ends || (nat_le low k && one)) (next i))
       ∙ ap (λ x. ends_after (λ at some. ends_here t first last read at some) (count_of t) low (n - (i + 1)) (suc i)

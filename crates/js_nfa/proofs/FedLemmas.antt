@@ -26,7 +26,7 @@ feed-flag write s t r xs i l f e h =
     let here : fed_places (numbers_from i (drop i xs)) ≡ fed.usize i ++ left =
     ap fed_places (next-flag xs i i l
     ∙ ap (λ b. if b then i ∷ numbers_from (suc i) (drop (suc i) xs) else numbers_from (suc i) (drop (suc i) xs))
-        (sym f)) in
+    (sym f)) in
     ap (λ j. fold write t (fed_places (numbers_from j (drop j xs)))) n
     ∙ ap (λ z. fold write z left) e ∙ sym (fold-append write s (fed.usize i) left)
     ∙ sym (ap (fold write s) here) ∙ h
@@ -39,6 +39,6 @@ skip-flag write s t r xs i l f e h =
     let here : fed_places (numbers_from i (drop i xs)) ≡ fed_places (numbers_from (suc i) (drop (suc i) xs)) =
     ap fed_places (next-flag xs i i l
     ∙ ap (λ b. if b then i ∷ numbers_from (suc i) (drop (suc i) xs) else numbers_from (suc i) (drop (suc i) xs))
-        (sym f)) in
+    (sym f)) in
     ap (λ z. fold write z (fed_places (numbers_from (i + 1) (drop (i + 1) xs)))) e
     ∙ ap (λ j. fold write s (fed_places (numbers_from j (drop j xs)))) n ∙ sym (ap (fold write s) here) ∙ h

@@ -99,7 +99,7 @@ module _ (t : Tree) (c : ℕ) (within : Bool) (set : IsOptionThat within t c) (f
       f ∙ ap (λ z. flags ++ z)
       (sym (next_after-same false (λ at some. (some && within) ∷ []) (λ at some. some ∷ []) (λ at some. some || read at)
       (λ at some. some || read at) 1 (λ at b. ap (λ w. (b && w) ∷ []) e ∙ ap (λ x. x ∷ []) (and-true b))
-          (λ at b. refl) n
+      (λ at b. refl) n
       (length flags) begins)
       ∙ options-whole flags begins)
 
@@ -148,6 +148,6 @@ module _ (t : Tree) (c : ℕ) (within : Bool) (set : IsOptionThat within t c) (f
       (nat_le low 0 && begins) refl
       ∙ ap (λ j. nat_le low j && (begins || some_in read n base)) all)
       ∙ ap (λ k. ends_after (λ at some. ends_here t first last read at some) k low n 0 base begins
-          (nat_le low 0 && begins))
+      (nat_le low 0 && begins))
       (sym option-count)
       ∙ ends_repeated first last read t low (Some n) base begins

@@ -119,7 +119,7 @@ ends-none first last read t base begins e q =
 
 pub reads-none : (first : Bool) (read : ℕ → Bool) (c : ℕ) (t : Tree) (flags after : List Bool) (begins : Bool)
     (count : ℕ) → begins ≡ false → Quiet read (length flags) → count ≡ count_of t → after ≡ flags
-        ++ replicate count false
+    ++ replicate count false
     → after ≡ flags ++ reads_next t first read c (length flags) begins
 reads-none first read c t flags after begins count e q size f =
     f ∙ ap (λ k. flags ++ replicate k false) size

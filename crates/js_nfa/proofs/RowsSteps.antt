@@ -132,7 +132,7 @@ module _ (t : Tree) (read : ℕ → Bool) (q : ℕ) where
       (flag_at (follow_each t false all true n) q) after (follow-more all n (λ p l. h p (omega (arith, l))))
       (some (read n))
       (sym (flags_join (follow_each t false read true n) (if read n then may_follow t false
-          (only n) 0 false else []) q).0
+      (only n) 0 false else []) q).0
       ∙ e) where
         some : (b : Bool) → flag_at (if b then may_follow t false (only n) 0 false else []) q ≡ true
             → flag_at (may_follow t false (only n) 0 false) q ≡ true
@@ -210,7 +210,7 @@ module _ (t : Tree) (count : ℕ) (counted : count ≡ count_of t) (always : Lis
             (λ e. shows c q ascii (all-is q ∙ e)))
             ∙ ap₂ (λ a b. a && b)
             (sym (joined-shown t read q always rows shown count (first q) (λ p. each p q) (count_of t)
-                (omega (arith, counted)))
+            (omega (arith, counted)))
             ∙ ap (λ n. flag_at (joined always rows read n) q) (sym counted ∙ sym as-many))
             (sym (all-is q))
             ∙ sym ((flags_join (joined always rows read (length rows)) (row having c) q).1)

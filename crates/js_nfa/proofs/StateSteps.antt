@@ -127,7 +127,7 @@ read-all t w i first flags d past start s f =
 -- at the beginning of a word
 pub read-none : (t : Tree) (flags : List Bool) (d : Bool) → flags ≡ []
     → d ≡ ends_here t true false (flag_at flags) 0 true → d ≡ false
-        → pattern_state t [] ≡ reading (numbers_from 0 flags)
+    → pattern_state t [] ≡ reading (numbers_from 0 flags)
 read-none t flags d e f g =
     sym (first-none t flags d e f) ∙ ap (λ x. if x then done else reading (numbers_from 0 flags)) g
 

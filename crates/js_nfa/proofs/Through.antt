@@ -69,7 +69,7 @@ module _ (first last : Bool) (read : ℕ → Bool) where
         (through_copies (λ at some. ends_here t first last read at some) (count_of t) (high - low) low base a)
         (through_copies (λ at some. ends_here t first last read at some) (count_of t) (high - low) low base b)
         (keeps_copies (λ at some. ends_here t first last read at some) (keeps t) (count_of t)
-            (high - low) low base a b f)
+        (high - low) low base a b f)
 
     keeps_in_turn : (ts : Trees) → Keeps (ends_here_in_turn ts first last read)
     keeps_in_turn no_trees base a b f = f
@@ -123,7 +123,7 @@ module _ (one : ℕ → Bool → Bool) (count : ℕ) where
   after_some low zero i base here ends h = refl
   after_some low (suc more) i base here ends h =
       ap (λ x. ends_after one count low more (suc i) (base + count) (one base here)
-          ((ends || here) || (x && one base here)))
+      ((ends || here) || (x && one base here)))
       (le-leb low (suc i) (omega (arith, h)))
       ∙ after_some low more (suc i) (base + count) (one base here) (ends || here) (omega (arith, h))
       ∙ or_assoc ends here (through_some one count more (base + count) (one base here))

@@ -19,7 +19,7 @@ pub own_known : (knows : Atom → Bool) (T : List Position) (steps p : ℕ) → 
 own_known knows T zero p some h = absurd (some refl)
 own_known knows T (suc n) p some h =
     (every-parts knows (own_atoms (position_at T p)) (flat_map (atoms_within T n)
-        (asked_of_string (position_at T p))) h).0
+    (asked_of_string (position_at T p))) h).0
 
 pub asked_known : (knows : Atom → Bool) (T : List Position) (steps p : ℕ) → steps ≢ 0
     → every knows (atoms_within T steps p) ≡ true

@@ -42,7 +42,7 @@ module _ (T : List Position) (ranks : List ℕ) (found : List ℕ) where
       and_from _ _ (each (asked_of_string (position_at T p)) here (fall p))
       (rises-earlier fall (seen ++ p ∷ []) ps
       (ap (λ xs. every (has_place xs) found) (append_assoc seen (p ∷ []) ps) ∙ all) more
-          (and_parts _ (rises ranks ps) r).1)
+      (and_parts _ (rises ranks ps) r).1)
     where
       each : (cs : List ℕ) → every (has_place found) cs ≡ true
           → AllByRecursion (λ q. get_or ranks q 0 < get_or ranks p 0) cs → every (has_place seen) cs ≡ true
@@ -118,7 +118,7 @@ leaves-atoms T (q ∷ qs) = go (is_leaf (position_at T q)) refl (leaves-atoms T 
   go : (b : Bool) → is_leaf (position_at T q) ≡ b
       → atoms_of T (filter (λ k. is_leaf (position_at T k)) qs) ≡ atoms_of T qs
       → atoms_of T (cond b (q ∷ filter (λ k. is_leaf (position_at T k)) qs)
-          (filter (λ k. is_leaf (position_at T k)) qs))
+      (filter (λ k. is_leaf (position_at T k)) qs))
       ≡ atoms_of T (q ∷ qs)
   go true e h = ap (λ xs. own_atoms (position_at T q) ++ xs) h
   go false e h = h ∙ sym (ap (λ xs. xs ++ atoms_of T qs) (own-none (position_at T q) e))

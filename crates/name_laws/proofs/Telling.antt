@@ -39,7 +39,7 @@ leaf-next truth (Match r) rest k h = refl
 leaf-next truth (LengthMin n) rest k h = go (nat_eq n 0) h where
   go : (b : Bool) → not b ≡ true
       → get_or (map truth ((if b then [] else W.LengthMin n ∷ []) ++ rest)) (suc k) false ≡ get_or
-          (map truth rest) k false
+      (map truth rest) k false
   go true e = absurd (true≢false (sym e))
   go false e = refl
 leaf-next truth (LengthMax n) rest k h = refl
@@ -85,7 +85,7 @@ module _ (T : List Position) (truth : Atom → Bool) where
             subst (λ k. is_right T truth (set room p b) k ≡ true) (sym (eqb-true q p a)) (right-itself room p b l e)
         | inr a ↦
             subst (λ c. beq c (name_holds T truth q) ≡ true) (sym
-                (get_or-set_other room p q b false (eqb-false q p a))) h
+            (get_or-set_other room p q b false (eqb-false q p a))) h
       ]
 
   pub right-more : (room : List Bool) (qs : List ℕ) (p : ℕ) (b : Bool) → p < length room → b ≡ name_holds T truth p

@@ -111,7 +111,7 @@ module _ (C : Cells) where
 
             go : (o : Option (List Signed)) (n : ℕ) → Distinct (map (λ f. f.cell) (flat_map (filler_at T frame q) cs))
                 → Distinct (map (λ f. f.cell) (with_room c (count_in c q.members) o n
-                    ++ flat_map (filler_at T frame q) cs))
+                ++ flat_map (filler_at T frame q) cs))
             go o zero h = h
             go None (suc n) h = h
             go (Some g) (suc n) h = (

@@ -109,9 +109,9 @@ module _ (one : ℕ → Bool → Bool) (count n : ℕ) (f : ℕ → List ℕ) (r
       (ends_one base xs (agrees_left read base (reads xs) _ a))
       ∙ ap (λ b. is_among xs n || b)
       (ends_some k (base + count) (flat_map f xs) (later base xs _ a)
-          ∙ ap (λ z. is_among z n) (flat_flat (ends_within f k) f xs))
+      ∙ ap (λ z. is_among z n) (flat_flat (ends_within f k) f xs))
       ∙ ap (λ z. is_among z n || is_among (flat_map (λ i. flat_map (ends_within f k) (f i)) xs) n)
-          (sym (flat_single xs))
+      (sym (flat_single xs))
       ∙ sym (among_both (λ i. i ∷ []) (λ i. flat_map (ends_within f k) (f i)) n xs)
 
   -- after one more copy
@@ -120,7 +120,7 @@ module _ (one : ℕ → Bool → Bool) (count n : ℕ) (f : ℕ → List ℕ) (r
       ≡ flat_map (λ i. flat_map W (ends_after f l i)) (flat_map f xs)
   shift W l xs =
       flat_same (λ i. flat_map W (flat_map (ends_after f l) (f i)))
-          (λ i. flat_map (λ h. flat_map W (ends_after f l h)) (f i))
+      (λ i. flat_map (λ h. flat_map W (ends_after f l h)) (f i))
       xs (λ i. flat_flat W (ends_after f l) (f i))
       ∙ sym (flat_flat (λ i. flat_map W (ends_after f l i)) f xs)
 
@@ -188,7 +188,7 @@ module _ (w : List ℕ) (read : ℕ → Bool) where
   start_ends (c ∷ v) xs =
       same_truth _ _ (λ h. absurd (false≢true (and_parts (is_among xs (length (c ∷ v))) false h).1))
       (λ h. let (i, a, k) = from_flat_map (ends at_start (c ∷ v)) (length (c ∷ v)) xs
-          (from_among (length (c ∷ v)) _ h) in
+      (from_among (length (c ∷ v)) _ h) in
       let (e, f) = sound at_start (c ∷ v) i (length (c ∷ v)) k in absurd (omega (arith, f)))
 
   end_ends : (xs : List ℕ) → is_among xs (length w) && true ≡ is_among (flat_map (ends at_end w) xs) (length w)
@@ -216,7 +216,7 @@ module _ (w : List ℕ) (read : ℕ → Bool) where
       ap (one t base) (sym (below_lacks (length w) (pieces t w xs)))
       ∙ h base (below (length w) (pieces t w xs))
       (subst (Agrees read base) (sym (read_same w t (below (length w) (pieces t w xs)) (pieces t w xs)
-          (below_same (length w) (pieces t w xs)))) a)
+      (below_same (length w) (pieces t w xs)))) a)
 
   pub ends_pieces : (t : Tree) → EndsHere t → (base : ℕ) (xs : List ℕ)
       → Agrees read base (last_read t w (pieces t w xs))
@@ -224,7 +224,7 @@ module _ (w : List ℕ) (read : ℕ → Bool) where
   ends_pieces t h base xs a =
       ap (λ b. is_among xs (length w) || b) (ends_later t h base xs a)
       ∙ sym (pieces_end t w (length w) xs refl ∙ among_append (length w) xs
-          (piece t w (below (length w) (pieces t w xs))))
+      (piece t w (below (length w) (pieces t w xs))))
 
   ends_last : (t : Tree) → EndsHere t → (base : ℕ) (xs : List ℕ) → Agrees read base (last_read t w (pieces t w xs))
       → one t base (is_among xs (length w) || one t base false) ≡ is_among (pieces t w (piece t w xs)) (length w)
@@ -237,7 +237,7 @@ module _ (w : List ℕ) (read : ℕ → Bool) where
       → (if b then false else through_copies (one t) (count_of t) (high - low) low base (is_among xs (length w)))
       ≡ is_among
       (flat_map (λ i. if b then [] else flat_map (ends_within (ends t w) (high - low))
-          (ends_after (ends t w) low i)) xs)
+      (ends_after (ends t w) low i)) xs)
       (length w)
   bounded t h low high base xs a true e =
       sym (ap (λ z. is_among z (length w)) (flat_none xs))

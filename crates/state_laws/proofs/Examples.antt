@@ -79,7 +79,7 @@ first_a =
     in_turn
     (trees_of
     (repeated (either (trees_of
-        (in_turn (trees_of (at_start ∷ letter_a ∷ [])) ∷ letter_b ∷ []))) 0 None ∷ letter_c ∷ []))
+    (in_turn (trees_of (at_start ∷ letter_a ∷ [])) ∷ letter_b ∷ []))) 0 None ∷ letter_c ∷ []))
 
 first_a_first : pattern_state first_a (codes "a") ≡ reading (0 ∷ [])
 unfolding pattern_state

@@ -22,7 +22,7 @@ module _ (one two : ℕ → Bool → Bool) (same : (base : ℕ) (b : Bool) → o
   some_same m n (suc k) base b e =
       ap (λ x. b || x)
       (ap (λ x. through_some one m k (base + m) x) (same base b)
-          ∙ ap (λ x. through_some one m k (base + x) (two base b)) e
+      ∙ ap (λ x. through_some one m k (base + x) (two base b)) e
       ∙ some_same m n k (base + n) (two base b) e)
 
   copies_same : (m n k l base : ℕ) (b : Bool) → m ≡ n → through_copies one m k l base b
@@ -71,7 +71,7 @@ module _ (first last : Bool) (read : ℕ → Bool) where
         ap (λ x. ends_here_in_turn (all_without_end ts) first last read (base + count_of (without_end t)) x)
         (ends_open t base b)
         ∙ ap (λ x. ends_here_in_turn (all_without_end ts) first last read (base + x)
-            (ends_here t first false read base b))
+        (ends_here t first false read base b))
         (count_open t)
         ∙ ends_open_in_turn ts (base + count_of t) (ends_here t first false read base b)
 
@@ -82,7 +82,7 @@ module _ (first last : Bool) (read : ℕ → Bool) where
         ap (λ x. x || ends_here_of_one (all_without_end ts) first last read (base + count_of (without_end t)) b)
         (ends_open t base b)
         ∙ ap (λ x. ends_here t first false read base b || ends_here_of_one (all_without_end ts) first last read
-            (base + x) b)
+        (base + x) b)
         (count_open t)
         ∙ ap (λ x. ends_here t first false read base b || x) (ends_open_of_one ts (base + count_of t) b)
 
@@ -153,17 +153,17 @@ module _ (w : List ℕ) (c : ℕ) (read : ℕ → Bool) where
       → Same (length w) ys zs → Agrees read base (in_copies (λ some. last_read t w some) (flat_map (ends t w)) k zs)
       → in_copies (λ some. last_read t longer some) (flat_map (ends t longer)) k xs
       ≡ next_copies (λ at some. reads_next t (is_empty w) read c at some) (one t) (count_of t) k base
-          (is_among ys (length w))
+      (is_among ys (length w))
   copies_next t h zero base xs ys zs s r a = refl
   copies_next t h (suc k) base xs ys zs s r a =
       ap (λ z. z ++ in_copies (λ some. last_read t longer some) (flat_map (ends t longer)) k
-          (flat_map (ends t longer) xs))
+      (flat_map (ends t longer) xs))
       (h base xs ys zs s r (agrees_left read base (last_read t w zs) _ a))
       ∙ ap (λ z. reads_next t (is_empty w) read c base (is_among ys (length w)) ++ z)
       (copies_next t h k (base + count_of t) (flat_map (ends t longer) xs) (flat_map (ends (without_end t) w) ys)
       (flat_map (ends t w) zs) (steps_longer t xs ys s) (steps_open w t ys zs r) (later t base zs _ a)
       ∙ ap (next_copies (λ at some. reads_next t (is_empty w) read c at some) (one t) (count_of t) k
-          (base + count_of t))
+      (base + count_of t))
       (sym (ends_next t base ys zs r (agrees_left read base (last_read t w zs) _ a))))
 
   copies_on_next : (t : Tree) → Next t → (k base : ℕ) (xs ys zs : List ℕ) → Same (suc (length w)) xs ys
@@ -197,7 +197,7 @@ module _ (w : List ℕ) (c : ℕ) (read : ℕ → Bool) where
       (copies_on_next t h k (base + count_of t) (flat_map (ends t longer) xs) (flat_map (ends (without_end t) w) ys)
       (flat_map (ends t w) zs) (steps_longer t xs ys s) (steps_open w t ys zs r) (later t base zs _ a)
       ∙ ap (next_copies_on (λ at some. reads_next t (is_empty w) read c at some) (one t) (count_of t) k
-          (base + count_of t))
+      (base + count_of t))
       (sym (ends_next t base ys zs r (agrees_left read base (last_read t w zs) _ a))))
 
   mutual

@@ -114,7 +114,7 @@ among_append j xs ys =
     (λ h. ⊎_elim (λ a. or_left _ _ (in_among j xs a)) (λ b. or_right _ _ (in_among j ys b))
     (in_append j xs ys (from_among j (xs ++ ys) h)))
     (λ h. in_among j (xs ++ ys) (⊎_elim (λ a. in_left j xs ys (from_among j xs a))
-        (λ b. in_right j xs ys (from_among j ys b))
+    (λ b. in_right j xs ys (from_among j ys b))
     (or_cases (is_among xs j) (is_among ys j) h)))
 
 -- what comes of two functions at each place

@@ -155,12 +155,12 @@ done_longer : (t : Tree) (w : List ℕ) (c : ℕ)
     → is_done t (w ++ c ∷ [])
     ≡ is_done t w
     || is_among (flat_map (ends (without_end t) (w ++ c ∷ [])) (places_to (length (w ++ c ∷ []))))
-        (length (w ++ c ∷ []))
+    (length (w ++ c ∷ []))
 done_longer t w c = same_truth _ _ to from where
   to : is_done t (w ++ c ∷ []) ≡ true
       → (is_done t w
       || is_among (flat_map (ends (without_end t) (w ++ c ∷ [])) (places_to (length (w ++ c ∷ []))))
-          (length (w ++ c ∷ [])))
+      (length (w ++ c ∷ [])))
       ≡ true
   to h =
       let (i, j, a, b, m) = (finds-decides (without_end t) (w ++ c ∷ [])).0 h in
@@ -179,12 +179,12 @@ done_longer t w c = same_truth _ _ to from where
         | inr l ↦
             let e : j ≡ length (w ++ c ∷ []) = omega (arith, longer_is w c, l, b) in
             or_right _ _ (at_end_ends (without_end t) (w ++ c ∷ []) i
-                (subst (λ z. Matches (without_end t) (w ++ c ∷ []) i z) e m))
+            (subst (λ z. Matches (without_end t) (w ++ c ∷ []) i z) e m))
       ]
 
   from : (is_done t w
       || is_among (flat_map (ends (without_end t) (w ++ c ∷ [])) (places_to (length (w ++ c ∷ []))))
-          (length (w ++ c ∷ [])))
+      (length (w ++ c ∷ [])))
       ≡ true
       → is_done t (w ++ c ∷ []) ≡ true
   from h =
@@ -225,7 +225,7 @@ state_longer t w c e =
     ap (λ b. if b then done else reading (numbers_from 0 (read_flags t (w ++ c ∷ []))))
     (done_longer t w c
     ∙ ap (λ b. b || is_among (flat_map (ends (without_end t) (w ++ c ∷ [])) (places_to (length (w ++ c ∷ []))))
-        (length (w ++ c ∷ []))) e
+    (length (w ++ c ∷ []))) e
     ∙ sym (open_ends t (w ++ c ∷ []) (flag_at (read_flags t (w ++ c ∷ []))) (agrees_self (read_flags t (w ++ c ∷ []))))
     ∙ ap (λ b. ends_here t b false (flag_at (read_flags t (w ++ c ∷ []))) 0 true) (not_empty w c))
 
@@ -239,7 +239,7 @@ state_goes_on t w c = go (is_done t w) refl where
       ap (λ b. if b then done else reading (numbers_from 0 (read_flags t (w ++ c ∷ []))))
       (done_longer t w c
       ∙ ap (λ b. b || is_among (flat_map (ends (without_end t) (w ++ c ∷ [])) (places_to (length (w ++ c ∷ []))))
-          (length (w ++ c ∷ []))) e)
+      (length (w ++ c ∷ []))) e)
   go false e = state_longer t w c e ∙ ap (state_with t) (flags_longer t w c)
 
 pub state_decides : Decides

@@ -44,28 +44,28 @@ classes_divide atoms c e =
     let h = firsts_have atoms c e in
     let l = place_below same laws c (class_firsts atoms) h in
     let s : same c (get_or (class_firsts atoms) (class_of atoms c) 0) ≡ true =
-        place_same same laws c 0 (class_firsts atoms) h in (
+    place_same same laws c 0 (class_firsts atoms) h in (
       l,
       and_from (is_scalar c) (same (get_or (class_firsts atoms) (class_of atoms c) 0) c) e
           (laws.symm (get_or (class_firsts atoms) (class_of atoms c) 0) c ∙ s),
       (λ k m i.
           let (a, b) = and_parts (is_scalar c) (same (get_or (class_firsts atoms) k 0) c) i in
           one_number atoms k (class_of atoms c) m l (laws.congr (get_or (class_firsts atoms) k 0) c
-              (get_or (class_firsts atoms) (class_of atoms c) 0) b ∙ s)),
+          (get_or (class_firsts atoms) (class_of atoms c) 0) b ∙ s)),
     )
 
 pub no_later : (c d : ℕ) → (c ≡ d) ⊎ Before c d → comes_no_later c d ≡ true
 no_later c d (inl e) =
     or_right (nat_lt (group_of c) (group_of d)) (nat_eq (group_of c) (group_of d) && nat_le c d)
     (and_from (nat_eq (group_of c) (group_of d)) (nat_le c d) (eq-eqb (group_of c) (group_of d) (ap group_of e))
-        (le-leb c d (omega (arith, e))))
+    (le-leb c d (omega (arith, e))))
 no_later c d (inr (inl l)) =
     or_left (nat_lt (group_of c) (group_of d)) (nat_eq (group_of c) (group_of d) && nat_le c d)
-        (lt-ltb (group_of c) (group_of d) l)
+    (lt-ltb (group_of c) (group_of d) l)
 no_later c d (inr (inr (g, l))) =
     or_right (nat_lt (group_of c) (group_of d)) (nat_eq (group_of c) (group_of d) && nat_le c d)
     (and_from (nat_eq (group_of c) (group_of d)) (nat_le c d) (eq-eqb (group_of c) (group_of d) g)
-        (le-leb c d (omega (arith, l))))
+    (le-leb c d (omega (arith, l))))
 
 pub firsts_come_first : FirstsComeFirst
 firsts_come_first atoms k c l i =

@@ -91,18 +91,18 @@ pub ordered_has : (n c : ℕ) → is_scalar c ≡ true → c < n → IsIn c (ord
 unfolding ordered_below
 ordered_has n c e l =
     in_flat_map (λ g. filter (λ c. is_scalar c && nat_eq (group_of c) g) (range_with_len 0 n)) c (group_of c)
-        (0 ∷ 1 ∷ 2 ∷ 3 ∷ 4 ∷ [])
+    (0 ∷ 1 ∷ 2 ∷ 3 ∷ 4 ∷ [])
     (group_is c)
     (to_filter (λ d. is_scalar d && nat_eq (group_of d) (group_of c)) c (range_with_len 0 n)
-        (range_in 0 n c (omega arith) (omega (arith, l))) (and_from (is_scalar c) (nat_eq (group_of c) (group_of c)) e
-        (eq-eqb (group_of c) (group_of c) refl)))
+    (range_in 0 n c (omega arith) (omega (arith, l))) (and_from (is_scalar c) (nat_eq (group_of c) (group_of c)) e
+    (eq-eqb (group_of c) (group_of c) refl)))
 
 -- and nothing else
 pub ordered_only : (n c : ℕ) → IsIn c (ordered_below n) → is_scalar c ≡ true
 unfolding ordered_below
 ordered_only n c i =
     let (g, j, k) = from_flat_map (λ g. filter (λ c. is_scalar c && nat_eq (group_of c) g) (range_with_len 0 n)) c
-        (0 ∷ 1 ∷ 2 ∷ 3 ∷ 4 ∷ []) i in
+    (0 ∷ 1 ∷ 2 ∷ 3 ∷ 4 ∷ []) i in
     let (m, t) = from_filter (λ d. is_scalar d && nat_eq (group_of d) g) c (range_with_len 0 n) k in
     (and_parts (is_scalar c) (nat_eq (group_of c) g) t).0
 
@@ -111,15 +111,15 @@ module _ (atoms : List Atom) where
   pub firsts_scalar : (c : ℕ) → IsIn c (class_firsts atoms) → is_scalar c ≡ true
   firsts_scalar c i = elim (M.mentions_only (are_alike (dividers atoms))
       (alike_laws (dividers atoms)) [] characters c i) [
-    | inl j ↦ absurd j
-    | inr j ↦ ordered_only 0x110000 c j
-  ]
+        | inl j ↦ absurd j
+        | inr j ↦ ordered_only 0x110000 c j
+      ]
 
   pub firsts_have : (c : ℕ) → is_scalar c ≡ true → list_any (are_alike (dividers atoms) c) (class_firsts atoms) ≡ true
   firsts_have c e =
       let laws = alike_laws (dividers atoms) in
       M.mentions_have (are_alike (dividers atoms)) laws [] characters c c
-          (ordered_has 0x110000 c e (scalar_below c e)) (laws.refl c)
+      (ordered_has 0x110000 c e (scalar_below c e)) (laws.refl c)
 
   pub firsts_distinct : IsDistinct (are_alike (dividers atoms)) (class_firsts atoms)
   unfolding IsDistinct

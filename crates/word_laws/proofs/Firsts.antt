@@ -29,18 +29,18 @@ not_before c (inr l) = let p = l.1 in let n : ⊥ = omega (arith, p) in n
 pub before_or_same : (c d : ℕ) → comes_no_later c d ≡ true → Before c d ⊎ (c ≡ d)
 before_or_same c d e = elim (or_cases (nat_lt (group_of c) (group_of d))
     (nat_eq (group_of c) (group_of d) && nat_le c d) e) [
-  | inl l ↦ inl (inl (ltb-true (group_of c) (group_of d) l))
-  | inr r ↦
-      let (g, l) = and_parts (nat_eq (group_of c) (group_of d)) (nat_le c d) r in
-      split (eqb-true (group_of c) (group_of d) g) (leb-true c d l)
-] where
-  split : group_of c ≡ group_of d → c ≤ d → Before c d ⊎ (c ≡ d)
-  split g l = elim (last l) [
-    | inl m ↦ inl (inr (g, m))
-    | inr q ↦ inr q
-  ] where
-    last : c ≤ d → (c < d) ⊎ (c ≡ d)
-    last l = grind (arith, l)
+      | inl l ↦ inl (inl (ltb-true (group_of c) (group_of d) l))
+      | inr r ↦
+          let (g, l) = and_parts (nat_eq (group_of c) (group_of d)) (nat_le c d) r in
+          split (eqb-true (group_of c) (group_of d) g) (leb-true c d l)
+    ] where
+      split : group_of c ≡ group_of d → c ≤ d → Before c d ⊎ (c ≡ d)
+      split g l = elim (last l) [
+        | inl m ↦ inl (inr (g, m))
+        | inr q ↦ inr q
+      ] where
+        last : c ≤ d → (c < d) ⊎ (c ≡ d)
+        last l = grind (arith, l)
 
 -- ---- lists in that order
 abbrev pub Rising : List ℕ → Type 0

@@ -77,7 +77,7 @@ module _ {A : Type 0} (same : A → A → Bool) (laws : IsEquivalence same) wher
   mentions_have L [] x y i s = absurd i
   mentions_have L (z ∷ xs) x y (inl e) s =
       mentions_keep (mention same L z) xs x (has_same x z (mention same L z) (subst (λ u. same x u ≡ true) e s)
-          (mention_has L z))
+      (mention_has L z))
   mentions_have L (z ∷ xs) x y (inr i) s = mentions_have (mention same L z) xs x y i s
 
   -- and nothing else is

@@ -66,17 +66,17 @@ module _ (atoms : List Atom) where
     pub rows_words : (w : List ℕ) → IsIn w L → list_all is_scalar w ≡ true
     rows_words = R.rows_each same (same_laws atoms) extend [] (λ w. length w) longer follows L rows
         (λ w. list_all is_scalar w ≡ true) refl more where
-      more : (v w : List ℕ) → list_all is_scalar v ≡ true → IsIn w (extend v) → list_all is_scalar w ≡ true
-      more v w e i =
-          let (c, j, q) = from_map (λ c. v ++ c ∷ []) w (class_firsts atoms) i in
-          subst (λ z. list_all is_scalar z ≡ true) (sym q) (all_end v c e (firsts_scalar atoms c j))
+          more : (v w : List ℕ) → list_all is_scalar v ≡ true → IsIn w (extend v) → list_all is_scalar w ≡ true
+          more v w e i =
+              let (c, j, q) = from_map (λ c. v ++ c ∷ []) w (class_firsts atoms) i in
+              subst (λ z. list_all is_scalar z ≡ true) (sym q) (all_end v c e (firsts_scalar atoms c j))
 
     -- where a word has a row, so has the word with one more character
     has_longer : (w : List ℕ) (c : ℕ) → list_any (same w) L ≡ true → is_scalar c ≡ true
         → list_any (same (w ++ c ∷ [])) L ≡ true
     has_longer w c h s =
         let (d, i, k) = M.in_has (are_alike (dividers atoms)) (alike_laws (dividers atoms)) c (class_firsts atoms)
-            (firsts_have atoms c s) in
+        (firsts_have atoms c s) in
         M.has_same same (same_laws atoms) (w ++ c ∷ []) (w ++ d ∷ []) L
         (same_next w w c d ((same_laws atoms).refl w) k)
         (R.rows_next same (same_laws atoms) extend [] (λ w. length w) longer follows L rows w (w ++ d ∷ []) h
@@ -120,7 +120,7 @@ module _ (atoms : List Atom) where
     row_truth w s =
         let r = get_or L (row_of atoms L w) [] in
         sym (state_truth atoms w r ((state_decides (word_state atoms w) (word_state atoms r)).0
-            (place_same same (same_laws atoms) w [] L (rows_all w s))))
+        (place_same same (same_laws atoms) w [] L (rows_all w s))))
 
     -- and its target by a character's class is the row of the word with that character
     pub row_next : (w : List ℕ) (c : ℕ) → list_all is_scalar w ≡ true → is_scalar c ≡ true
@@ -134,9 +134,9 @@ module _ (atoms : List Atom) where
         let h : list_any (alike c) (class_firsts atoms) ≡ true = firsts_have atoms c k in
         let e : same (w ++ c ∷ []) (r ++ f ∷ []) ≡ true =
         same_next w r c f (place_same same (same_laws atoms) w [] L (rows_all w s))
-            (place_same alike laws c 0 (class_firsts atoms) h) in
+        (place_same alike laws c 0 (class_firsts atoms) h) in
         get_or-map (λ c. row_of atoms L (r ++ c ∷ [])) (class_firsts atoms) (class_of atoms c) 0 0
-            (place_below alike laws c (class_firsts atoms) h)
+        (place_below alike laws c (class_firsts atoms) h)
         ∙ sym (place_like same (same_laws atoms) (w ++ c ∷ []) (r ++ f ∷ []) L e)
 
 -- each row is a word

@@ -32,7 +32,7 @@ module _ {A : Type 0} (same : A → A → Bool) (laws : IsEquivalence same) (ext
 
   module _ (size : A → ℕ) (larger : (x y : A) → IsIn y (extend x) → size x < size y)
       (follows : (x y z : A) → same x y ≡ true → IsIn z (extend x)
-          → (u : A) × IsIn u (extend y) × (same z u ≡ true)) where
+      → (u : A) × IsIn u (extend y) × (same z u ≡ true)) where
     -- a list that has all that it mentions
     abbrev pub IsClosed : List A → Type 0
     IsClosed K = (x : A) → list_any (same x) (mentioned K) ≡ true → list_any (same x) K ≡ true
@@ -62,12 +62,12 @@ module _ {A : Type 0} (same : A → A → Bool) (laws : IsEquivalence same) (ext
         go zero y l i = absurd (omega (arith, l))
         go (suc n) y l i = from (M.mentions_only same laws [] (start ∷ flat_map extend L) y
             (subst (λ z. IsIn y z) rows i)) (go n) where
-          from : IsIn y [] ⊎ IsIn y (start ∷ flat_map extend L) → ((x : A) → size x < n → IsIn x L → P x) → P y
-          from (inl j) less = absurd j
-          from (inr (inl e)) less = subst P (sym e) base
-          from (inr (inr j)) less =
-              let (x, k, m) = from_flat_map extend y L j in
-              more x y (less x (let q = larger x y m in omega (arith, q, l)) k) m
+              from : IsIn y [] ⊎ IsIn y (start ∷ flat_map extend L) → ((x : A) → size x < n → IsIn x L → P x) → P y
+              from (inl j) less = absurd j
+              from (inr (inl e)) less = subst P (sym e) base
+              from (inr (inr j)) less =
+                  let (x, k, m) = from_flat_map extend y L j in
+                  more x y (less x (let q = larger x y m in omega (arith, q, l)) k) m
 
       -- a closed list has each
       pub closed_has : (K : List A) → IsClosed K → (y : A) → IsIn y L → list_any (same y) K ≡ true
@@ -80,7 +80,7 @@ module _ {A : Type 0} (same : A → A → Bool) (laws : IsEquivalence same) (ext
       stuck K X x e (Z, p) =
           M.distinct_parts same laws x K (x ∷ X) (subst (λ z. IsDistinct same z) e (rows_distinct L rows))
           (closed_has K (λ y h. subst (λ z. list_any (same y) z ≡ true) (sym p)
-              (M.has_left same laws y (mentioned K) Z h)) x
+          (M.has_left same laws y (mentioned K) Z h)) x
           (subst (λ z. IsIn x z) (sym e) (in_right x K (x ∷ X) (inl refl))))
           (inl refl)
 
@@ -132,7 +132,7 @@ module _ {A : Type 0} (same : A → A → Bool) (laws : IsEquivalence same) (ext
       let (X, p) = M.mention_grows same laws L x in
       let t : take i (mention same L x) ≡ take i L = ap (λ z. take i z) p ∙ take-append-le i L X (omega (arith, l)) in
       let g : get_or (mention same L x) i start ≡ row = ap (λ z. get_or z i start) p
-          ∙ get_or_append_left L X start i l in
+      ∙ get_or_append_left L X start i l in
       let front = flat_map extend (take i L) ++ take k (extend row) in
       let h : mention same L x ≡ mention_all same [] (start ∷ front ++ x ∷ []) =
       ap (λ z. mention same z x) e ∙ sym (M.mentions_append same laws [] (start ∷ front) (x ∷ [])) in
@@ -156,9 +156,11 @@ module _ {A : Type 0} (same : A → A → Bool) (laws : IsEquivalence same) (ext
 
   pub next_row : (L : List A) (i : ℕ) → IsBuilding L i (length (extend (get_or L i start))) → suc i < length L
       → IsBuilding L (suc i) 0
-  next_row L i b l =
-      (through L i b ∙ ap (λ z. mention_all same [] (start ∷ z))
-          (sym (append-nil (flat_map extend (take (suc i) L)))), l)
+  next_row L i b l = (
+    through L i b ∙ ap (λ z. mention_all same [] (start ∷ z))
+        (sym (append-nil (flat_map extend (take (suc i) L)))),
+    l,
+  )
 
   pub end_building : (L : List A) (i : ℕ) → IsBuilding L i (length (extend (get_or L i start))) → suc i ≡ length L
       → L ≡ mentioned L

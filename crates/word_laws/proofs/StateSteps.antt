@@ -44,7 +44,7 @@ same_prefix (a ∷ v) (b ∷ w) (y ∷ x) e f l =
     let (g, h) = and_parts (nat_eq a y) (is_prefix v x) e in
     let (i, j) = and_parts (nat_eq b y) (is_prefix w x) f in
     ap₂ (λ c u. c ∷ u) (eqb-true a y g ∙ sym (eqb-true b y i))
-        (same_prefix v w x h j (let q : suc (length v) ≡ suc (length w) = l in omega (arith, q)))
+    (same_prefix v w x h j (let q : suc (length v) ≡ suc (length w) = l in omega (arith, q)))
 
 pub whole_prefix : (v : List ℕ) → is_prefix v v ≡ true
 whole_prefix [] = refl
@@ -101,7 +101,7 @@ alike_letter ws x c d i j e =
 
 words_next : (ws : List (List ℕ)) (v w : List ℕ) (c d : ℕ) → atom_state v (Words ws) ≡ atom_state w (Words ws)
     → are_alike (divider_sets (Words ws)) c d ≡ true → atom_state (v ++ c ∷ []) (Words ws) ≡ atom_state (w ++ d ∷ [])
-        (Words ws)
+    (Words ws)
 words_next ws v w c d e k = from (begun_cases ws v w e) where
   same : (xs ys : List (List ℕ)) → filter (is_prefix (v ++ c ∷ [])) ws ≡ xs → filter (is_prefix (v ++ d ∷ [])) ws ≡ ys
       → atom_state (v ++ c ∷ []) (Words ws) ≡ atom_state (v ++ d ∷ []) (Words ws)
@@ -112,14 +112,14 @@ words_next ws v w c d e k = from (begun_cases ws v w e) where
   same [] (y ∷ ys) f g =
       let (t, i) = filter_head (is_prefix (v ++ d ∷ [])) ws y ys g in
       let turned : are_alike (divider_sets (Words ws)) d c ≡ true = (alike_laws (divider_sets (Words ws))).symm d c
-          ∙ k in
+      ∙ k in
       ap (λ z. atom_state (v ++ z ∷ []) (Words ws)) (sym (alike_letter ws y d c i (letter_in v d y t) turned))
 
   from : ((filter (is_prefix v) ws ≡ []) × (filter (is_prefix w) ws ≡ [])) ⊎ (v ≡ w)
       → atom_state (v ++ c ∷ []) (Words ws) ≡ atom_state (w ++ d ∷ []) (Words ws)
   from (inl (a, b)) =
       ap (λ z. begun z (v ++ c ∷ [])) (none_longer ws v c a) ∙ sym
-          (ap (λ z. begun z (w ++ d ∷ [])) (none_longer ws w d b))
+      (ap (λ z. begun z (w ++ d ∷ [])) (none_longer ws w d b))
   from (inr q) =
       same (filter (is_prefix (v ++ c ∷ [])) ws) (filter (is_prefix (v ++ d ∷ [])) ws) refl refl
       ∙ ap (λ z. atom_state (z ++ d ∷ []) (Words ws)) q
@@ -133,7 +133,7 @@ words_truth ws v w e = from (begun_cases ws v w e) where
     go true t =
         let (x, i, s) = M.in_has same_word word_laws v ws t in
         absurd (filter_none (is_prefix v) ws x f i (subst (λ z. is_prefix v z ≡ true) ((word_decides v x).0 s)
-            (whole_prefix v)))
+        (whole_prefix v)))
     go false t = refl
 
   from : ((filter (is_prefix v) ws ≡ []) × (filter (is_prefix w) ws ≡ [])) ⊎ (v ≡ w)
@@ -166,7 +166,7 @@ atom_next (LengthMin m) v w c d n e k = refl
 atoms_next : (atoms : List Atom) (v w : List ℕ) (c d : ℕ) → is_empty v ≡ is_empty w
     → map (atom_state v) atoms ≡ map (atom_state w) atoms
     → are_alike (dividers atoms) c d ≡ true → map (atom_state (v ++ c ∷ [])) atoms ≡ map
-        (atom_state (w ++ d ∷ [])) atoms
+    (atom_state (w ++ d ∷ [])) atoms
 atoms_next [] v w c d n e k = refl
 atoms_next (a ∷ atoms) v w c d n e k =
     let (f, g) = alike_parts (divider_sets a) (dividers atoms) c d k in
@@ -184,7 +184,7 @@ state_next atoms v w c d e k =
 
 atoms_truth : (atoms : List Atom) (g : ℕ) (v w : List ℕ) → greatest_least atoms ≤ g → is_empty v ≡ is_empty w
     → map (atom_state v) atoms ≡ map (atom_state w) atoms → min (length v) g ≡ min (length w) g
-        → signature_of atoms v ≡ signature_of atoms w
+    → signature_of atoms v ≡ signature_of atoms w
 atoms_truth [] g v w l n e m = refl
 atoms_truth (a ∷ atoms) g v w l n e m =
     ap₂ (λ x xs. x ∷ xs) (one a (cc e) (omega (arith, l))) (atoms_truth atoms g v w (omega (arith, l)) n (cc e) m) where
@@ -198,4 +198,4 @@ pub state_truth : (atoms : List Atom) (v w : List ℕ) → word_state atoms v �
     → signature_of atoms v ≡ signature_of atoms w
 state_truth atoms v w e =
     atoms_truth atoms (greatest_least atoms) v w (omega arith) (ap (λ s. s.is_empty) e) (ap (λ s. s.parts) e)
-        (ap (λ s. s.length) e)
+    (ap (λ s. s.length) e)
