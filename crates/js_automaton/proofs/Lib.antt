@@ -7,6 +7,7 @@ pub mod EndLemmas
 pub mod TupleLemmas
 mod KeyLemmas
 mod RowsLemmas
+mod ToldLemmas
 mod PieceLemmas
 mod NumberLemmas
 mod PieceSetLemmas

@@ -86,7 +86,7 @@ keyed-next old sides keys after new more i place x h is distinct longer stay wit
   last : (k : ℕ) → k ≡ i → get_or more k 0 ≡ place
   last k q =
       ap (λ xs. get_or xs k 0) pushed ∙ ap (λ n. get_or (new ++ place ∷ []) n 0) (q ∙ sym h.long)
-          ∙ get_or-append_seam new place [] 0
+      ∙ get_or-append_seam new place [] 0
 
 pub keyed-none : (old sides : List ℕ) (keys : List (ℕ × ℕ)) (new : List ℕ) → IsDistinct pair_eq keys → new ≡ []
     → AreKeyed old sides keys new 0

@@ -95,7 +95,7 @@ atoms-grow ts t k (P.Match i ∷ ps) e =
     let l = placed-le (suc k) ps (length ts) b in
     let q = eqb-true i k a in
     ap₂ (λ x xs. Match x ∷ xs) (get_or_append_left ts (t ∷ []) empty i (omega (arith, l, q)))
-        (atoms-grow ts t (suc k) ps b)
+    (atoms-grow ts t (suc k) ps b)
 atoms-grow ts t k (P.Words w ∷ ps) e = ap (λ xs. Words w ∷ xs) (atoms-grow ts t k ps e)
 atoms-grow ts t k (P.Length n ∷ ps) e = ap (λ xs. LengthMin n ∷ xs) (atoms-grow ts t k ps e)
 

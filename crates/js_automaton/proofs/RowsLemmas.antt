@@ -2,7 +2,7 @@
 use Rattle.std.proofs.Common.{◌≡◌, ℕ, zero, suc, ◌+◌, ◌*◌, ◌<◌, ◌≤◌, ◌⊎◌, inl, inr, List, [], ◌∷◌, ◌++◌, Bool, true, false, ◌||◌, not, cond, if◌then◌else◌, Some, slice_get, map, flat_map, take, get_or, length, refl, sym, ◌∙◌, ap, ap₂, subst, append-nil, append_assoc, length-append, arith}
 use Rattle.std.specs.List.{list_any, list_all, position_or_len}
 use Rattle.std.proofs.lemmas.Bool.{and_parts, and_from}
-use Rattle.std.proofs.lemmas.List.{map-append, length-map, get_or-map, take-append-le, get_or_append_left}
+use Rattle.std.proofs.lemmas.List.{map-append, length-map, get_or-map, take-append-le, get_or_append_left, get_or-append-add}
 use Rattle.std.proofs.lemmas.List.Concat.{flat_map-append}
 use Rattle.std.proofs.lemmas.List.Sums.{position_or_len_is}
 use Rattle.std.proofs.lemmas.Map.Keys.{apart_from_distinct}
@@ -69,7 +69,7 @@ map-through f g [] = refl
 map-through f g (x ∷ xs) = ap (λ ys. f (g x) ∷ ys) (map-through f g xs)
 
 -- ---- lists of lists of one length
-flat-length : {A : Type 0} (f : A → List ℕ) (n : ℕ) → ((x : A) → length (f x) ≡ n) → (xs : List A)
+pub flat-length : {A B : Type 0} (f : A → List B) (n : ℕ) → ((x : A) → length (f x) ≡ n) → (xs : List A)
     → length (flat_map f xs) ≡ length xs * n
 flat-length f n e [] = omega arith
 flat-length f n e (x ∷ xs) =
@@ -80,8 +80,8 @@ flat-length f n e (x ∷ xs) =
       more : (m n : ℕ) → n + m * n ≡ suc m * n
       more m n = grind arith
 
-flat-get : {A : Type 0} (f : A → List ℕ) (n : ℕ) → ((x : A) → length (f x) ≡ n) → (xs : List A) (r k d : ℕ) (a : A)
-    → r < length xs → k < n → get_or (flat_map f xs) (r * n + k) d ≡ get_or (f (get_or xs r a)) k d
+pub flat-get : {A B : Type 0} (f : A → List B) (n : ℕ) → ((x : A) → length (f x) ≡ n) → (xs : List A) (r k : ℕ) (d : B)
+    (a : A) → r < length xs → k < n → get_or (flat_map f xs) (r * n + k) d ≡ get_or (f (get_or xs r a)) k d
 flat-get f n e [] r k d a l m = absurd (omega (arith, l))
 flat-get f n e (x ∷ xs) zero k d a l m =
     let q : 0 * n + k ≡ k = omega arith in
@@ -89,18 +89,12 @@ flat-get f n e (x ∷ xs) zero k d a l m =
     ap (λ j. get_or (f x ++ flat_map f xs) j d) q ∙ get_or_append_left (f x) (flat_map f xs) d k (omega (arith, b, m))
 flat-get f n e (x ∷ xs) (suc r) k d a l m =
     ap (λ j. get_or (f x ++ flat_map f xs) j d) (more r n (length (f x)) k (e x))
-    ∙ get-past (f x) (flat_map f xs) (r * n + k) d
+    ∙ get_or-append-add (f x) (flat_map f xs) (r * n + k) d
     ∙ flat-get f n e xs r k d a (omega (arith, l)) m where
       more : (r n m k : ℕ) → m ≡ n → suc r * n + k ≡ m + (r * n + k)
       more r n m k q = grind (arith, q)
 
-      get-past : (xs ys : List ℕ) (j d : ℕ) → get_or (xs ++ ys) (length xs + j) d ≡ get_or ys j d
-      get-past [] ys j d = let q : 0 + j ≡ j = omega arith in ap (λ i. get_or ys i d) q
-      get-past (y ∷ xs) ys j d =
-          let q : suc (length xs) + j ≡ suc (length xs + j) = omega arith in
-          ap (λ i. get_or (y ∷ xs ++ ys) i d) q ∙ get-past xs ys j d
-
-place-within : (r k m n : ℕ) → r < m → k < n → r * n + k < m * n
+pub place-within : (r k m n : ℕ) → r < m → k < n → r * n + k < m * n
 place-within r k zero n l h = absurd (omega (arith, l))
 place-within zero k (suc m) n l h = let q = more m n in omega (arith, q, h) where
   more : (m n : ℕ) → suc m * n ≡ n + m * n
@@ -225,9 +219,9 @@ module _ (atoms : List Atom) where
       let row = get_or rows i [] in
       let (X, p) = M.mention_grows same (same_laws atoms) rows x in
       let t : take i (mention same rows x) ≡ take i rows = ap (λ z. take i z) p
-          ∙ take-append-le i rows X (omega (arith, within)) in
+      ∙ take-append-le i rows X (omega (arith, within)) in
       let g : get_or (mention same rows x) i [] ≡ row = ap (λ z. get_or z i []) p
-          ∙ get_or_append_left rows X [] i within in
+      ∙ get_or_append_left rows X [] i within in
       let n : k + 1 ≡ suc k = omega arith in
       let b : k < length (longer_words atoms row) = omega (arith, l, longer-length row) in
       ap (λ j. words_before atoms (mention same rows x) i j) n

@@ -335,7 +335,7 @@ module _ (P : List ℕ → Type 0) where
           bounded i (inr h) =
               let g = length-append E ((n, c) ∷ []) in
               let x = ap (λ j. (get_or (E ++ (n, c) ∷ []) j (0, 0)).0) h
-                  ∙ ap (λ y. y.0) (get_or-append_seam E (n, c) [] (0, 0)) in
+              ∙ ap (λ y. y.0) (get_or-append_seam E (n, c) [] (0, 0)) in
               omega (arith, g, x, l)
 
   word-known : (q r : List ℕ) (E : List (ℕ × ℕ)) (n : ℕ) → Bounded E → n ≤ length E → back E r ≡ Some n → Known E

@@ -5,7 +5,7 @@ use Rattle.std.specs.Option.{option_map_or}
 use Rattle.std.proofs.lemmas.List.{take_more, take_all, map-append, get_or-map, length-map}
 use Rattle.std.proofs.lemmas.Bool.{and_parts}
 use Rattle.patterns.specs.CharSet.{is_scalar}
-use Rattle.patterns.specs.Decision.{is_empty}
+use Rattle.patterns.specs.Decision.{is_empty, finds}
 use Rattle.patterns.specs.Tree.{empty}
 use Rattle.word_states.specs.Atom.{Atom, Match, Words, LengthMin, same_word, is_true}
 use Rattle.word_states.specs.Classes.{are_alike, dividers, class_firsts, class_count, is_in_class}
@@ -116,7 +116,13 @@ module _ (ns : List Nfa) (ps : List Part) (placed : are_placed 0 ps (length ns) 
       ∙ sym (state_goes_on (tree_of n) w c)
 
   -- ---- the truth of an atom
-  atom-at : (k : ℕ) (p : Part) → k < length ps → p ≡ get_or ps k p
+  pub accepted-finds : (s : TupleState) (w : List ℕ) (i : ℕ) (n : Nfa) (x : kept.PatternState) → IsStateOf atoms s w
+      → i < length ns → n ≡ get_or ns i n → x ≡ get_or s.patterns.items i x
+      → is_accepted (tree_of n) s.is_empty (state_view x) ≡ finds (tree_of n) w
+  accepted-finds s w i n x h m found is =
+      ap₂ (is_accepted (tree_of n)) h.empty (states-at s w i n x h m found is) ∙ sym (state_decides (tree_of n) w)
+
+  pub atom-at : (k : ℕ) (p : Part) → k < length ps → p ≡ get_or ps k p
       → get_or atoms k (LengthMin 0) ≡ part_view (map tree_of ns) p
   atom-at k p l at =
       get_or-map (part_view (map tree_of ns)) ps k p (LengthMin 0) l ∙ ap (part_view (map tree_of ns)) (sym at)
@@ -128,8 +134,7 @@ module _ (ns : List Nfa) (ps : List Part) (placed : are_placed 0 ps (length ns) 
   truth-match s w k i p n x b h l at q m found is e =
       let tree : get_or (map tree_of ns) i empty ≡ tree_of n =
       get_or-map tree_of ns i n empty m ∙ ap tree_of (sym found) in
-      e ∙ ap₂ (is_accepted (tree_of n)) h.empty (states-at s w i n x h m found is) ∙ sym (state_decides (tree_of n) w)
-      ∙ sym (ap (λ t. is_true (Match t) w) tree)
+      e ∙ accepted-finds s w i n x h m found is ∙ sym (ap (λ t. is_true (Match t) w) tree)
       ∙ sym (ap (λ a. is_true a w) (atom-at k p l at ∙ ap (part_view (map tree_of ns)) q))
 
   pub truth-length : (s : TupleState) (w : List ℕ) (k n : ℕ) (p : Part) (b : Bool) → IsStateOf atoms s w

@@ -17,4 +17,5 @@ pub mod Keys
 -- Rows and their numbers.
 pub mod Building
 pub mod RowsProp
+pub mod Told
 pub mod AutomatonView

@@ -1,22 +1,31 @@
 //! The automaton of a list of atoms, which leads from row to row by classes of characters.
 
+ghost use Rattle.std.specs.Prelude.{◌<◌, ◌*◌, length, map};
+ghost use Rattle.js_nfa.specs.View.{tree_of};
 ghost use Rattle.js_automaton.specs.TuplesView.{atoms_of as atoms_in};
+ghost use Rattle.js_automaton.specs.Told.{AreTold, AreTold-prop};
 ghost use Rattle.js_automaton.specs.Building.{HaveRows};
 ghost use Rattle.js_automaton.specs.RowsProp.{HaveRows-prop};
 
 use crate::state::TupleState;
 use crate::tuples::Tuples;
 use indexmap::IndexSet;
+use js_nfa::PositionSet;
 use js_pattern::CharSet;
 
 /// The rows of a list of atoms: the states that words reach, in order of first mention, with row 0 that of the empty
 /// word. Contracts see the atoms, by `atoms_of`, and the first word of each row, by `rows_of`.
+///
+/// `told` has a bit for each row and pattern, one row after another: whether the pattern matches in the row's words.
 #[derive(Drop)]
 pub struct Automaton {
     pub(crate) tuples: Tuples,
     pub(crate) states: IndexSet<TupleState>,
     pub(crate) targets: Vec<u32>,
+    pub(crate) told: PositionSet,
     ghost found: { HaveRows (atoms_in tuples) states.keys targets.items } by { HaveRows-prop (atoms_in tuples) states.keys targets.items },
+    ghost tells: { AreTold (atoms_in tuples) (map tree_of tuples.patterns.items) states.keys told.flags } by { AreTold-prop (atoms_in tuples) (map tree_of tuples.patterns.items) states.keys told.flags },
+    ghost small: { length states.keys * length tuples.patterns.items < 4294967296 },
 }
 
 impl Automaton {
@@ -70,7 +79,8 @@ impl Automaton {
         self.targets[row as usize * self.classes() as usize + class as usize]
     }
 
-    /// Whether an atom is true of the words that lead to a row.
+    /// Whether an atom is true of the words that lead to a row: of a pattern one bit, of a list of words one look in a
+    /// table, of a length one comparison.
     pub fn signature(&self, row: u32, atom: usize) -> bool
         requires row { row < length (rows_of self.now) }
         requires atom { atom < length (atoms_of self.now) }
@@ -79,6 +89,12 @@ impl Automaton {
         ensures words { (w : List ℕ) → IsWord w → row ≡ row_of (atoms_of self.now) (rows_of self.now) w
             → result ≡ is_true (get_or (atoms_of self.now) atom (LengthMin 0)) w }
     {
-        self.tuples.truth(&self.states[row as usize], atom)
+        match self.tuples.place_of(atom) {
+            Some(place) => {
+                let first = row as usize * self.tuples.count_patterns();
+                self.told.contains(first + place)
+            }
+            None => self.tuples.truth(&self.states[row as usize], atom),
+        }
     }
 }

@@ -3,7 +3,7 @@
 //! The rows are gone through in order, and the classes in order for each: the state that a row leads to by a class gets
 //! the next number where it is new. It costs a step and a hash for each row and class, and each state is stored once.
 
-ghost use Rattle.std.specs.Prelude.{◌≡◌, ◌<◌, ◌≤◌, ◌⊎◌, ℕ, map, length, IfOk, OnOk, IfErr};
+ghost use Rattle.std.specs.Prelude.{◌≡◌, ◌<◌, ◌≤◌, ◌*◌, ◌⊎◌, ℕ, List, map, length, IfOk, OnOk, IfErr};
 ghost use Rattle.std.specs.List.{position_or_len};
 ghost use Rattle.indexmap.specs.IndexSet.{insert_key};
 ghost use Rattle.word_states.specs.Classes.{class_count};
@@ -11,7 +11,9 @@ ghost use Rattle.word_states.specs.Rows.{HaveStates};
 ghost use Rattle.js_nfa.specs.AtomView.{atom_view};
 ghost use Rattle.word_states.specs.AtomPositions.{positions_of};
 ghost use Rattle.js_automaton.specs.Keys.{same_tuple};
-ghost use Rattle.js_automaton.specs.Building.{IsFound, HaveRows};
+ghost use Rattle.js_automaton.specs.Building.{AreStates, IsFound, HaveRows};
+ghost use Rattle.js_automaton.specs.Told.{AreTold};
+ghost use Rattle.js_nfa.specs.View.{tree_of};
 ghost use Rattle.js_automaton.specs.TuplesView as tuples_view;
 ghost use Rattle.js_automaton.specs.AutomatonView.{atoms_of, rows_of};
 
@@ -20,7 +22,8 @@ use crate::fault::AutoFault;
 use crate::state::TupleState;
 use crate::tuples::Tuples;
 use indexmap::IndexSet;
-use js_nfa::Atom;
+use js_doc::Memory;
+use js_nfa::{Atom, PositionSet};
 use std::alloc::Global;
 
 /// The most rows that atoms may have.
@@ -43,10 +46,12 @@ pub fn build(alloc: Global, atoms: &[Atom]) -> Result<Automaton, AutoFault>
 {
     let tuples = Tuples::new(alloc, atoms)?;
     let (states, targets) = find_rows(alloc, &tuples)?;
+    let told = tell_rows(alloc, &tuples, &states)?;
     Ok(Automaton {
         tuples,
         states,
         targets,
+        told,
     })
 }
 
@@ -67,6 +72,41 @@ fn find_rows(alloc: Global, tuples: &Tuples) -> Result<(IndexSet<TupleState>, Ve
         row += 1;
     }
     Ok((states, targets))
+}
+
+/// Whether each pattern matches in the words of each state, one state after another.
+///
+/// A bit for each costs little beside the states, which have a set of positions for each. Where there are 2^32 of them
+/// or more it answers want of memory, which the states take before.
+fn tell_rows(
+    alloc: Global,
+    tuples: &Tuples,
+    states: &IndexSet<TupleState>,
+) -> Result<PositionSet, Memory>
+    requires made { (rows : List (List ℕ)) × AreStates (tuples_view.atoms_of tuples.now) states.now.keys rows }
+    ensures told { IfOk result (λ t. AreTold (tuples_view.atoms_of tuples.now) (map tree_of tuples.now.patterns.items)
+        states.now.keys t.flags) }
+    ensures small { OnOk result (length states.now.keys * length tuples.now.patterns.items < 4294967296) }
+{
+    let room = count_told(states.len(), tuples.count_patterns())?;
+    let mut told = PositionSet::with_room(alloc, room)?;
+    for row in 0..states.len() {
+        tuples.tell(&states[row], &mut told);
+    }
+    Ok(told)
+}
+
+/// How many bits there are for so many rows and patterns.
+fn count_told(rows: usize, patterns: usize) -> Result<u32, Memory>
+    ensures { IfOk result (λ n. n ≡ rows * patterns) }
+{
+    let Some(count) = rows.checked_mul(patterns) else {
+        return Err(Memory);
+    };
+    match u32::try_from(count) {
+        Ok(count) => Ok(count),
+        Err(_) => Err(Memory),
+    }
 }
 
 /// Goes through the classes of a row, and appends the rows that it leads to.

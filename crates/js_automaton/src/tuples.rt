@@ -16,7 +16,7 @@ use crate::state::TupleState;
 use crate::trie::Trie;
 use indexmap::IndexSet;
 use js_doc::Memory;
-use js_nfa::{Atom, Nfa};
+use js_nfa::{Atom, Nfa, PositionSet};
 use js_pattern::CharSet;
 use std::alloc::Global;
 
@@ -39,17 +39,20 @@ pub struct Tuples {
 }
 
 impl Tuples {
-    ghost use Rattle.std.specs.Prelude.{◌<◌, ◌⊎◌, [], ◌∷◌, ◌++◌, ℕ, List, true, false, get_or, IfOk, IfErr, OnOk, IsTrue, ◌↔◌};
+    ghost use Rattle.std.specs.Prelude.{◌<◌, ◌+◌, ◌⊎◌, [], ◌∷◌, ◌++◌, ℕ, List, true, false, get_or, IfOk, IfErr, IfSome, OnOk, IsTrue, ◌↔◌};
     ghost use Rattle.std.specs.List.{list_any};
     ghost use Rattle.std.specs.Option.{option_map_or};
     ghost use Rattle.word_states.specs.WordState.{word_state};
     ghost use Rattle.patterns.specs.CharSet.{has};
-    ghost use Rattle.word_states.specs.Atom.{LengthMin, is_true};
+    ghost use Rattle.patterns.specs.Tree.{empty};
+    ghost use Rattle.word_states.specs.Atom.{Match, LengthMin, is_true};
     ghost use Rattle.word_states.specs.Classes.{class_count, is_in_class};
     ghost use Rattle.js_nfa.specs.AtomView.{atom_view};
+    ghost use Rattle.js_nfa.specs.View.{tree_of};
     ghost use Rattle.js_automaton.specs.Trie.{same_edge};
     ghost use Rattle.js_automaton.specs.Tuple.{IsStateOf};
     ghost use Rattle.word_states.specs.AtomPositions.{positions_of};
+    ghost use Rattle.js_automaton.specs.Told.{matches_in};
     ghost use Rattle.js_automaton.specs.TuplesView.{atoms_of};
 
     /// The classes and states of these atoms. The limit on positions is looked at before that on classes.
@@ -148,6 +151,39 @@ impl Tuples {
             }
             Part::Words(_) => self.leads_to(state.node, atom),
             Part::Length(least) => *least <= state.length,
+        }
+    }
+
+    /// The place of an atom's pattern among the patterns.
+    pub(crate) fn place_of(&self, atom: usize) -> Option<usize>
+        requires { atom < length (atoms_of self.now) }
+        ensures { IfSome result (λ place. (place < length self.now.patterns.items)
+            × (get_or (atoms_of self.now) atom (LengthMin 0)
+            ≡ Match (get_or (map tree_of self.now.patterns.items) place empty))) }
+    {
+        match &self.parts[atom] {
+            Part::Match(place) => Some(*place),
+            _ => None,
+        }
+    }
+
+    /// How many patterns there are.
+    pub(crate) fn count_patterns(&self) -> usize
+        ensures { result ≡ length self.now.patterns.items }
+    {
+        self.patterns.len()
+    }
+
+    /// Appends whether each pattern matches in the words with that state.
+    pub(crate) fn tell(&self, state: &TupleState, told: &mut PositionSet)
+        requires made { (w : List ℕ) × IsStateOf (atoms_of self.now) state.now w }
+        requires room { length told.old.flags + length self.now.patterns.items ≤ told.old.room }
+        ensures told { (w : List ℕ) → IsStateOf (atoms_of self.now) state.now w
+            → told.new.flags ≡ told.old.flags ++ matches_in (map tree_of self.now.patterns.items) w }
+        ensures room { told.new.room ≡ told.old.room }
+    {
+        for (place, nfa) in self.patterns.iter().enumerate() {
+            told.push(nfa.is_accepted(&state.patterns[place], state.is_empty));
         }
     }
 

@@ -40,7 +40,7 @@ impl Model for PositionSet {
 
 impl PositionSet {
     /// No flags yet, and room for so many, and at most a word more.
-    pub(crate) fn with_room(alloc: Global, room: u32) -> Result<PositionSet, Memory>
+    pub fn with_room(alloc: Global, room: u32) -> Result<PositionSet, Memory>
         ensures flags { IfOk result (λ s. s.flags ≡ []) }
         ensures room { IfOk result (λ s. room ≤ s.room) }
         ensures small { IfOk result (λ s. s.room ≤ room + 64) }
@@ -71,14 +71,14 @@ impl PositionSet {
     }
 
     /// Whether the position is in the set. Those without a flag aren't.
-    pub(crate) fn contains(&self, position: usize) -> bool
+    pub fn contains(&self, position: usize) -> bool
         ensures { result ≡ flag_at self.now.flags position }
     {
         position < self.len && (self.words[position / 64] >> (position % 64)) & 1 == 1
     }
 
     /// The flag of the next position.
-    pub(crate) fn push(&mut self, flag: bool)
+    pub fn push(&mut self, flag: bool)
         requires { length self.old.flags < self.old.room }
         ensures flags { self.new.flags ≡ self.old.flags ++ flag ∷ [] }
         ensures room { self.new.room ≡ self.old.room }
