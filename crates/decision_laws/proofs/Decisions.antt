@@ -11,13 +11,12 @@ use Rattle.shared_documents.specs.Part.{Part}
 use Rattle.shared_documents.specs.Unshared.{unshared}
 use Rattle.positions.specs.Position.{Position}
 use Rattle.positions.specs.Holds.{holds, IsTable}
-use Rattle.goals.specs.Signed.{Signed, Plus, Minus, position_of, meets}
+use Rattle.goals.specs.Signed.{Signed, Plus, Minus, meets}
 use Rattle.goal_laws.specs.Formed.{meets_goal}
 use Rattle.goal_laws.specs.Saturated.{IsSaturated}
-use Rattle.goal_laws.proofs.Forms.{form-IsFormed, form-inside, meets-root}
+use Rattle.goal_laws.proofs.Forms.{meets-root}
 use Rattle.list_laws.proofs.Tests.{not_true}
 use Rattle.cells.specs.Cells.{Cells}
-use Rattle.documents.specs.Tests.{every}
 use Rattle.list_laws.proofs.Lists.{every_from}
 use Rattle.alternatives.specs.Alternative.{Number, Text, named}
 use Rattle.alternatives.specs.Limit.{LimitKind, Goals, Total}
@@ -38,8 +37,7 @@ use Rattle.search_laws.proofs.Parts.{place_last}
 use Rattle.search_laws.proofs.Witness.{IsWitness, witness_made}
 use Rattle.decisions.specs.Decision.{Verdict, Document, Limit, NoDocument, Decided, of_root, root_of}
 use Rattle.decisions.specs.Meaning.{IsCounterexample, IsIncluded, IsUnmet, AreOpen, IsLeast, OfRoot, Means}
-use Rattle.expander_laws.specs.Expander.{is_formed, is_goal}
-use Rattle.expander_laws.proofs.Formed.{is_formed-from}
+use Rattle.expander_laws.specs.Expander.{is_goal}
 use Rattle.expander_laws.proofs.Inside.{goals_named, formed_goal}
 use Rattle.decision_laws.proofs.Verdicts.{Says, verdict_says, says_verdict}
 use Rattle.decision_laws.proofs.Full.{IsKept, explored_kept}

@@ -10,7 +10,7 @@ use Rattle.positions.specs.Position.{Position}
 use Rattle.positions.specs.Holds.{IsTable}
 use Rattle.goals.specs.Signed.{Signed}
 use Rattle.goal_laws.specs.Saturated.{IsSaturated}
-use Rattle.frames.specs.Frame.{Place, In, Frame}
+use Rattle.frames.specs.Frame.{In, Frame}
 use Rattle.frames.specs.Plan.{Member, Plan, count_in, size, placed, complete, plan_steps, ends}
 use Rattle.frames.specs.ArrayFrame.{array_frame}
 use Rattle.frames.specs.ObjectFrame.{number, cap, is_allowed, object_frame}
@@ -30,7 +30,7 @@ use Rattle.object_laws.proofs.Slots.{fillers_differ}
 use Rattle.alternatives.specs.Alternative as Alt
 use Rattle.alternatives.specs.Alternative.{Slot, Index, Name, Shape, Placed, Alternative}
 use Rattle.alternatives.specs.Slots.{capacity, cell_at, has_room, has_words, slots_from, slots_of, same_slot, has_different_slots, has_different_words, fits_slot, has_fitting_slots}
-use Rattle.expansions.specs.Leaves.{by_index, by_name, cell_of, filling_of, plan_alternative, scalar, Finders}
+use Rattle.expansions.specs.Leaves.{by_index, by_name, filling_of, plan_alternative, scalar, Finders}
 use Rattle.expansion_laws.proofs.Containers.{IsCells}
 use Rattle.expansion_laws.proofs.Parts.{no_heads}
 use Rattle.expansion_laws.proofs.PlanLeaf.{complete_plan}

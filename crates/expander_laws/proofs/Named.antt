@@ -1,13 +1,11 @@
 -- A branch of which a goal has an alternative: it is told, and at texts and objects its words were found.
-use Rattle.std.proofs.Common.{◌≡◌, ℕ, ◌≤◌, true, Bool, ◌&&◌, nat_eq, List, [], Option, Some, None, Ok, slice_get, get_or, refl, ap, sym, ◌∙◌, subst}
+use Rattle.std.proofs.Common.{◌≡◌, ℕ, ◌≤◌, true, ◌&&◌, nat_eq, List, [], Some, Ok, slice_get, refl, ap, sym, ◌∙◌, subst}
 use Rattle.std.proofs.lemmas.Bool.{and_parts, eqb-true}
-use Rattle.documents.specs.Tests.{some}
 use Rattle.documents.specs.Kind as K
 use Rattle.documents.specs.Kind.{Kind, same_kind}
 use Rattle.positions.specs.Position.{Position}
 use Rattle.goals.specs.Signed.{Signed}
 use Rattle.goals.specs.Tree as G
-use Rattle.list_laws.specs.In.{IsIn}
 use Rattle.list_laws.proofs.Tests.{some_find}
 use Rattle.cells.specs.Cells.{Cells}
 use Rattle.alternatives.specs.Alternative.{Alternative}

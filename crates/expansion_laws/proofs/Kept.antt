@@ -96,7 +96,7 @@ module _ (T : List Position) (leaf : Kind → ℕ → List Signed → Answer) wh
   branch_in t k S (R ∷ Ss) (inl e) = (k, inl (ap (leaf t k) e))
   branch_in t k S (R ∷ Ss) (inr i) = let (n, j) = branch_in t (suc k) S Ss i in (n, inr j)
 
-  branch_from : (t : Kind) (k : ℕ) (Ss : List (List Signed)) (r : Answer) → IsIn r (from_branch T leaf t k Ss)
+  pub branch_from : (t : Kind) (k : ℕ) (Ss : List (List Signed)) (r : Answer) → IsIn r (from_branch T leaf t k Ss)
       → (j : ℕ) × ((S : List Signed) × (slice_get Ss j ≡ Some S) × (r ≡ leaf t (k + j) S))
   branch_from t k [] r i = absurd i
   branch_from t k (S ∷ Ss) r (inl e) = (0, (S, refl, e ∙ ap (λ z. leaf t z S) (plus k))) where

@@ -1,5 +1,6 @@
 pub mod Leaf
 pub mod Kept
+pub mod Holes
 pub mod PlanLeaf
 pub mod Scalars
 pub mod Parts
