@@ -1,7 +1,7 @@
 -- What is decided of two positions of a table: the document meets the first and not the second one; where there is no
 -- document, each document of which the first holds has the second holding; and limits are named as they are met.
 use Rattle.std.proofs.Common.{◌≡◌, ℕ, ◌<◌, ◌⊎◌, Bool, true, false, not, ◌&&◌, true≢false, nat_lt, List, [], ◌∷◌, length, Option, Some, None, Ok, is_some, refl, ap, sym, ◌∙◌, subst, arith}
-use Rattle.std.proofs.lemmas.Bool.{and_parts, and_from, lt-ltb}
+use Rattle.std.proofs.lemmas.Bool.{and_parts, and_from, lt-ltb, not-true}
 use Rattle.std.proofs.lemmas.List.{length-map}
 use Rattle.documents.specs.Kind as K
 use Rattle.documents.specs.Kind.{Kind}
@@ -15,7 +15,6 @@ use Rattle.goals.specs.Signed.{Signed, Plus, Minus, meets}
 use Rattle.goal_laws.specs.Formed.{meets_goal}
 use Rattle.goal_laws.specs.Saturated.{IsSaturated}
 use Rattle.goal_laws.proofs.Forms.{meets-root}
-use Rattle.list_laws.proofs.Tests.{not_true}
 use Rattle.cells.specs.Cells.{Cells}
 use Rattle.list_laws.proofs.Lists.{every_from}
 use Rattle.alternatives.specs.Alternative.{Number, Text, named}
@@ -149,7 +148,7 @@ module _ (F : Finders) (T : List Position) (most most_places a b : ℕ) where
             record {
               good = good;
               first = first;
-              second = not_true _ second;
+              second = not-true _ second;
               last = place_last (by_branch T (words_of F)) E f 0 reached ∙ sym many;
             }
 

@@ -1,6 +1,6 @@
 -- The test of formed goals decides which are formed.
 use Rattle.std.proofs.Common.{◌≡◌, true, not, ◌&&◌, ◌||◌, List, Option, Some, None, refl, ap}
-use Rattle.std.proofs.lemmas.Bool.{and_parts, and_from, or_parts}
+use Rattle.std.proofs.lemmas.Bool.{and_parts, and_from, or_parts, not-true}
 use Rattle.std.specs.Option.{is_none}
 use Rattle.positions.specs.Position.{Position}
 use Rattle.goals.specs.Signed.{Signed, opposite, has, is_rising}
@@ -8,7 +8,6 @@ use Rattle.goals.specs.Goal.{reference, is_always, is_never, clashes}
 use Rattle.documents.specs.Tests.{every}
 use Rattle.goal_laws.specs.Formed.{IsFormed}
 use Rattle.goal_laws.proofs.Signs.{every-has, has-every, some-none}
-use Rattle.list_laws.proofs.Tests.{not_true}
 use Rattle.expander_laws.specs.Expander.{is_formed}
 
 no_one : {A : Type 0} (o : Option A) → is_none o ≡ true → o ≡ None
@@ -26,10 +25,10 @@ is_formed-true T g e =
     (every-has (λ x. not (is_always T x) && is_none (reference T x)) g x each i) in
     record {
       rising = rising;
-      no_clash = not_true (clashes T g) clear;
-      none_always = λ x i. not_true (is_always T x) (parts x i).0;
+      no_clash = not-true (clashes T g) clear;
+      none_always = λ x i. not-true (is_always T x) (parts x i).0;
       none_never = λ x i. (or_parts (is_never T x) (has (opposite x) g)
-          (some-none (λ y. is_never T y || has (opposite y) g) g x (not_true (clashes T g) clear) i)).0;
+          (some-none (λ y. is_never T y || has (opposite y) g) g x (not-true (clashes T g) clear) i)).0;
       no_reference = λ x i. no_one (reference T x) (parts x i).1;
     }
 
