@@ -4,3 +4,4 @@ pub mod Slots
 pub mod Alternatives
 pub mod Laws
 pub mod Named
+pub mod Examples
