@@ -1,0 +1,54 @@
+-- Groups are put together in any grouping, and the group that asks nothing changes none.
+use Rattle.std.proofs.Common.{◌≡◌, ℤ, int_le, List, [], ◌++◌, cond, Option, Some, None, refl, ap, sym, ◌∙◌, arith}
+use Rattle.std.proofs.lemmas.Int.{ints}
+use Rattle.std.proofs.lemmas.List.{append_assoc, append-nil}
+use Rattle.number_groups.specs.Group.{Group}
+use Rattle.number_finder.specs.SetGroup.{any_number, greater, lesser, both}
+
+greater-more : (m k n : ℤ) → cond (int_le (cond (int_le m k) k m) n) n (cond (int_le m k) k m)
+    ≡ cond (int_le m (cond (int_le k n) n k)) (cond (int_le k n) n k) m
+greater-more m k n = grind (arith, ints)
+
+lesser-more : (m k n : ℤ) → cond (int_le (cond (int_le m k) m k) n) (cond (int_le m k) m k) n
+    ≡ cond (int_le m (cond (int_le k n) k n)) m (cond (int_le k n) k n)
+lesser-more m k n = grind (arith, ints)
+
+greater-assoc : (a b c : Option ℤ) → greater (greater a b) c ≡ greater a (greater b c)
+greater-assoc None b c = refl
+greater-assoc (Some m) None c = refl
+greater-assoc (Some m) (Some k) None = refl
+greater-assoc (Some m) (Some k) (Some n) = ap Some (greater-more m k n)
+
+lesser-assoc : (a b c : Option ℤ) → lesser (lesser a b) c ≡ lesser a (lesser b c)
+lesser-assoc None b c = refl
+lesser-assoc (Some m) None c = refl
+lesser-assoc (Some m) (Some k) None = refl
+lesser-assoc (Some m) (Some k) (Some n) = ap Some (lesser-more m k n)
+
+pub both-assoc : (f g h : Group) → both (both f g) h ≡ both f (both g h)
+both-assoc f g h =
+    let low = greater-assoc f.low g.low h.low in
+    let high = lesser-assoc f.high g.high h.high in
+    let ms = append_assoc f.multiples g.multiples h.multiples in
+    let bs = append_assoc f.not_multiples g.not_multiples h.not_multiples in
+    let ss = append_assoc f.sets g.sets h.sets in
+    let ts = append_assoc f.not_sets g.not_sets h.not_sets in
+    cc
+
+greater-none : (a : Option ℤ) → greater a None ≡ a
+greater-none None = refl
+greater-none (Some m) = refl
+
+lesser-none : (a : Option ℤ) → lesser a None ≡ a
+lesser-none None = refl
+lesser-none (Some m) = refl
+
+pub both-none : (g : Group) → both g any_number ≡ g
+both-none g =
+    let h = both g any_number in
+    ap (λ z. record h { low = z }) (greater-none g.low)
+    ∙ ap (λ z. record h { low = g.low; high = z }) (lesser-none g.high)
+    ∙ ap (λ z. record h { low = g.low; high = g.high; multiples = z }) (append-nil g.multiples)
+    ∙ ap (λ z. record g { not_multiples = z; sets = h.sets; not_sets = h.not_sets }) (append-nil g.not_multiples)
+    ∙ ap (λ z. record g { sets = z; not_sets = h.not_sets }) (append-nil g.sets)
+    ∙ ap (λ z. record g { not_sets = z }) (append-nil g.not_sets)

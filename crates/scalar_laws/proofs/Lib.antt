@@ -1,0 +1,4 @@
+pub mod Groups
+pub mod Both
+pub mod Ready
+pub mod Numbers
