@@ -11,7 +11,7 @@ use Rattle.list_laws.specs.In.{IsIn}
 use Rattle.list_laws.proofs.Lists.{in_append, from_map}
 use Rattle.frame_laws.proofs.CompletePlans.{count_serve, count_push, from_complete_of, unless}
 
-ends_append : (xs ys : List PlanStep) → ends (xs ++ ys) ≡ ends xs + ends ys
+pub ends_append : (xs ys : List PlanStep) → ends (xs ++ ys) ≡ ends xs + ends ys
 ends_append [] ys = omega arith
 ends_append (x ∷ xs) ys = go (is_end x) (ends_append xs ys) where
   go : (b : Bool) → ends (xs ++ ys) ≡ ends xs + ends ys
@@ -49,7 +49,7 @@ in_filter p x (y ∷ xs) i = go (p y) refl i (in_filter p x xs) where
   go false e j more = more j
 
 module _ (T : List Position) (frame : Frame) where
-  unless_same : (p : Plan) (ss : List PlanStep) → is_at_end (size frame p) frame.below ≡ false
+  pub unless_same : (p : Plan) (ss : List PlanStep) → is_at_end (size frame p) frame.below ≡ false
       → first_clash T frame p ≡ None → unless_dropped T frame p ss ≡ ss
   unless_same p ss e f = ap (λ b. cond b (Over ∷ []) (by_clash (first_clash T frame p) ss)) e
       ∙ ap (λ o. by_clash o ss) f
@@ -64,7 +64,7 @@ module _ (T : List Position) (frame : Frame) where
     go false None = h
     go false (Some k) = omega arith
 
-  some_end : (left : List Signed) (p : Plan) → 1 ≤ ends (Steps left p)
+  pub some_end : (left : List Signed) (p : Plan) → 1 ≤ ends (Steps left p)
   some_end [] p = unless_ends p (Complete p ∷ []) (omega arith)
   some_end (d ∷ left) p =
       unless_ends p (Split (length (options frame d p)) ∷ flat_map (Steps left) (options frame d p))

@@ -1,0 +1,63 @@
+-- What literals ask of elements is of the table, and depends on the index of a place alone.
+use Rattle.std.proofs.Common.{◌≡◌, ℕ, zero, suc, ◌<◌, ◌≤◌, List, [], ◌∷◌, ◌++◌, map, flat_map, length, get_or, Bool, true, false, ◌&&◌, nat_lt, refl, arith, ap, ap₂, sym, ◌∙◌, subst}
+use Rattle.std.proofs.lemmas.Bool.{and_parts, and_from}
+use Rattle.documents.specs.Tests.{every}
+use Rattle.positions.specs.Position as P
+use Rattle.positions.specs.Position.{Position, names_below}
+use Rattle.goals.specs.Signed.{Signed, Plus, Minus, position_of}
+use Rattle.frames.specs.Frame.{Place, Head, In}
+use Rattle.frames.specs.ArrayFrame as A
+use Rattle.frames.specs.ArrayFrame.{item_at, index_of}
+use Rattle.js_algebra.specs.View.{places, is_in_table, are_in_table}
+use Rattle.js_algebra.specs.declared.node.Pos.{Pos}
+use Rattle.js_arrays.specs.Elements.{asked_at, served_at}
+
+pub item-within : (ps : List Pos) (r i : ℕ) (p : Pos) → i < length ps → p ≡ get_or ps i p
+    → p.0 ≡ item_at (places ps) r i
+item-within [] r i p l e = absurd (omega (arith, l))
+item-within (q ∷ ps) r zero p l e = ap (λ x. x.0) e
+item-within (q ∷ ps) r (suc i) p l e = item-within ps r i p (omega (arith, l)) e
+
+pub item-past : (ps : List Pos) (r i : ℕ) → length ps ≤ i → r ≡ item_at (places ps) r i
+item-past [] r i l = refl
+item-past (q ∷ ps) r zero l = absurd (omega (arith, l))
+item-past (q ∷ ps) r (suc i) l = item-past ps r i (omega (arith, l))
+
+item-below : (n : ℕ) (ps : List ℕ) (r i : ℕ) → nat_lt r n ≡ true → every (λ q. nat_lt q n) ps ≡ true
+    → nat_lt (item_at ps r i) n ≡ true
+item-below n [] r i a b = a
+item-below n (p ∷ ps) r zero a b = (and_parts (nat_lt p n) _ b).0
+item-below n (p ∷ ps) r (suc i) a b = item-below n ps r i a (and_parts (nat_lt p n) _ b).1
+
+abbrev below : ℕ → List Signed → Bool
+below n xs = every (λ x. nat_lt (position_of x) n) xs
+
+module _ (n i : ℕ) where
+  pub plus_each-below : (Q : Position) → names_below n Q ≡ true → below n (A.plus_each i Q) ≡ true
+  plus_each-below (P.Items ps r) e = let (a, b) = and_parts (nat_lt r n) _ e in and_from _ _ (item-below n ps r i a b) refl
+  plus_each-below _ e = refl
+
+  pub minus_each-below : (Q : Position) → names_below n Q ≡ true → below n (A.minus_each Q) ≡ true
+  minus_each-below (P.Contains q) e = e
+  minus_each-below _ e = refl
+
+  pub plus_serving-below : (Q : Position) → names_below n Q ≡ true → below n (A.plus_serving Q) ≡ true
+  plus_serving-below (P.Contains q) e = e
+  plus_serving-below _ e = refl
+
+  pub minus_serving-below : (Q : Position) → names_below n Q ≡ true → below n (A.minus_serving i Q) ≡ true
+  minus_serving-below (P.Items ps r) e = let (a, b) = and_parts (nat_lt r n) _ e in and_from _ _ (item-below n ps r i a b) refl
+  minus_serving-below _ e = refl
+
+module _ (T : List Position) (n : ℕ) (at : Place) where
+  pub each-at : (x : Signed) → A.each T n at x ≡ asked_at T (index_of n at) x
+  each-at (Plus p) = refl
+  each-at (Minus p) = refl
+
+  pub serving-at : (x : Signed) → A.serving T n at x ≡ served_at T (index_of n at) x
+  serving-at (Plus p) = refl
+  serving-at (Minus p) = refl
+
+  pub all-at : (xs : List Signed) → flat_map (A.each T n at) xs ≡ flat_map (asked_at T (index_of n at)) xs
+  all-at [] = refl
+  all-at (x ∷ xs) = ap₂ (λ a b. a ++ b) (each-at x) (all-at xs)
