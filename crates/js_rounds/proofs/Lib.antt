@@ -4,3 +4,4 @@ mod Rounding
 mod SpreadLemmas
 mod Marks
 mod Using
+mod Needs

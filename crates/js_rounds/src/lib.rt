@@ -5,6 +5,7 @@
 #![tactic(auto)]
 
 mod meeting;
+mod names;
 mod rounds;
 mod runs;
 mod used;
