@@ -5,3 +5,5 @@ mod SpreadLemmas
 mod Marks
 mod Using
 mod Needs
+mod Members
+mod InOrder

@@ -4,6 +4,7 @@
 //! than the depth of its document. `run` costs a look at each place of each alternative in each round.
 #![tactic(auto)]
 
+mod elements;
 mod meeting;
 mod names;
 mod rounds;

@@ -1,7 +1,8 @@
 //! The words of the cells that a document names, and members under them in order.
 
 ghost use Rattle.std.specs.Prelude.{◌≡◌, ◌<◌, ◌≤◌, ◌+◌, ◌^◌, ◌++◌, [], ℕ, List, true, map, max, IfOk, OnOk, get_or, length, take};
-ghost use Rattle.documents.specs.Tests.{every, same_word};
+ghost use Rattle.std.specs.Ordering.{is_lt};
+ghost use Rattle.documents.specs.Tests.{every, same_word, comes_before};
 ghost use Rattle.alternatives.specs.Slots.{capacity, cell_at, word_at, has_room, are_different};
 ghost use Rattle.alternatives.specs.Expansion.{names_branch};
 ghost use Rattle.expansions.specs.DocumentOf.{slot_name};
@@ -16,11 +17,13 @@ ghost use Rattle.js_expansion.specs.View.{slot_view};
 ghost use Rattle.js_rounds.specs.Spread.{spread};
 ghost use Rattle.js_rounds.specs.Slots.{slot_after, wanted, wanted_by, place_at};
 
+use crate::elements::place_of;
 use crate::runs::Run;
 use js_algebra::{BranchId, Goal};
 use js_doc::{Memory, PartId, PartMap, PartMember, Str, StrList};
 use js_expansion::{Expander, Slot};
 use std::alloc::Global;
+use std::cmp::Ordering;
 
 /// Zeros behind, up to a length.
 fn widen(needs: &mut Vec<u64>, len: usize) -> Result<(), Memory>
@@ -65,4 +68,128 @@ fn needs(alloc: Global, runs: &[Run]) -> Result<Vec<u64>, Memory>
         need(&mut needs, run)?;
     }
     Ok(needs)
+}
+
+/// The first words of a cell; none are asked for where none are needed.
+fn cell_words<E: Expander>(
+    alloc: Global,
+    expander: &E,
+    goal: &Goal,
+    branch: BranchId,
+    cell: usize,
+    need: u64,
+) -> Result<StrList, Memory>
+    requires taken { E.takes expander.now goal.now ≡ true }
+    requires branch { names_branch (E.expansion expander.now goal.now) (kind_view branch.kind) branch.number ≡ true }
+    requires cell { cell < 2 ^ 32 }
+    requires need { need ≤ capacity (cell_at (E.cells expander.now goal.now (kind_view branch.kind) branch.number) cell) }
+    ensures { IfOk result (λ l. l
+        ≡ take need (cell_at (E.cells expander.now goal.now (kind_view branch.kind) branch.number) cell)) }
+{
+    if need == 0 {
+        return Ok(StrList::from_vec(Vec::new(alloc)));
+    }
+    expander.words(alloc, goal, branch, cell as u32, need as u32)
+}
+
+/// Of each cell the words that runs need. Each cell is asked for once.
+fn words_of<E: Expander>(
+    alloc: Global,
+    expander: &E,
+    goal: &Goal,
+    branch: BranchId,
+    runs: &[Run],
+) -> Result<Vec<StrList>, Memory>
+    requires taken { E.takes expander.now goal.now ≡ true }
+    requires branch { names_branch (E.expansion expander.now goal.now) (kind_view branch.kind) branch.number ≡ true }
+    requires room { every (λ p. has_room (E.cells expander.now goal.now (kind_view branch.kind) branch.number) p.slot 1)
+        (spread runs.now) ≡ true }
+    ensures { IfOk result (λ v. (c : ℕ) → get_or v.items c [] ≡ take (wanted_by runs.now c)
+        (cell_at (E.cells expander.now goal.now (kind_view branch.kind) branch.number) c)) }
+{
+    let needs = needs(alloc, runs)?;
+    let mut lists = Vec::with_capacity(alloc, needs.len())?;
+    for cell in 0..needs.len() {
+        lists.push(cell_words(alloc, expander, goal, branch, cell, needs[cell])?)?;
+    }
+    Ok(lists)
+}
+
+/// Word `place` of a cell, nothing where there is none.
+fn word(alloc: Global, lists: &[StrList], cell: usize, place: usize) -> Result<Str, Memory>
+    ensures { IfOk result (λ s. s ≡ word_at lists.now cell place) }
+{
+    match lists.get(cell) {
+        Some(list) => match list.as_slice().get(place) {
+            Some(word) => word.copy(alloc),
+            None => Str::from_text(alloc, ""),
+        },
+        None => Str::from_text(alloc, ""),
+    }
+}
+
+/// The name of the slot so many behind one; an index has none.
+fn name(alloc: Global, lists: &[StrList], slot: Slot, behind: u32) -> Result<Str, Memory>
+    ensures { IfOk result (λ s. s ≡ slot_name (word_at lists.now) (slot_after (slot_view slot) behind)) }
+{
+    match slot {
+        Slot::Index(_) => Str::from_text(alloc, ""),
+        Slot::Name(cell, first) => {
+            word(alloc, lists, cell as usize, first as usize + behind as usize)
+        }
+    }
+}
+
+/// The members of a run, with a part for all.
+fn add_members(
+    alloc: Global,
+    members: &mut Vec<PartMember>,
+    lists: &[StrList],
+    run: &Run,
+    places: &[u32],
+) -> Result<(), Memory>
+    ensures { OnOk result (map member_view members.new.items ≡ map member_view members.old.items
+        ++ map (W.named (word_at lists.now) (place_at places.now))
+            (repeated (slot_view run.now.slot) run.now.count run.now.goal)) }
+{
+    let part = PartId(place_of(places, run.goal));
+    for behind in 0..run.count {
+        let name = name(alloc, lists, run.slot, behind)?;
+        members.push(PartMember { name, part })?;
+    }
+    Ok(())
+}
+
+/// The members of runs.
+fn members_of(
+    alloc: Global,
+    lists: &[StrList],
+    runs: &[Run],
+    places: &[u32],
+) -> Result<Vec<PartMember>, Memory>
+    ensures { IfOk result (λ v. map member_view v.items
+        ≡ map (W.named (word_at lists.now) (place_at places.now)) (spread runs.now)) }
+{
+    let mut members = Vec::new(alloc);
+    for run in runs {
+        add_members(alloc, &mut members, lists, run, places)?;
+    }
+    Ok(members)
+}
+
+/// The order of the names.
+fn compare(a: &PartMember, b: &PartMember) -> Ordering
+    ensures { is_lt result ≡ comes_before a.now.name b.now.name }
+{
+    a.name.as_text().cmp(b.name.as_text())
+}
+
+/// The members in ascending order of their names.
+fn in_order(mut members: Vec<PartMember>) -> Vec<PartMember>
+    requires { are_different same_word (map (λ m. m.0) (map member_view members.items)) ≡ true }
+    ensures sorted { map member_view result.items ≡ W.sorted (map member_view members.items) }
+    ensures rising { members_rise (map member_view result.items) ≡ true }
+{
+    members.sort_unstable_by(compare);
+    members
 }
