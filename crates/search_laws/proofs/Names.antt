@@ -6,15 +6,16 @@ use Rattle.std.proofs.lemmas.List.{map-append}
 use Rattle.documents.specs.Tests.{every, some, same_word}
 use Rattle.goals.specs.Signed.{Signed}
 use Rattle.list_laws.specs.In.{IsIn}
-use Rattle.list_laws.proofs.Lists.{every_at, from_flat_map, in_map, from_map}
-use Rattle.list_laws.proofs.Tests.{not_true, not_false, some_from, some_none, none_at}
-use Rattle.alternatives.specs.Alternative.{Slot, Index, Name, Shape, Elements, Members, Placed, Filler, Alternative}
+use Rattle.list_laws.proofs.Lists.{in_left, in_right, from_flat_map}
+use Rattle.list_laws.proofs.Tests.{not_true, some_none, none_at}
+use Rattle.alternatives.specs.Alternative.{Slot, Index, Name, Shape, Null, Truth, Number, Text, Elements, Members, Placed, Filler, Alternative}
 use Rattle.alternatives.specs.Slots.{capacity, cell_at, word_at, has_room, has_text, has_words, next_slot, slots_from, slots_of, same_slot, are_different, has_different_slots, has_different_words, fits_slot, has_fitting_slots}
 use Rattle.alternatives.specs.Expansion.{Expansion}
 use Rattle.expansions.specs.DocumentOf.{slot_name}
 use Rattle.search.specs.Explored.{Found, number_in}
 use Rattle.search.specs.Rounds.{NumberedPlaced, NumberedFiller, Numbered, with_member, with_filler, number_members, number_fillers, with_members, numbered, alternatives_at, alternatives_of}
 use Rattle.search.specs.Uses.{repeated, added_fillers, contents_of}
+use Rattle.search.specs.Witness.{named}
 use Rattle.search_laws.proofs.Built.{number_as}
 
 -- a list with some elements left out
@@ -194,9 +195,241 @@ module _ (cells : List (List (List ℕ))) where
       (every_flat (λ s. has_room cells s 1) (λ f. slots_from f.slot f.room) (λ f. has_room cells f.slot f.room) a.fillers
       (λ f h. slots_room f.slot f.room h) fs)
 
-  -- words at different places differ
+-- words at different places differ
 
-  word_in : (k : ℕ) (ws : List (List ℕ)) → k < length ws → IsIn (get_or ws k []) ws
-  word_in k [] l = absurd (omega (arith, l))
-  word_in zero (w ∷ ws) l = inl refl
-  word_in (suc k) (w ∷ ws) l = inr (word_in k ws (omega (arith, l)))
+pub same_word_flip : (v w : List ℕ) → same_word v w ≡ same_word w v
+same_word_flip [] [] = refl
+same_word_flip [] (d ∷ w) = refl
+same_word_flip (c ∷ v) [] = refl
+same_word_flip (c ∷ v) (d ∷ w) = ap₂ (λ a b. a && b) (flip c d) (same_word_flip v w) where
+  flip : (c d : ℕ) → nat_eq c d ≡ nat_eq d c
+  flip c d = go (eqb_tells c d) (eqb_tells d c) where
+    go : ((nat_eq c d ≡ true) × (c ≡ d)) ⊎ ((nat_eq c d ≡ false) × (c ≢ d))
+        → ((nat_eq d c ≡ true) × (d ≡ c)) ⊎ ((nat_eq d c ≡ false) × (d ≢ c)) → nat_eq c d ≡ nat_eq d c
+    go (inl (e, p)) (inl (h, q)) = e ∙ sym h
+    go (inr (e, p)) (inr (h, q)) = e ∙ sym h
+    go (inl (e, p)) (inr (h, q)) = absurd (q (sym p))
+    go (inr (e, p)) (inl (h, q)) = absurd (p (sym q))
+
+abbrev Words : List (List (List ℕ)) → List (List ℕ)
+Words cells = flat_map (λ words. words) cells
+
+word_in : (k : ℕ) (ws : List (List ℕ)) → k < length ws → IsIn (get_or ws k []) ws
+word_in k [] l = absurd (omega (arith, l))
+word_in zero (w ∷ ws) l = inl refl
+word_in (suc k) (w ∷ ws) l = inr (word_in k ws (omega (arith, l)))
+
+cell_in : (cells : List (List (List ℕ))) (c k : ℕ) → k < length (cell_at cells c)
+    → IsIn (word_at cells c k) (flat_map (λ words. words) cells)
+cell_in [] c k l = absurd (omega (arith, l))
+cell_in (ws ∷ cells) zero k l = in_left (get_or ws k []) ws (flat_map (λ words. words) cells) (word_in k ws l)
+cell_in (ws ∷ cells) (suc c) k l =
+    in_right (word_at cells c k) ws (flat_map (λ words. words) cells) (cell_in cells c k l)
+
+-- of two lists joined
+record Both {A : Type 0} (same : A → A → Bool) (xs ys : List A) : Type 0 where
+  left : are_different same xs ≡ true
+  right : are_different same ys ≡ true
+  across : (x y : A) → IsIn x xs → IsIn y ys → same x y ≡ false
+
+different_append : {A : Type 0} (same : A → A → Bool) (xs ys : List A) → are_different same (xs ++ ys) ≡ true
+    → Both same xs ys
+different_append same [] ys e = record { left = refl; right = e; across = λ x y i j. absurd i }
+different_append same (x ∷ xs) ys e =
+    let (a, b) = and_parts (not (some (same x) (xs ++ ys))) (are_different same (xs ++ ys)) e in
+    let n = not_true (some (same x) (xs ++ ys)) a in
+    let more = different_append same xs ys b in
+    record {
+      left = and_from (not (some (same x) xs)) (are_different same xs)
+          (not_from (some (same x) xs)
+          (some_none (same x) xs (λ y i. none_at (same x) y (xs ++ ys) n (in_left y xs ys i)))) more.left;
+      right = more.right;
+      across = λ u v i j. go u v n more.across i j;
+    }
+  where
+    go : (u v : _) → some (same x) (xs ++ ys) ≡ false → ((u v : _) → IsIn u xs → IsIn v ys → same u v ≡ false)
+        → (u ≡ x) ⊎ IsIn u xs → IsIn v ys → same u v ≡ false
+    go u v n more (inl e) j = ap (λ z. same z v) e ∙ none_at (same x) v (xs ++ ys) n (in_right v xs ys j)
+    go u v n more (inr i) j = more u v i j
+
+different_at : (ws : List (List ℕ)) → are_different same_word ws ≡ true → (k l : ℕ) → k < length ws → l < length ws
+    → k ≢ l → same_word (get_or ws k []) (get_or ws l []) ≡ false
+different_at [] e k l p q o = absurd (omega (arith, p))
+different_at (w ∷ ws) e zero zero p q o = absurd (o refl)
+different_at (w ∷ ws) e zero (suc l) p q o =
+    let (a, b) = and_parts (not (some (same_word w) ws)) (are_different same_word ws) e in
+    none_at (same_word w) (get_or ws l []) ws (not_true (some (same_word w) ws) a) (word_in l ws (omega (arith, q)))
+different_at (w ∷ ws) e (suc k) zero p q o =
+    let (a, b) = and_parts (not (some (same_word w) ws)) (are_different same_word ws) e in
+    same_word_flip (get_or ws k []) w
+    ∙ none_at (same_word w) (get_or ws k []) ws (not_true (some (same_word w) ws) a) (word_in k ws (omega (arith, p)))
+different_at (w ∷ ws) e (suc k) (suc l) p q o =
+    let (a, b) = and_parts (not (some (same_word w) ws)) (are_different same_word ws) e in
+    different_at ws b k l (omega (arith, p)) (omega (arith, q)) (λ z. o (ap suc z))
+
+words_apart : (cells : List (List (List ℕ))) → are_different same_word (flat_map (λ words. words) cells) ≡ true
+    → (c k d l : ℕ) → k < length (cell_at cells c) → l < length (cell_at cells d)
+    → (c ≡ d → k ≡ l → ⊥) → same_word (word_at cells c k) (word_at cells d l) ≡ false
+words_apart [] e c k d l p q o = absurd (omega (arith, p))
+words_apart (ws ∷ cells) e zero k zero l p q o =
+    let b = different_append same_word ws (flat_map (λ words. words) cells) e in
+    different_at ws b.left k l p q (λ z. o refl z)
+words_apart (ws ∷ cells) e zero k (suc d) l p q o =
+    let b = different_append same_word ws (flat_map (λ words. words) cells) e in
+    b.across (get_or ws k []) (word_at cells d l) (word_in k ws p) (cell_in cells d l q)
+words_apart (ws ∷ cells) e (suc c) k zero l p q o =
+    let b = different_append same_word ws (flat_map (λ words. words) cells) e in
+    same_word_flip (word_at cells c k) (get_or ws l [])
+    ∙ b.across (get_or ws l []) (word_at cells c k) (word_in l ws q) (cell_in cells c k p)
+words_apart (ws ∷ cells) e (suc c) k (suc d) l p q o =
+    let b = different_append same_word ws (flat_map (λ words. words) cells) e in
+    words_apart cells b.right c k d l p q (λ z. o (ap suc z))
+
+module _ (cells : List (List (List ℕ))) (apart : has_different_words cells ≡ true) where
+  room_low : (c k : ℕ) → has_room cells (Name c k) 1 ≡ true → k < length (cell_at cells c)
+  room_low c k e =
+      let (a, b) = and_parts (nat_lt c (length cells)) (nat_le (k + 1) (capacity (cell_at cells c))) e in
+      let l = leb-true (k + 1) (capacity (cell_at cells c)) b in omega (arith, l)
+
+  name_apart : (s t : Slot) → fits_slot Members s ≡ true → fits_slot Members t ≡ true → has_room cells s 1 ≡ true
+      → has_room cells t 1 ≡ true → same_slot s t ≡ false
+      → same_word (slot_name (word_at cells) s) (slot_name (word_at cells) t) ≡ false
+  name_apart (Index i) t f g a b e = cc
+  name_apart (Name c k) (Index j) f g a b e = cc
+  name_apart (Name c k) (Name d l) f g a b e =
+      words_apart cells apart c k d l (room_low c k a) (room_low d l b) (λ p q. true≢false
+      (sym (and_from (nat_eq c d) (nat_eq k l) (eq-eqb c d p) (eq-eqb k l q)) ∙ e))
+
+  pub names_apart : (place : ℕ → ℕ) (ps : List NumberedPlaced)
+      → every (λ p. has_room cells p.slot 1) ps ≡ true → every (λ p. fits_slot Members p.slot) ps ≡ true
+      → are_different same_slot (map (λ p. p.slot) ps) ≡ true
+      → are_different same_word (map (λ m. m.0) (map (named (word_at cells) place) ps)) ≡ true
+  names_apart place [] r f d = refl
+  names_apart place (p ∷ ps) r f d =
+      let (r0, rs) = and_parts (has_room cells p.slot 1) (every (λ p. has_room cells p.slot 1) ps) r in
+      let (f0, fs) = and_parts (fits_slot Members p.slot) (every (λ p. fits_slot Members p.slot) ps) f in
+      let (d0, ds) = and_parts (not (some (same_slot p.slot) (map (λ p. p.slot) ps)))
+      (are_different same_slot (map (λ p. p.slot) ps)) d in
+      and_from (not (some (same_word (slot_name (word_at cells) p.slot))
+      (map (λ m. m.0) (map (named (word_at cells) place) ps))))
+      (are_different same_word (map (λ m. m.0) (map (named (word_at cells) place) ps)))
+      (not_from _ (others ps rs fs (not_true (some (same_slot p.slot) (map (λ p. p.slot) ps)) d0) r0 f0))
+      (names_apart place ps rs fs ds)
+    where
+      others : (qs : List NumberedPlaced) → every (λ p. has_room cells p.slot 1) qs ≡ true
+          → every (λ p. fits_slot Members p.slot) qs ≡ true
+          → some (same_slot p.slot) (map (λ p. p.slot) qs) ≡ false → has_room cells p.slot 1 ≡ true
+          → fits_slot Members p.slot ≡ true
+          → some (same_word (slot_name (word_at cells) p.slot)) (map (λ m. m.0) (map (named (word_at cells) place) qs))
+          ≡ false
+      others [] r f e a b = refl
+      others (q ∷ qs) r f e a b =
+          let (r0, rs) = and_parts (has_room cells q.slot 1) (every (λ p. has_room cells p.slot 1) qs) r in
+          let (f0, fs) = and_parts (fits_slot Members q.slot) (every (λ p. fits_slot Members p.slot) qs) f in
+          let (e0, es) = or_parts (same_slot p.slot q.slot) (some (same_slot p.slot) (map (λ p. p.slot) qs)) e in
+          ap₂ (λ x y. x || y) (name_apart p.slot q.slot b f0 a r0 e0) (others qs rs fs es a b) where
+            or_parts : (x y : Bool) → (x || y) ≡ false → (x ≡ false) × (y ≡ false)
+            or_parts true y h = cc
+            or_parts false y h = (refl, h)
+
+fits_next : (sh : Shape) (s : Slot) → fits_slot sh (next_slot s) ≡ fits_slot sh s
+fits_next Null (Index i) = refl
+fits_next (Truth b) (Index i) = refl
+fits_next (Number n) (Index i) = refl
+fits_next Text (Index i) = refl
+fits_next Elements (Index i) = refl
+fits_next Members (Index i) = refl
+fits_next Null (Name c k) = refl
+fits_next (Truth b) (Name c k) = refl
+fits_next (Number n) (Name c k) = refl
+fits_next Text (Name c k) = refl
+fits_next Elements (Name c k) = refl
+fits_next Members (Name c k) = refl
+
+slots_fit : (sh : Shape) (s : Slot) (n : ℕ) → fits_slot sh s ≡ true → every (fits_slot sh) (slots_from s n) ≡ true
+slots_fit sh s zero e = refl
+slots_fit sh s (suc n) e =
+    and_from (fits_slot sh s) (every (fits_slot sh) (slots_from (next_slot s) n)) e
+    (slots_fit sh (next_slot s) n (fits_next sh s ∙ e))
+
+all_fit : (a : Alternative) → has_fitting_slots a ≡ true → every (fits_slot a.shape) (slots_of a) ≡ true
+all_fit a e =
+    let (ms, fs) = and_parts (every (λ m. fits_slot a.shape m.slot) a.members)
+    (every (λ f. fits_slot a.shape f.slot) a.fillers) e in
+    every_append (fits_slot a.shape) (map (λ m. m.slot) a.members) (flat_map (λ f. slots_from f.slot f.room) a.fillers)
+    (every_map (fits_slot a.shape) (λ (m : Placed). m.slot) a.members ∙ ms)
+    (every_flat (fits_slot a.shape) (λ f. slots_from f.slot f.room) (λ f. fits_slot a.shape f.slot) a.fillers
+    (λ f h. slots_fit a.shape f.slot f.room h) fs)
+
+-- the numbered alternatives of a goal
+
+pub record IsNumbered (gs : List (List Signed)) (bs : List Alternative) (a : Numbered) : Type 0 where
+  pub alternative : Alternative
+  pub members : List NumberedPlaced
+  pub is_in : IsIn alternative bs
+  pub numbers : number_members gs alternative.members ≡ Some members
+  pub is : a ≡ number_as gs alternative members
+
+numbered_from : (gs : List (List Signed)) (bs : List Alternative) (a : Numbered) → IsIn a (numbered gs bs)
+    → IsNumbered gs bs a
+numbered_from gs bs a i =
+    let (b, j, k) = from_flat_map (λ a. with_members gs a (number_members gs a.members)) a bs i in
+    go b j (number_members gs b.members) refl k where
+      go : (b : Alternative) → IsIn b bs → (o : Option (List NumberedPlaced)) → number_members gs b.members ≡ o
+          → IsIn a (with_members gs b o) → IsNumbered gs bs a
+      go b j None e k = absurd k
+      go b j (Some ns) e (inl s) = record { alternative = b; members = ns; is_in = j; numbers = e; is = s }
+      go b j (Some ns) e (inr n) = absurd n
+
+get_in : {A : Type 0} (xs : List A) (i : ℕ) (x : A) → slice_get xs i ≡ Some x → IsIn x xs
+get_in [] i x e = cc
+get_in (y ∷ xs) zero x e = inl (some_same e) where
+  some_same : Some y ≡ Some x → x ≡ y
+  some_same e = cc
+get_in (y ∷ xs) (suc i) x e = inr (get_in xs i x e)
+
+pub numbered_of : (expansion : List Signed → Expansion) (f : Found) (n i : ℕ) (g : List Signed) (a : Numbered)
+    → slice_get f.goals n ≡ Some g → slice_get (alternatives_of expansion f n) i ≡ Some a
+    → IsNumbered f.goals (expansion g).alternatives a
+numbered_of expansion f n i g a at e = go (nat_lt n f.taken) (get_in (alternatives_of expansion f n) i a e) where
+  go : (b : Bool) → IsIn a (cond b (alternatives_at expansion f (slice_get f.goals n)) [])
+      → IsNumbered f.goals (expansion g).alternatives a
+  go false j = absurd j
+  go true j =
+      numbered_from f.goals (expansion g).alternatives a
+      (subst (λ o. IsIn a (alternatives_at expansion f o)) at j)
+
+-- what the document of an alternative contains
+
+module _ (gs : List (List Signed)) (bs : List Alternative) (a : Numbered) (h : IsNumbered gs bs a) (has : ℕ → Bool)
+    (cells : List (List (List ℕ))) where
+  slots_are : Sub (map (λ p. p.slot) (contents_of has a)) (slots_of h.alternative)
+  slots_are =
+      subst (λ z. Sub (map (λ p. p.slot) (contents_of has z)) (slots_of h.alternative)) (sym h.is)
+      (contents_slots gs has h.alternative h.members h.numbers)
+
+  pub contents_room : has_words cells h.alternative ≡ true → every (λ p. has_room cells p.slot 1) (contents_of has a) ≡ true
+  contents_room e =
+      sym (every_map (λ s. has_room cells s 1) (λ (p : NumberedPlaced). p.slot) (contents_of has a))
+      ∙ every_sub (λ s. has_room cells s 1) (map (λ p. p.slot) (contents_of has a)) (slots_of h.alternative) slots_are
+      (all_room cells h.alternative e)
+
+  pub contents_apart : a.shape ≡ Members → has_words cells h.alternative ≡ true → has_fitting_slots h.alternative ≡ true
+      → has_different_slots h.alternative ≡ true → has_different_words cells ≡ true → (place : ℕ → ℕ)
+      → are_different same_word (map (λ m. m.0) (map (named (word_at cells) place) (contents_of has a))) ≡ true
+  contents_apart shape words fits slots apart place =
+      names_apart cells apart place (contents_of has a) (contents_room words)
+      (sym (every_map (fits_slot Members) (λ (p : NumberedPlaced). p.slot) (contents_of has a))
+      ∙ every_sub (fits_slot Members) (map (λ p. p.slot) (contents_of has a)) (slots_of h.alternative) slots_are
+      (subst (λ z. every (fits_slot z) (slots_of h.alternative) ≡ true) (sym (ap (λ z. z.shape) h.is) ∙ shape)
+      (all_fit h.alternative fits)))
+      (different_sub same_slot (map (λ p. p.slot) (contents_of has a)) (slots_of h.alternative) slots_are slots)
+
+  -- a text has its word
+  pub text_room : a.shape ≡ Text → has_words cells h.alternative ≡ true → 0 < capacity (cell_at cells 0)
+  text_room shape e =
+      let (x, fs) = and_parts (has_text cells h.alternative.shape && every (λ m. has_room cells m.slot 1) h.alternative.members)
+      (every (λ f. has_room cells f.slot f.room) h.alternative.fillers) e in
+      let (t, ms) = and_parts (has_text cells h.alternative.shape) (every (λ m. has_room cells m.slot 1) h.alternative.members) x in
+      ltb-true 0 (capacity (cell_at cells 0))
+      (subst (λ z. has_text cells z ≡ true) (sym (ap (λ z. z.shape) h.is) ∙ shape) t)
