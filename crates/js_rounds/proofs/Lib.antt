@@ -4,3 +4,6 @@ mod Rounding
 mod SpreadLemmas
 mod Marks
 mod Using
+mod Needs
+mod Members
+mod InOrder

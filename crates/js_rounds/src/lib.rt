@@ -4,7 +4,9 @@
 //! than the depth of its document. `run` costs a look at each place of each alternative in each round.
 #![tactic(auto)]
 
+mod elements;
 mod meeting;
+mod names;
 mod rounds;
 mod runs;
 mod used;

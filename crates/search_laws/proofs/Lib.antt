@@ -8,6 +8,7 @@ pub mod Built
 pub mod Used
 pub mod Quiet
 pub mod Marking
+pub mod Names
 pub mod Parts
 pub mod Witness
 pub mod Decided

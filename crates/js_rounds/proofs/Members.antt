@@ -1,0 +1,91 @@
+-- Elements and members of runs.
+use Rattle.std.proofs.Common.{◌≡◌, ℕ, zero, suc, ◌+◌, ◌≤◌, ◌<◌, List, [], ◌∷◌, ◌++◌, map, length, drop, get_or, Option, None, slice_get, Result, Ok, Err, IfOk, refl, ap, ap₂, sym, ◌∙◌, arith}
+use Rattle.std.proofs.lemmas.List.{append-nil, append_assoc, map-append, drop_all}
+use Rattle.std.specs.Prelude.{chars}
+use Rattle.std.proofs.lemmas.Str.{chars-nil}
+use Rattle.alternatives.specs.Alternative.{Slot, Index, Name}
+use Rattle.alternatives.specs.Slots.{next_slot}
+use Rattle.search.specs.Rounds.{NumberedPlaced}
+use Rattle.search.specs.Uses.{repeated}
+use Rattle.js_expansion.specs.View.{slot_view}
+use Rattle.js_rounds.specs.Spread.{spread}
+use Rattle.js_rounds.specs.Slots.{slot_after}
+use Rattle.js_rounds.specs.declared.runs.Run.{Run}
+use Rattle.js_rounds.proofs.SpreadLemmas.{next_left}
+
+after_next : (s : Slot) (n : ℕ) → slot_after (next_slot s) n ≡ slot_after s (suc n)
+after_next (Index i) n = ap Index (plus i n) where
+  plus : (i n : ℕ) → suc i + n ≡ i + suc n
+  plus i n = omega arith
+after_next (Name c k) n = ap (Name c) (plus k n) where
+  plus : (i n : ℕ) → suc i + n ≡ i + suc n
+  plus i n = omega arith
+
+after_none : (s : Slot) → slot_after s 0 ≡ s
+after_none (Index i) = ap Index (plus i) where
+  plus : (i : ℕ) → i + 0 ≡ i
+  plus i = omega arith
+after_none (Name c k) = ap (Name c) (plus k) where
+  plus : (i : ℕ) → i + 0 ≡ i
+  plus i = omega arith
+
+abbrev placed : Slot → ℕ → NumberedPlaced
+placed s g = record { slot = s; goal = g }
+
+-- one more at the end
+pub repeated_more : (s : Slot) (n g : ℕ)
+    → repeated s (n + 1) g ≡ repeated s n g ++ record { slot = slot_after s n; goal = g } ∷ []
+repeated_more s n g = ap (λ z. repeated s z g) (one n) ∙ go s n where
+  one : (n : ℕ) → n + 1 ≡ suc n
+  one n = omega arith
+
+  go : (s : Slot) (n : ℕ) → repeated s (suc n) g ≡ repeated s n g ++ record { slot = slot_after s n; goal = g } ∷ []
+  go s zero = ap (λ z. placed z g ∷ []) (sym (after_none s))
+  go s (suc n) =
+      ap (λ l. placed s g ∷ l)
+      (go (next_slot s) n ∙ ap (λ z. repeated (next_slot s) n g ++ placed z g ∷ []) (after_next s n))
+
+-- one more element or member
+pub repeated_turn : {A : Type 0} (h : NumberedPlaced → A) (s : Slot) (n g : ℕ) (now first next : List A) (x : A)
+    → now ≡ first ++ map h (repeated s n g) → next ≡ now ++ x ∷ []
+    → x ≡ h (record { slot = slot_after s n; goal = g }) → next ≡ first ++ map h (repeated s (n + 1) g)
+repeated_turn h s n g now first next x e k q =
+    k ∙ ap₂ (λ a b. a ++ b ∷ []) e q
+    ∙ append_assoc first (map h (repeated s n g)) (h (placed (slot_after s n) g) ∷ [])
+    ∙ ap (λ l. first ++ l)
+    (sym (map-append h (repeated s n g) (placed (slot_after s n) g ∷ [])) ∙ ap (map h) (sym (repeated_more s n g)))
+
+-- one more run
+pub spread_turn : {A : Type 0} (h : NumberedPlaced → A) (runs : List Run) (i : ℕ) (r : Run) (now next all : List A)
+    → i < length runs
+    → next ≡ now ++ map h (repeated (slot_view (get_or runs i r).slot) (get_or runs i r).count (get_or runs i r).goal)
+    → now ++ map h (spread (drop i runs)) ≡ all → next ++ map h (spread (drop (i + 1) runs)) ≡ all
+spread_turn h runs i d now next all l e k =
+    let r = get_or runs i d in
+    let rest = spread (drop (i + 1) runs) in
+    ap (λ z. z ++ map h rest) e
+    ∙ append_assoc now (map h (repeated (slot_view r.slot) r.count r.goal)) (map h rest)
+    ∙ ap (λ z. now ++ z)
+    (sym (map-append h (repeated (slot_view r.slot) r.count r.goal) rest)
+    ∙ ap (λ z. map h (spread z)) (sym (next_left runs i d l)))
+    ∙ k
+
+pub spread_end : {A : Type 0} (h : NumberedPlaced → A) (runs : List Run) (i : ℕ) (now all : List A) → length runs ≤ i
+    → now ++ map h (spread (drop i runs)) ≡ all → now ≡ all
+spread_end h runs i now all l e =
+    sym (ap (λ z. now ++ map h (spread z)) (drop_all i runs l) ∙ append-nil now) ∙ e
+
+-- where there is none the name is empty
+
+if_ok : {A E : Type 0} {P Q : A → Type 0} (r : Result A E) → ((x : A) → P x → Q x) → IfOk r P → IfOk r Q
+if_ok (Ok x) f h = f x h
+if_ok (Err e) f h = tt
+
+pub empty_name : {E : Type 0} (r : Result (List ℕ) E) (w : List ℕ) → w ≡ [] → IfOk r (λ s. s ≡ chars [])
+    → IfOk r (λ s. s ≡ w)
+empty_name r w e h = if_ok r (λ s k. k ∙ chars-nil ∙ sym e) h
+
+pub none_there : {A : Type 0} (xs : List A) (i : ℕ) (d : A) → length xs ≤ i → get_or xs i d ≡ d
+none_there [] i d e = refl
+none_there (x ∷ xs) zero d e = absurd (omega (arith, e))
+none_there (x ∷ xs) (suc i) d e = none_there xs i d (omega (arith, e))
