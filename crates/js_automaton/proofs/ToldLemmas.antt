@@ -1,7 +1,7 @@
 -- Which patterns match in the words of each row, a flag each.
 --
 -- Key: `told-at`, the flag of a row and a pattern.
-use Rattle.std.proofs.Common.{◌≡◌, ℕ, zero, suc, ◌+◌, ◌*◌, ◌<◌, ◌≤◌, Bool, false, Some, slice_get, List, [], ◌∷◌, ◌++◌, map, flat_map, length, take, get_or, refl, sym, ◌∙◌, ap, ap₂, append-nil, append_assoc, arith}
+use Rattle.std.proofs.Common.{◌≡◌, ℕ, zero, suc, ◌+◌, ◌*◌, ◌<◌, ◌≤◌, Bool, false, Some, slice_get, List, [], ◌∷◌, ◌++◌, map, flat_map, length, take, get_or, sym, ◌∙◌, ap, ap₂, append-nil, append_assoc, arith}
 use Rattle.std.proofs.lemmas.List.{take_more, take_all, length-take-le, map-append, get_or-map, length-map}
 use Rattle.std.proofs.lemmas.List.Concat.{flat_map-append}
 use Rattle.patterns.specs.Tree.{Tree, empty}

@@ -5,7 +5,7 @@ use Rattle.std.specs.Option.{option_map_or}
 use Rattle.std.proofs.lemmas.List.{take_more, take_all, map-append, get_or-map, length-map}
 use Rattle.std.proofs.lemmas.Bool.{and_parts}
 use Rattle.patterns.specs.CharSet.{is_scalar}
-use Rattle.patterns.specs.Decision.{is_empty, finds}
+use Rattle.patterns.specs.Decision.{finds}
 use Rattle.patterns.specs.Tree.{empty}
 use Rattle.word_states.specs.Atom.{Atom, Match, Words, LengthMin, same_word, is_true}
 use Rattle.word_states.specs.Classes.{are_alike, dividers, class_firsts, class_count, is_in_class}

@@ -1,5 +1,5 @@
 -- Where all atoms of a position are known, so are those that it is itself and those of the positions that it asks.
-use Rattle.std.proofs.Common.{◌≡◌, ◌≢◌, ℕ, zero, suc, ◌-◌, List, [], ◌∷◌, ◌++◌, flat_map, Bool, true, nat_lt, refl, subst, arith}
+use Rattle.std.proofs.Common.{◌≡◌, ◌≢◌, ℕ, zero, suc, ◌-◌, List, [], ◌∷◌, flat_map, Bool, true, nat_lt, refl, subst, arith}
 use Rattle.std.proofs.lemmas.Bool.{and_parts, and_from}
 use Rattle.documents.specs.Tests.{every}
 use Rattle.word_states.specs.Atom.{Atom}

@@ -10,7 +10,7 @@ use Rattle.positions.specs.Position.{Position, True, All, Any, One, Items}
 use Rattle.positions.specs.Position.{position_at, in_place, of_parts, names_below, in_range, ranks_fall, is_table}
 use Rattle.positions.specs.Holds.{asks, holds, IsTable}
 use Rattle.position_laws.specs.Join.{renamed, moved, joined}
-use Rattle.position_laws.proofs.Lists.{all-weaker, all-both, all-everywhere, every-all, all-every, every-same, every-map, every-append, every-weaker}
+use Rattle.position_laws.proofs.Lists.{all-weaker, all-both, all-everywhere, all-every, every-same, every-map, every-append, every-weaker}
 use Rattle.position_laws.proofs.Asks.{asks-same, asks-renamed, holds-asks}
 use Rattle.position_laws.proofs.Tables.{is_table-length, is_table-below, is_table-range, is_table-fall, is_table-IsTable, names_below-all}
 

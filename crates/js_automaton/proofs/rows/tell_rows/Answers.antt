@@ -1,4 +1,4 @@
-use Rattle.std.proofs.Common.{◌≡◌, ◌<◌, ◌≤◌, [], length, map, get_or, sym, arith}
+use Rattle.std.proofs.Common.{◌<◌, ◌≤◌, [], length, map, get_or, sym, arith}
 use Rattle.std.proofs.lemmas.List.{length-map}
 use Rattle.js_nfa.specs.View.{tree_of}
 use Rattle.js_automaton.specs.TuplesView.{atoms_of}
