@@ -1,2 +1,4 @@
 mod Read
 pub mod Found
+-- Sets that tests make.
+mod TestSets

@@ -9,7 +9,7 @@ ghost use Rattle.number_finder.specs.SetGroup.{number_group};
 ghost use Rattle.number_finder.specs.NumbersOf.{numbers_of};
 ghost use Rattle.js_algebra.specs.View.{signed_view, are_in_table};
 ghost use Rattle.js_scalars.specs.SoFar.{group_so_far};
-ghost use Rattle.js_scalars.specs.Answers.{Answers};
+ghost use Rattle.js_scalars.specs.Answers.{Answers, IsFoundAt, IsNoneAt};
 
 use crate::asked::Asked;
 use crate::fault::NumberFault;
@@ -24,6 +24,21 @@ use std::alloc::Global;
 /// The alternative of the number that is found for the branch's set, none where no number meets it, or the limit that
 /// was passed. It takes memory for the divisors and lists of the set, and the time of `js_numbers::decide`.
 pub fn number_alternatives(alloc: Global, core: &Core, branch: &Branch) -> Result<Leaf, NumberFault>
+    requires { are_in_table core.now.positions branch.now.set ≡ true }
+    ensures answer { Answers (scalar_leaf K.Number A.Number branch.now.id.number
+        (numbers_of core.now.positions branch.now.set)) result }
+
+    // Where the set is saturated, the number of the alternative meets it, and without an alternative no number does.
+    ensures found { IfOk result (λ l. IsFoundAt core.now.positions branch.now.set branch.now.id.number l.alternatives) }
+    ensures none { IfOk result (λ l. IsNoneAt core.now.positions branch.now.set l.alternatives) }
+{
+    // The length comes with the fact that the positions are those of a table, on which the meaning rests.
+    let _length = core.len();
+    decided(alloc, core, branch)
+}
+
+/// The same without its meaning.
+fn decided(alloc: Global, core: &Core, branch: &Branch) -> Result<Leaf, NumberFault>
     requires { are_in_table core.now.positions branch.now.set ≡ true }
     ensures { Answers (scalar_leaf K.Number A.Number branch.now.id.number
         (numbers_of core.now.positions branch.now.set)) result }

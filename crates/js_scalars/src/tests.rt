@@ -1,8 +1,8 @@
 //! Number branches of one table, and the truth values of another. The numbers that are expected were worked out by a
 //! script of its own from the rules of number groups.
 
-ghost use Rattle.std.specs.Prelude.{◌≡◌, IfOk, true};
-ghost use Rattle.js_algebra.specs.View.{are_in_table};
+ghost use Rattle.std.specs.Prelude.{◌≡◌, map, IfOk, OnOk, true};
+ghost use Rattle.js_algebra.specs.View.{signed_view, are_in_table};
 
 use crate::{NumberFault, null_alternatives, number_alternatives, truth_alternatives};
 use js_algebra::{BranchId, Core, JsonKind, Node, NodeList, Pos, RankList, Signed, SignedList};
@@ -49,17 +49,26 @@ fn branch(alloc: Global, core: &Core, kind: JsonKind, places: Places) -> Result<
 {
     let mut set = Vec::new(alloc);
     for (plus, place) in places {
-        if *place < core.len() {
-            set.push(Signed {
-                pos: Pos(*place),
-                plus: *plus,
-            })?;
-        }
+        add_place(core, *plus, *place, &mut set)?;
     }
     Ok(Branch {
         id: BranchId { kind, number: 7 },
         set: SignedList::from_vec(set),
     })
+}
+
+#[tactic(auto, using(crate::proofs::TestSets::in_table_more))]
+fn add_place(core: &Core, plus: bool, place: u32, set: &mut Vec<Signed>) -> Result<(), Fail>
+    requires { are_in_table core.now.positions (map signed_view set.old.items) ≡ true }
+    ensures { OnOk result (are_in_table core.now.positions (map signed_view set.new.items) ≡ true) }
+{
+    if place < core.len() {
+        set.push(Signed {
+            pos: Pos(place),
+            plus,
+        })?;
+    }
+    Ok(())
 }
 
 /// The numbers that a leaf's alternatives build, where they are of this branch.
