@@ -1,5 +1,5 @@
 -- What is said of the entries of a schema is said of its value.
-use Rattle.std.proofs.Common.{◌≡◌, List, true, Result, Ok, Err, IfOk, string_bytes, ap, sym, ◌∙◌, subst}
+use Rattle.std.proofs.Common.{◌≡◌, List, true, Ok, string_bytes, ap, sym, ◌∙◌, subst}
 use Rattle.documents.specs.Json.{Json}
 use Rattle.documents.specs.WellFormed.{is_json}
 use Rattle.schemas.specs.Entry.{Entry}
@@ -23,7 +23,3 @@ ValueSays-entries j es (S.Read s ranks) w e says = (
 )
 ValueSays-entries j es (S.Refused words) w e says =
     subst (λ o. IsReadingOfResult j o (Refused (string_bytes words))) (sym e) (says j)
-
-pub IfOk-weaker : {A E : Type 0} (r : Result A E) (P Q : A → Type 0) → IfOk r P → ((x : A) → P x → Q x) → IfOk r Q
-IfOk-weaker (Ok x) P Q h f = f x h
-IfOk-weaker (Err e) P Q h f = tt

@@ -12,12 +12,14 @@ use Rattle.js_json.specs.declared.fault.RefFault.{RefFault}
 use Rattle.js_json.proofs.ValueLemmas.{is_json-value_of}
 use Rattle.js_pattern.specs.declared.fault.PatternFault.{PatternFault}
 use Rattle.js_keywords.specs.Reading.{rules}
+use Rattle.js_report.specs.RefusalWords.{cycle_words}
 use Rattle.js_report.specs.WholeFile.{longest_file}
-use Rattle.js_input.specs.SchemaReading.{Reading, Refused, Read, cycle_words, IsReadingOfEntries, IsReadingOfResult, IsReadingOfValue, IsReadingOf, IsSchemaReading}
+use Rattle.js_input.specs.SchemaReading.{Reading, Refused, Read, IsReadingOfEntries, IsReadingOfResult, IsReadingOfValue, IsReadingOf, IsSchemaReading}
 
 -- a file has one reading
 
-entries-one : (j : Json) (es : List Entry) (r s : Reading) → IsReadingOfEntries j es r → IsReadingOfEntries j es s → r ≡ s
+entries-one : (j : Json) (es : List Entry) (r s : Reading) → IsReadingOfEntries j es r → IsReadingOfEntries j es s
+    → r ≡ s
 entries-one j es (Read x) (Read y) h k = ap Read (h.0 ∙ sym k.0)
 entries-one j es (Read x) (Refused ws) h k = absurd (IsLeastCycle-unguarded (edges es) k.0 k.1 h.1)
 entries-one j es (Refused ws) (Read y) h k = absurd (IsLeastCycle-unguarded (edges es) h.0 h.1 k.1)

@@ -6,7 +6,7 @@ use Rattle.documents.specs.Json.{Json}
 use Rattle.schemas.specs.Entries.{document_of}
 use Rattle.js_json.specs.Value.{value_of}
 use Rattle.js_json.specs.Documents.{unwhole_places}
-use Rattle.js_refusal.specs.RefusalWords.{placed}
+use Rattle.js_report.specs.RefusalWords.{placed_words}
 use Rattle.js_report.specs.WholeFile.{longest_file}
 
 -- a document, or the words of the refusal after the file's role
@@ -25,7 +25,7 @@ json_text bytes = cond (starts_with nat_eq bytes document_line) (drop (length do
 -- the first number that isn't whole is told
 abbrev pub of_unwhole : Json → List (List (List ℕ)) → DocumentReading
 of_unwhole j [] = ReadDocument (document_of j)
-of_unwhole j (p ∷ ps) = RefusedDocument (placed (codes "notwhole") p)
+of_unwhole j (p ∷ ps) = RefusedDocument (placed_words (codes "notwhole") p)
 
 abbrev pub of_value : Option Json → DocumentReading
 of_value (Some j) = of_unwhole j (unwhole_places j)
@@ -34,4 +34,5 @@ of_value None = RefusedDocument (codes "notjson")
 -- its length first, then its JSON, then the first number that isn't whole
 abbrev pub document_reading : List ℕ → DocumentReading
 document_reading bytes =
-    cond (nat_lt longest_file (length bytes)) (RefusedDocument (codes "toolong")) (of_value (value_of (json_text bytes)))
+    cond (nat_lt longest_file (length bytes)) (RefusedDocument (codes "toolong"))
+    (of_value (value_of (json_text bytes)))

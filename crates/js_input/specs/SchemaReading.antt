@@ -1,34 +1,21 @@
 -- What the bytes of a schema file are read as.
-use Rattle.std.specs.Prelude.{◌≡◌, ℕ, List, [], ◌∷◌, ◌++◌, map, length, get_or, Bool, true, false, nat_lt, Option, Some, None, Result, Ok, Err, codes}
+use Rattle.std.specs.Prelude.{◌≡◌, ℕ, List, length, Bool, true, false, nat_lt, Option, Some, None, Result, Ok, Err, codes}
 use Rattle.documents.specs.Json.{Json}
-use Rattle.schemas.specs.Places.{Pointer}
 use Rattle.schemas.specs.Fault.{Fault}
 use Rattle.schemas.specs.Entry.{Entry}
 use Rattle.schemas.specs.Entries.{read}
 use Rattle.schemas.specs.Guarded.{edges, IsGuarded, IsLeastCycle}
 use Rattle.js_json.specs.Value.{value_of}
-use Rattle.js_json.specs.Pointer.{pointer_text, quoted}
 use Rattle.js_json.specs.declared.fault.RefFault.{RefFault}
 use Rattle.js_pattern.specs.declared.fault.PatternFault.{PatternFault}
 use Rattle.js_keywords.specs.Reading.{rules}
-use Rattle.js_refusal.specs.RefusalWords.{fault_words}
+use Rattle.js_report.specs.RefusalWords.{schema_words, cycle_words}
 use Rattle.js_report.specs.WholeFile.{longest_file}
 
 -- a schema, by its JSON value, or the words of the refusal after the file's role
 pub data Reading : Type 0 where
   Refused : List ℕ → Reading
   Read : Json → Reading
-
-abbrev pub pointer_at : List Entry → ℕ → Pointer
-pointer_at es e = get_or (map (λ x. x.pointer) es) e []
-
--- the places of some entries, each after a blank
-abbrev pub place_words : List Entry → List ℕ → List ℕ
-place_words es [] = []
-place_words es (e ∷ l) = (32 ∷ quoted (pointer_text (pointer_at es e))) ++ place_words es l
-
-abbrev pub cycle_words : List Entry → List ℕ → List ℕ
-cycle_words es l = codes "cycle" ++ place_words es l
 
 -- entries that no cycle leads through are read, and else the cycle that is told is refused. There is one such cycle
 abbrev pub IsReadingOfEntries : Json → List Entry → Reading → Type 0
@@ -38,7 +25,7 @@ IsReadingOfEntries j es (Refused words) = (l : List ℕ) × IsLeastCycle (edges 
 -- the first fault comes before cycles
 abbrev pub IsReadingOfResult : Json → Result (List Entry) (Fault PatternFault RefFault) → Reading → Type 0
 IsReadingOfResult j (Ok es) r = IsReadingOfEntries j es r
-IsReadingOfResult j (Err f) r = r ≡ Refused (fault_words f)
+IsReadingOfResult j (Err f) r = r ≡ Refused (schema_words f)
 
 abbrev pub IsReadingOfValue : Option Json → Reading → Type 0
 IsReadingOfValue (Some j) r = IsReadingOfResult j (read rules j) r

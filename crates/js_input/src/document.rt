@@ -10,8 +10,7 @@ ghost use Rattle.js_input.specs.Saying.{DocumentSays, DocumentValueSays};
 
 use js_doc::{Doc, Json, Memory};
 use js_json::{JsonFault, read_json, to_doc};
-use js_refusal::placed;
-use js_report::LONGEST_FILE;
+use js_report::{LONGEST_FILE, placed_words};
 use std::alloc::Global;
 
 /// What the bytes of a document file are read as.
@@ -58,7 +57,7 @@ fn read_value(alloc: Global, json: &Json) -> Result<DocumentInput, Memory>
     match to_doc(alloc, json) {
         Ok(doc) => Ok(DocumentInput::Read(doc)),
         Err(JsonFault::NotWhole(place)) => {
-            let words = placed(alloc, "notwhole", &place)?;
+            let words = placed_words(alloc, "notwhole", &place)?;
             Ok(DocumentInput::Refused(words))
         }
         // `to_doc` never answers `NotJson`

@@ -3,19 +3,17 @@
 //! The length comes first, then the JSON text, then the first fault of the schema, and then the cycle of entries that
 //! are asked of the same document.
 
-ghost use Rattle.std.specs.Prelude.{◌≡◌, ℕ, ◌<◌, length, get_or, IfOk, string_bytes};
+ghost use Rattle.std.specs.Prelude.{IfOk};
 ghost use Rattle.js_doc.specs.JsonView.{view};
 ghost use Rattle.js_schema.specs.SchemaView.{schema_view};
-ghost use Rattle.js_input.specs.SchemaReading.{cycle_words};
 ghost use Rattle.js_input.specs.Saying.{SchemaSays, ValueSays, EntriesSay};
 
 use js_doc::{Json, Memory};
 use js_guard::{GuardFault, Ranks, guard};
 use js_json::{JsonFault, read_json};
 use js_keywords::SchemaFault;
-use js_refusal::{fault_words, push_place};
-use js_report::LONGEST_FILE;
-use js_schema::{EntryList, Schema, read_schema};
+use js_report::{LONGEST_FILE, cycle_words, schema_words};
+use js_schema::{Schema, read_schema};
 use std::alloc::Global;
 
 /// What the bytes of a schema file are read as.
@@ -53,7 +51,7 @@ fn read_value(alloc: Global, json: &Json) -> Result<SchemaInput, Memory>
         Ok(schema) => guarded(alloc, schema),
         Err(SchemaFault::Memory) => Err(Memory),
         Err(fault) => {
-            let words = fault_words(alloc, &fault)?;
+            let words = schema_words(alloc, &fault)?;
             Ok(SchemaInput::Refused(words))
         }
     }
@@ -65,23 +63,9 @@ fn guarded(alloc: Global, schema: Schema) -> Result<SchemaInput, Memory>
     match guard(alloc, &schema) {
         Ok(ranks) => Ok(SchemaInput::Read(schema, ranks)),
         Err(GuardFault::Cycle(cycle)) => {
-            let words = told_cycle(alloc, &schema, &cycle)?;
+            let words = cycle_words(alloc, &schema, &cycle)?;
             Ok(SchemaInput::Refused(words))
         }
         Err(GuardFault::Memory) => Err(Memory),
     }
-}
-
-/// The word `cycle` and the places of its entries, in their order.
-fn told_cycle(alloc: Global, schema: &Schema, cycle: &EntryList) -> Result<String, Memory>
-    requires { (i : ℕ) → i < length cycle.now → get_or cycle.now i 0 < length (schema_view schema.now) }
-    ensures { IfOk result (λ s. string_bytes s ≡ cycle_words (schema_view schema.now) cycle.now) }
-{
-    let mut words = String::from_str(alloc, "cycle")?;
-    let entries = cycle.as_slice();
-    for entry in entries {
-        let place = schema.pointer(alloc, *entry)?;
-        push_place(&mut words, &place, alloc)?;
-    }
-    Ok(words)
 }

@@ -9,8 +9,8 @@ use Rattle.js_input.specs.SchemaReading.{Refused, Read, IsSchemaReading}
 use Rattle.js_input.proofs.SchemaReadingLemmas.{IsSchemaReading-one}
 use Rattle.js_inclusion.specs.Comparison.{are_good}
 use Rattle.js_inclusion.specs.Meaning.{IsReadAs, MeansIncluded}
-use Rattle.js_comparison.specs.Outcome.{entries_of, entries_read}
-use Rattle.js_comparison.proofs.MeaningLaws.{same-read}
+use Rattle.js_commands.specs.ReadEntries.{entries_of, entries_read}
+use Rattle.js_commands.proofs.IncludeMeaningLaws.{same-read}
 use Rattle.js_top.specs.Accepting.{IsAccepted, AreIncluded}
 
 pub refused-first : (a b certificate words : List ℕ) → IsSchemaReading a (Refused words) → IsAccepted a b certificate

@@ -16,7 +16,7 @@ use Rattle.js_json.proofs.OnTexts.{json_on_texts}
 use Rattle.js_decide.specs.Verdict.{Document, Certificate}
 use Rattle.certificates.specs.Line.{Line, Version, Goals, Goal, Entry, At, Rule, OfKind, End}
 use Rattle.certificates.specs.TreeLines.{written}
-use Rattle.js_comparison.specs.Outcome.{SecondRefused, Unread, of_values}
+use Rattle.js_commands.specs.IncludeOutcome.{SecondRefused, ReadFault, of_values}
 use Rattle.js_top.specs.Accepting.{IsAccepted}
 use Rattle.js_top.specs.Report.{Report, verdict_report, compared_report}
 use Rattle.js_top.specs.declared.status.Status.TheVariants as S
@@ -33,7 +33,7 @@ refused_second : compared_report (SecondRefused (codes "notjson"))
     ≡ record { text = codes "refused second notjson\n"; status = S.Refused }
 refused_second = refl
 
-missing_file : compared_report Unread ≡ record { text = codes "readfault\n"; status = S.ReadFault }
+missing_file : compared_report ReadFault ≡ record { text = codes "readfault\n"; status = S.ReadFault }
 missing_file = refl
 
 -- the report of `include` on two schemas that are read

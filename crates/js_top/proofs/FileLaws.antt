@@ -7,20 +7,21 @@ use Rattle.js_outside.specs.Told.{Files}
 use Rattle.js_decide.specs.Verdict.{Verdict, Document, Limit, Certificate, verdict}
 use Rattle.js_words.specs.Commands.{Command, Include, Valid, Norm, command}
 use Rattle.js_inclusion.specs.Comparison.{both, second_root}
-use Rattle.js_comparison.specs.Outcome as Compared
-use Rattle.js_comparison.specs.Outcome.{entries_read, IsComparison}
-use Rattle.js_comparison.specs.Meaning.{AreSchemas, IsDecided, MeansFor}
-use Rattle.js_comparison.proofs.MeaningLaws.{told-values, told-same, decided-values, first-refusal, second-refusal}
-use Rattle.js_norm.specs.Outcome as N
-use Rattle.js_validation.specs.Outcome as V
-use Rattle.js_validation.specs.Outcome.{Outcome}
+use Rattle.js_commands.specs.IncludeOutcome as Compared
+use Rattle.js_commands.specs.ReadEntries.{entries_read}
+use Rattle.js_commands.specs.IncludeOutcome.{IsComparison}
+use Rattle.js_commands.specs.IncludeMeaning.{AreSchemas, IsDecided, MeansFor}
+use Rattle.js_commands.proofs.IncludeMeaningLaws.{told-values, told-same, decided-values, first-refusal, second-refusal}
+use Rattle.js_commands.specs.NormOutcome as N
+use Rattle.js_commands.specs.ValidOutcome as V
+use Rattle.js_commands.specs.ValidOutcome.{Outcome}
 use Rattle.js_top.specs.Names.{of_include, include_names, IsInclude}
 use Rattle.js_top.specs.Report.{Report, printed, verdict_report, compared_report, IsIncludeReport, IsReportOf, outcome_report, listed_report, IsReport}
 use Rattle.js_top.specs.Meaning.{AreNamed, WhereTold, PassLimit, IsCertificate, Settles, IsRefusal}
 use Rattle.js_top.specs.Accepting.{IsAcceptedFor}
 use Rattle.js_top.specs.Preparing.{report_of, PreparedSays}
 use Rattle.js_top.specs.declared.prepare.Prepared.{Prepared}
-use Rattle.js_top.specs.declared.prepare.Prepared.TheVariants.{Usage, Unread, Made}
+use Rattle.js_top.specs.declared.prepare.Prepared.TheVariants.{Usage, ReadFault, Made}
 use Rattle.js_top.specs.declared.status.Status.{Status}
 use Rattle.js_top.specs.declared.status.Status.TheVariants as S
 use Rattle.js_top.proofs.MeaningLaws.{IsVerdict, VerdictTells, OfStatus, verdict_report-means, verdict_report-settles, passes-report}
@@ -66,12 +67,12 @@ unlimited V.Valid = refl
 unlimited V.Invalid = refl
 unlimited (V.SchemaRefused words) = refl
 unlimited (V.DocumentRefused words) = refl
-unlimited V.Unread = refl
+unlimited V.ReadFault = refl
 
 unlimited_norm : (o : N.Outcome) → is_limit (listed_report o).status ≡ false
 unlimited_norm (N.Listed text) = refl
 unlimited_norm (N.SchemaRefused words) = refl
-unlimited_norm N.Unread = refl
+unlimited_norm N.ReadFault = refl
 
 -- a limit is a report of `include`
 limit-include : (told : Option Files) (words : List (List ℕ)) (text : List ℕ)
@@ -108,7 +109,7 @@ module _ (told : Option Files) (words : List (List ℕ)) (r : Report) (a b : Lis
       }
   outcome-schemas (Compared.FirstRefused ws) of e = let wrong = ap (λ s. is_verdict s.status) e ∙ answers in cc
   outcome-schemas (Compared.SecondRefused ws) of e = let wrong = ap (λ s. is_verdict s.status) e ∙ answers in cc
-  outcome-schemas Compared.Unread of e = let wrong = ap (λ s. is_verdict s.status) e ∙ answers in cc
+  outcome-schemas Compared.ReadFault of e = let wrong = ap (λ s. is_verdict s.status) e ∙ answers in cc
 
 -- what such a report means
 means : (told : Option Files) (words : List (List ℕ)) (text : List ℕ) (status : Status)
@@ -140,7 +141,7 @@ prepared-report told words before after Usage text status says t e n =
     subst (λ x. IsReport told words (record { text = x; status = status })) (sym t)
     (subst (λ x. IsReport told words (record { text = codes "usage" ++ 10 ∷ []; status = x })) e
     (usage-report told words says.1))
-prepared-report told words before after Unread text status says t e n = absurd (n (sym e))
+prepared-report told words before after ReadFault text status says t e n = absurd (n (sym e))
 prepared-report told words before after (Made bytes s) text status says t e n =
     subst (λ x. IsReport told words (record { text = x; status = status })) (sym t)
     (subst (λ x. IsReport told words (record { text = bytes.items; status = x })) e says.2)
@@ -192,7 +193,7 @@ pub prepared-part : (told : Option Files) (words : List (List ℕ)) (before afte
     → (Rose before after × (report_of p ≡ printed (codes "readfault") S.ReadFault))
     ⊎ ((after ≡ before) × IsReport told words (report_of p))
 prepared-part told words before after Usage says = inr (says.0, usage-report told words says.1)
-prepared-part told words before after Unread says = inl (says.0, refl)
+prepared-part told words before after ReadFault says = inl (says.0, refl)
 prepared-part told words before after (Made bytes s) says = inr (says.0, says.2)
 
 -- the report of two schemas settles their question
@@ -234,7 +235,7 @@ pub prepared-settles : (told : Option Files) (words : List (List ℕ)) (before a
 prepared-settles None words before after p text says t stays = tt
 prepared-settles (Some files) words before after Usage text says t stays = λ a b s.
     let wrong = sym s.named ∙ ap of_include says.1 in cc
-prepared-settles (Some files) words before after Unread text says t stays = λ a b s.
+prepared-settles (Some files) words before after ReadFault text says t stays = λ a b s.
     absurd (omega (arith, says.0, stays))
 prepared-settles (Some files) words before after (Made bytes status) text says t stays = λ a b s.
     let of = told-report files words (record { text = bytes.items; status = status }) says.2 a b s in
@@ -290,7 +291,7 @@ module _ (told : Option Files) (words : List (List ℕ)) (text a b : List ℕ)
         are_files = is.are_files;
         refusal = inr (ws, second-refusal told a b ws is, ap (λ r. r.text) e);
       }
-  refusal_of Compared.Unread is e = let wrong = ap (λ r. is_refused r.status) e in cc
+  refusal_of Compared.ReadFault is e = let wrong = ap (λ r. is_refused r.status) e in cc
 
 -- a report of the status of refusals is the first refusal
 pub means-refusal : (told : Option Files) (words : List (List ℕ)) (text : List ℕ)

@@ -9,15 +9,16 @@ use Rattle.js_keywords.specs.Reading.{rules}
 use Rattle.js_outside.specs.Counts.{Stays}
 use Rattle.js_outside.specs.Told.{Files}
 use Rattle.js_words.specs.Commands.{Command, Include, Valid, Norm, command}
-use Rattle.js_validation.specs.Outcome as V
-use Rattle.js_validation.specs.Outcome.{Outcome, of_test, IsValidation}
-use Rattle.js_validation.proofs.MeaningLaws.{validation-decided, told-decided, schema-refusal, document-refusal}
+use Rattle.js_commands.specs.ValidOutcome as V
+use Rattle.js_commands.specs.ValidOutcome.{Outcome, of_test, IsValidation}
+use Rattle.js_commands.proofs.ValidMeaningLaws.{validation-decided, told-decided, schema-refusal, document-refusal}
 use Rattle.js_top.specs.Names.{of_valid, valid_names, IsValid}
-use Rattle.js_top.specs.Report.{Report, line, outcome_report, IsValidReport, IsReportOf, IsReport}
+use Rattle.js_report.specs.Lines.{line}
+use Rattle.js_top.specs.Report.{Report, outcome_report, IsValidReport, IsReportOf, IsReport}
 use Rattle.js_top.specs.Judging.{word_of, status_of, AreJudged, WritesJudgement, WritesDecision, IsJudgedRefusal}
 use Rattle.js_top.specs.Preparing.{report_of, PreparedSays}
 use Rattle.js_top.specs.declared.prepare.Prepared.{Prepared}
-use Rattle.js_top.specs.declared.prepare.Prepared.TheVariants.{Usage, Unread, Made}
+use Rattle.js_top.specs.declared.prepare.Prepared.TheVariants.{Usage, ReadFault, Made}
 use Rattle.js_top.specs.declared.status.Status.{Status}
 use Rattle.js_top.specs.declared.status.Status.TheVariants as S
 
@@ -55,8 +56,8 @@ report-test (V.SchemaRefused words) true text e = let wrong = ap (λ r. r.status
 report-test (V.SchemaRefused words) false text e = let wrong = ap (λ r. r.status) e in cc
 report-test (V.DocumentRefused words) true text e = let wrong = ap (λ r. r.status) e in cc
 report-test (V.DocumentRefused words) false text e = let wrong = ap (λ r. r.status) e in cc
-report-test V.Unread true text e = let wrong = ap (λ r. r.status) e in cc
-report-test V.Unread false text e = let wrong = ap (λ r. r.status) e in cc
+report-test V.ReadFault true text e = let wrong = ap (λ r. r.status) e in cc
+report-test V.ReadFault false text e = let wrong = ap (λ r. r.status) e in cc
 
 test-report : (b : Bool) → outcome_report (of_test b) ≡ record { text = line (word_of b); status = status_of b }
 test-report true = refl
@@ -99,14 +100,15 @@ pub prepared-decision : (told : Option Files) (words : List (List ℕ)) (before 
 prepared-decision None words before after p old new text says t stays appends = tt
 prepared-decision (Some files) words before after Usage old new text says t stays appends = λ j d are.
     let wrong = sym are.named ∙ ap of_valid says.1 in cc
-prepared-decision (Some files) words before after Unread old new text says t stays appends = λ j d are.
+prepared-decision (Some files) words before after ReadFault old new text says t stays appends = λ j d are.
     absurd (omega (arith, says.0, stays))
 prepared-decision (Some files) words before after (Made bytes status) old new text says t stays appends = λ j d are.
     let both = told-decision files words bytes.items status j d says.2 are in
     (subst (Appends old new) (t ∙ both.0) appends, both.1)
 
 -- a report with the status of refusals is the first refusal
-module _ (told : Option Files) (words : List (List ℕ)) (text a d : List ℕ) (named : valid_names words ≡ Some (a, d)) where
+module _ (told : Option Files) (words : List (List ℕ)) (text a d : List ℕ)
+    (named : valid_names words ≡ Some (a, d)) where
   refusal_of : (o : Outcome) → IsValidation told a d o → outcome_report o ≡ record { text = text; status = S.Refused }
       → IsJudgedRefusal told words text
   refusal_of V.Valid is e = let wrong = ap (λ r. r.status) e in cc
@@ -131,7 +133,7 @@ module _ (told : Option Files) (words : List (List ℕ)) (text a d : List ℕ) (
         are_files = is.are_files;
         refusal = inr (ws, document-refusal told a d ws is, ap (λ r. r.text) e);
       }
-  refusal_of V.Unread is e = let wrong = ap (λ r. r.status) e in cc
+  refusal_of V.ReadFault is e = let wrong = ap (λ r. r.status) e in cc
 
 pub means-judged_refusal : (told : Option Files) (words : List (List ℕ)) (text : List ℕ)
     → IsReport told words (record { text = text; status = S.Refused }) → IsValid words

@@ -7,17 +7,17 @@ use Rattle.js_outside.specs.Counts.{Stays}
 use Rattle.js_outside.specs.Told.{Files}
 use Rattle.js_words.specs.Commands.{Command, Include, Valid, Norm, command}
 use Rattle.js_input.specs.SchemaReading.{Reading, Refused, Read, IsSchemaReading}
+use Rattle.js_input.specs.FileReading.{IsSchemaFile}
 use Rattle.js_input.specs.ToldTwice.{AreFiles}
 use Rattle.js_input.proofs.SchemaReadingLemmas.{IsSchemaReading-one}
-use Rattle.js_validation.specs.Meaning.{IsSchemaFile}
-use Rattle.js_norm.specs.Outcome as N
-use Rattle.js_norm.specs.Outcome.{IsListed, IsOutcomeOfReading, IsOutcomeOf, IsListing}
+use Rattle.js_commands.specs.NormOutcome as N
+use Rattle.js_commands.specs.NormOutcome.{IsListed, IsOutcomeOfReading, IsOutcomeOf, IsListing}
 use Rattle.js_top.specs.Names.{of_norm, norm_name, IsNorm}
 use Rattle.js_top.specs.Report.{Report, listed_report, IsNormReport, IsReportOf, IsReport}
 use Rattle.js_top.specs.Listing.{IsNamedSchema, WritesNamedTable, WritesListing, IsNormRefusal}
 use Rattle.js_top.specs.Preparing.{report_of, PreparedSays}
 use Rattle.js_top.specs.declared.prepare.Prepared.{Prepared}
-use Rattle.js_top.specs.declared.prepare.Prepared.TheVariants.{Usage, Unread, Made}
+use Rattle.js_top.specs.declared.prepare.Prepared.TheVariants.{Usage, ReadFault, Made}
 use Rattle.js_top.specs.declared.status.Status.{Status}
 use Rattle.js_top.specs.declared.status.Status.TheVariants as S
 
@@ -99,13 +99,13 @@ module _ (told : Option Files) (words : List (List ℕ)) (a : List ℕ) (named :
   done_of (N.Listed t) text is e =
       let same : t ≡ text = ap (λ r. r.text) e in listed_of text (subst (λ u. IsListing told a (N.Listed u)) same is)
   done_of (N.SchemaRefused ws) text is e = let wrong = ap (λ r. r.status) e in cc
-  done_of N.Unread text is e = let wrong = ap (λ r. r.status) e in cc
+  done_of N.ReadFault text is e = let wrong = ap (λ r. r.status) e in cc
 
   refusal_of : (o : N.Outcome) (text : List ℕ) → IsListing told a o
       → listed_report o ≡ record { text = text; status = S.Refused } → IsNormRefusal told words text
   refusal_of (N.Listed t) text is e = let wrong = ap (λ r. r.status) e in cc
   refusal_of (N.SchemaRefused ws) text is e = refused_of ws text is e
-  refusal_of N.Unread text is e = let wrong = ap (λ r. r.status) e in cc
+  refusal_of N.ReadFault text is e = let wrong = ap (λ r. r.status) e in cc
 
 -- a report with the status of a table is one of the schema that the words name
 pub means-table : (told : Option Files) (words : List (List ℕ)) (old new : Option (List ℕ)) (text : List ℕ)
@@ -135,13 +135,14 @@ told_listed files a o j is fs ok schema =
       go : (o : N.Outcome) → IsOutcomeOfReading (Read j) o → (text : List ℕ) × (o ≡ N.Listed text) × IsListed j text
       go (N.Listed text) of = (text, refl, of)
       go (N.SchemaRefused ws) of = absurd of
-      go N.Unread of = absurd of
+      go N.ReadFault of = absurd of
 
 told-table : (files : Files) (words : List (List ℕ)) (text : List ℕ) (status : Status) (j : Json)
     → IsReport (Some files) words (record { text = text; status = status }) → IsNamedSchema (Some files) words j
     → IsListed j text × (status ≡ S.Done)
 told-table files words text status j is are =
-    let (o, comes, e) = report-norm (Some files) words (record { text = text; status = status }) are.name are.named is in
+    let (o, comes, e) =
+    report-norm (Some files) words (record { text = text; status = status }) are.name are.named is in
     let (t, same, listed) = told_listed files are.name o j comes are.files are.are_files are.is_schema in
     let whole = sym e ∙ ap listed_report same in
     (subst (IsListed j) (sym (ap (λ r. r.text) whole)) listed, ap (λ r. r.status) whole)
@@ -153,7 +154,7 @@ pub prepared-listing : (told : Option Files) (words : List (List ℕ)) (before a
 prepared-listing None words before after p old new text says t stays appends = tt
 prepared-listing (Some files) words before after Usage old new text says t stays appends = λ j are.
     let wrong = sym are.named ∙ ap of_norm says.1 in cc
-prepared-listing (Some files) words before after Unread old new text says t stays appends = λ j are.
+prepared-listing (Some files) words before after ReadFault old new text says t stays appends = λ j are.
     absurd (omega (arith, says.0, stays))
 prepared-listing (Some files) words before after (Made bytes status) old new text says t stays appends = λ j are.
     let both = told-table files words bytes.items status j says.2 are in

@@ -13,8 +13,9 @@ use Rattle.js_decide.specs.Verdict.{Verdict, Document as OfKind, Limit, Certific
 use Rattle.js_inclusion.specs.Comparison.{Decided, both, second_root}
 use Rattle.js_inclusion.specs.Meaning.{Tells}
 use Rattle.js_inclusion.proofs.MeaningLaws.{passes-limit}
-use Rattle.js_comparison.specs.Outcome.{entries_read}
-use Rattle.js_top.specs.Report.{line, sample_text, verdict_report}
+use Rattle.js_commands.specs.ReadEntries.{entries_read}
+use Rattle.js_report.specs.Lines.{line}
+use Rattle.js_top.specs.Report.{sample_text, verdict_report}
 use Rattle.js_top.specs.Meaning.{IsCounterexample, IsCertificate, IsLimit, PassLimit, Settles}
 use Rattle.js_top.specs.declared.status.Status.{Status}
 use Rattle.js_top.specs.declared.status.Status.TheVariants as S

@@ -7,23 +7,23 @@ use Rattle.js_input.specs.SchemaReading.{Read}
 use Rattle.js_input.specs.OrderOfFiles.{BeginsInOrder, Misses}
 use Rattle.js_input.proofs.SchemaReadingLemmas.{IsSchemaReading-one}
 use Rattle.js_input.proofs.OrderLaws.{rose-misses}
-use Rattle.js_comparison.specs.Outcome as C
-use Rattle.js_comparison.specs.Outcome.{IsComparison}
-use Rattle.js_validation.specs.Outcome as V
-use Rattle.js_validation.specs.Outcome.{IsValidation}
-use Rattle.js_norm.specs.Outcome as N
-use Rattle.js_norm.specs.Outcome.{IsListing}
+use Rattle.js_commands.specs.IncludeOutcome as C
+use Rattle.js_commands.specs.IncludeOutcome.{IsComparison}
+use Rattle.js_commands.specs.ValidOutcome as V
+use Rattle.js_commands.specs.ValidOutcome.{IsValidation}
+use Rattle.js_commands.specs.NormOutcome as N
+use Rattle.js_commands.specs.NormOutcome.{IsListing}
 use Rattle.js_top.specs.Names.{files_of, file_names, MissesFile}
 use Rattle.js_top.specs.Report.{Report, compared_report, outcome_report, listed_report, IsReportOf}
 use Rattle.js_top.specs.Preparing.{report_of, is_answer, PreparedSays}
 use Rattle.js_top.specs.declared.prepare.Prepared.{Prepared}
-use Rattle.js_top.specs.declared.prepare.Prepared.TheVariants.{Usage, Unread, Made}
+use Rattle.js_top.specs.declared.prepare.Prepared.TheVariants.{Usage, ReadFault, Made}
 use Rattle.js_top.specs.declared.status.Status.{Status}
 use Rattle.js_top.specs.declared.status.Status.TheVariants as S
 
 -- two files, of which one isn't there, come to no answer
 comparison-missing : (files : Files) (a b : List ℕ) (o : C.Outcome) → IsComparison (Some files) a b o
-    → Misses files (encode_utf8_all a ∷ encode_utf8_all b ∷ []) → o ≡ C.Unread
+    → Misses files (encode_utf8_all a ∷ encode_utf8_all b ∷ []) → o ≡ C.ReadFault
 comparison-missing files a b o is (inl none) =
     let e : is.files (encode_utf8_all a) ≡ None = ap (λ f. f (encode_utf8_all a)) is.are_files.0 ∙ none in
     subst (λ t. C.IsOutcomeOf t (is.later (encode_utf8_all b)) o) e is.outcome
@@ -37,7 +37,7 @@ comparison-missing files a b o is (inr ((bytes, has, (j, reads)), inl none)) =
 comparison-missing files a b o is (inr (first, inr (second, rest))) = absurd rest
 
 validation-missing : (files : Files) (a d : List ℕ) (o : V.Outcome) → IsValidation (Some files) a d o
-    → Misses files (encode_utf8_all a ∷ encode_utf8_all d ∷ []) → o ≡ V.Unread
+    → Misses files (encode_utf8_all a ∷ encode_utf8_all d ∷ []) → o ≡ V.ReadFault
 validation-missing files a d o is (inl none) =
     let e : is.files (encode_utf8_all a) ≡ None = ap (λ f. f (encode_utf8_all a)) is.are_files.0 ∙ none in
     subst (λ t. V.IsOutcomeOf t (is.later (encode_utf8_all d)) o) e is.outcome
@@ -51,7 +51,7 @@ validation-missing files a d o is (inr ((bytes, has, (j, reads)), inl none)) =
 validation-missing files a d o is (inr (first, inr (second, rest))) = absurd rest
 
 listing-missing : (files : Files) (a : List ℕ) (o : N.Outcome) → IsListing (Some files) a o
-    → Misses files (encode_utf8_all a ∷ []) → o ≡ N.Unread
+    → Misses files (encode_utf8_all a ∷ []) → o ≡ N.ReadFault
 listing-missing files a o is (inl none) =
     let e : is.files (encode_utf8_all a) ≡ None = ap (λ f. f (encode_utf8_all a)) is.are_files.0 ∙ none in
     subst (λ t. N.IsOutcomeOf t o) e is.outcome
@@ -73,7 +73,7 @@ pub prepared-missing : (told : Option Files) (words : List (List ℕ)) (before a
 prepared-missing None words before after p says misses = absurd misses
 prepared-missing (Some files) words before after Usage says misses =
     let none : Misses files [] = subst (λ c. Misses files (files_of c)) says.1 misses in absurd none
-prepared-missing (Some files) words before after Unread says misses = refl
+prepared-missing (Some files) words before after ReadFault says misses = refl
 prepared-missing (Some files) words before after (Made bytes status) says misses =
     report-missing files (command words) (record { text = bytes.items; status = status }) says.2 misses
 
@@ -87,7 +87,7 @@ pub prepared-only_missing : (told : Option Files) (words : List (List ℕ)) (bef
     → CountsMisses told later after → before < last_count → MissesFile told words
 prepared-only_missing None words before after p names later says e begins counts counts' below = absurd counts
 prepared-only_missing (Some files) words before after Usage names later says e begins counts counts' below = cc
-prepared-only_missing (Some files) words before after Unread names later says e begins counts counts' below =
+prepared-only_missing (Some files) words before after ReadFault names later says e begins counts counts' below =
     rose-misses files (file_names words) names later before after begins counts counts' below says.0
 prepared-only_missing (Some files) words before after (Made bytes s) names later says e begins counts counts' below =
     absurd (answer-read_fault s e says.1)

@@ -6,10 +6,11 @@ use Rattle.documents.specs.Json.{Json}
 use Rattle.draft06.specs.Validity.{valid}
 use Rattle.js_keywords.specs.Reading.{rules}
 use Rattle.js_outside.specs.Told.{Files}
+use Rattle.js_input.specs.FileReading.{IsSchemaRefusal}
 use Rattle.js_input.specs.ToldTwice.{AreFiles}
-use Rattle.js_validation.specs.Meaning.{AreInputs, IsSchemaRefusal, IsDocumentRefusal}
+use Rattle.js_commands.specs.ValidMeaning.{AreInputs, IsRefusedAfterSchema}
 use Rattle.js_top.specs.Names.{valid_names}
-use Rattle.js_top.specs.Report.{line}
+use Rattle.js_report.specs.Lines.{line}
 use Rattle.js_top.specs.declared.status.Status.{Status}
 use Rattle.js_top.specs.declared.status.Status.TheVariants as S
 
@@ -50,7 +51,7 @@ RefusesSchema files name text =
 -- the schema is read and the document is refused, with this line
 abbrev pub RefusesDocument : Files → Files → (schema document text : List ℕ) → Type 0
 RefusesDocument files later schema document text =
-    (words : List ℕ) × IsDocumentRefusal files later schema document words
+    (words : List ℕ) × IsRefusedAfterSchema files later schema document words
     × (line (codes "refused document " ++ words) ≡ text)
 
 -- the first refusal in the order of work

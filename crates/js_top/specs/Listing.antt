@@ -3,9 +3,9 @@ use Rattle.std.specs.Prelude.{◌≡◌, ℕ, List, Option, Some, None}
 use Rattle.std.specs.Io.KnownBytes.{Appends}
 use Rattle.documents.specs.Json.{Json}
 use Rattle.js_outside.specs.Told.{Files}
+use Rattle.js_input.specs.FileReading.{IsSchemaFile}
 use Rattle.js_input.specs.ToldTwice.{AreFiles}
-use Rattle.js_validation.specs.Meaning.{IsSchemaFile}
-use Rattle.js_norm.specs.Outcome.{IsListed}
+use Rattle.js_commands.specs.NormOutcome.{IsListed}
 use Rattle.js_top.specs.Names.{norm_name}
 use Rattle.js_top.specs.Judging.{RefusesSchema}
 use Rattle.js_top.specs.declared.status.Status.{Status}

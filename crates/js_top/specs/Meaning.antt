@@ -12,10 +12,10 @@ use Rattle.js_keywords.specs.Reading.{rules}
 use Rattle.js_input.specs.ToldTwice.{AreFiles}
 use Rattle.js_inclusion.specs.Comparison.{are_good}
 use Rattle.js_inclusion.specs.Meaning.{PassesLimit}
-use Rattle.js_comparison.specs.Outcome.{entries_read}
-use Rattle.js_comparison.specs.Meaning.{AreSchemas, AreDecidedOn, IsFirstRefusal, IsSecondRefusal}
+use Rattle.js_commands.specs.ReadEntries.{entries_read}
+use Rattle.js_commands.specs.IncludeMeaning.{AreSchemas, AreDecidedOn, IsFirstRefusal, IsSecondRefusal}
 use Rattle.js_top.specs.Names.{include_names}
-use Rattle.js_top.specs.Report.{line}
+use Rattle.js_report.specs.Lines.{line}
 
 -- the text is the line `document` and a JSON text, which is read back as the document
 pub record IsDocumentText (text : List ℕ) (d : Document) : Type 0 where

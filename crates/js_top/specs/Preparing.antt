@@ -11,7 +11,7 @@ use Rattle.js_top.specs.declared.prepare.Prepared.TheVariants as P
 
 abbrev pub report_of : Prepared → Report
 report_of P.Usage = printed (codes "usage") S.Usage
-report_of P.Unread = printed (codes "readfault") S.ReadFault
+report_of P.ReadFault = printed (codes "readfault") S.ReadFault
 report_of (P.Made bytes status) = record { text = bytes.items; status = status }
 
 -- the statuses of words that are a command and of files that could be read
@@ -24,7 +24,7 @@ is_answer _ = false
 
 abbrev pub PreparedSays : Option Files → List (List ℕ) → ℕ → ℕ → Prepared → Type 0
 PreparedSays told words before after P.Usage = (after ≡ before) × (command words ≡ None)
-PreparedSays told words before after P.Unread = Rose before after × IsSome (command words)
+PreparedSays told words before after P.ReadFault = Rose before after × IsSome (command words)
 PreparedSays told words before after (P.Made bytes status) =
     (after ≡ before) × (is_answer status ≡ true) × IsReport told words (record { text = bytes.items; status = status })
     × IsSome (command words)
@@ -32,7 +32,7 @@ PreparedSays told words before after (P.Made bytes status) =
 -- the same of a command
 abbrev pub CommandSays : Option Files → Command → ℕ → ℕ → Prepared → Type 0
 CommandSays told c before after P.Usage = ⊥
-CommandSays told c before after P.Unread = Rose before after
+CommandSays told c before after P.ReadFault = Rose before after
 CommandSays told c before after (P.Made bytes status) =
     (after ≡ before) × (is_answer status ≡ true) × IsReportOf told (Some c)
     (record { text = bytes.items; status = status })

@@ -1,26 +1,24 @@
 -- The report of a command over files: what is printed, and the status.
-use Rattle.std.specs.Prelude.{◌≡◌, ℕ, List, [], ◌∷◌, ◌++◌, Option, Some, None, codes}
+use Rattle.std.specs.Prelude.{◌≡◌, ℕ, List, ◌∷◌, ◌++◌, Option, Some, None, codes}
 use Rattle.documents.specs.Kind.{Kind, Null, Boolean, Number, Text, Array, Object}
 use Rattle.certificates.specs.Line.{signed_list_text, lines_text}
 use Rattle.js_outside.specs.Told.{Files}
 use Rattle.js_decide.specs.Verdict.{Verdict, Document, Limit, Certificate}
+use Rattle.js_report.specs.Lines.{line}
 use Rattle.js_words.specs.Commands.{Command, Include, Valid, Norm, command}
-use Rattle.js_comparison.specs.Outcome as C
-use Rattle.js_comparison.specs.Outcome.{IsComparison}
-use Rattle.js_comparison.specs.Meaning.{MeansFor}
-use Rattle.js_validation.specs.Outcome as V
-use Rattle.js_validation.specs.Outcome.{Outcome, IsValidation}
-use Rattle.js_norm.specs.Outcome as N
-use Rattle.js_norm.specs.Outcome.{IsListing}
+use Rattle.js_commands.specs.IncludeOutcome as C
+use Rattle.js_commands.specs.IncludeOutcome.{IsComparison}
+use Rattle.js_commands.specs.IncludeMeaning.{MeansFor}
+use Rattle.js_commands.specs.ValidOutcome as V
+use Rattle.js_commands.specs.ValidOutcome.{Outcome, IsValidation}
+use Rattle.js_commands.specs.NormOutcome as N
+use Rattle.js_commands.specs.NormOutcome.{IsListing}
 use Rattle.js_top.specs.declared.status.Status.{Status}
 use Rattle.js_top.specs.declared.status.Status.TheVariants as S
 
 pub record Report : Type 0 where
   pub text : List ℕ
   pub status : Status
-
-abbrev pub line : List ℕ → List ℕ
-line words = words ++ 10 ∷ []
 
 abbrev pub printed : List ℕ → Status → Report
 printed words status = record { text = line words; status = status }
@@ -44,7 +42,7 @@ abbrev pub compared_report : C.Outcome → Report
 compared_report (C.Decided v) = verdict_report v
 compared_report (C.FirstRefused words) = printed (codes "refused " ++ codes "first" ++ 32 ∷ words) S.Refused
 compared_report (C.SecondRefused words) = printed (codes "refused " ++ codes "second" ++ 32 ∷ words) S.Refused
-compared_report C.Unread = printed (codes "readfault") S.ReadFault
+compared_report C.ReadFault = printed (codes "readfault") S.ReadFault
 
 -- with what the files come to stands what that means
 abbrev pub IsIncludeReport : Option Files → List ℕ → List ℕ → Report → Type 0
@@ -57,7 +55,7 @@ outcome_report V.Valid = printed (codes "valid") S.Done
 outcome_report V.Invalid = printed (codes "invalid") S.Other
 outcome_report (V.SchemaRefused words) = printed (codes "refused " ++ codes "first" ++ 32 ∷ words) S.Refused
 outcome_report (V.DocumentRefused words) = printed (codes "refused " ++ codes "document" ++ 32 ∷ words) S.Refused
-outcome_report V.Unread = printed (codes "readfault") S.ReadFault
+outcome_report V.ReadFault = printed (codes "readfault") S.ReadFault
 
 abbrev pub IsValidReport : Option Files → List ℕ → List ℕ → Report → Type 0
 IsValidReport told a d r = (o : Outcome) × IsValidation told a d o × (outcome_report o ≡ r)
@@ -66,7 +64,7 @@ IsValidReport told a d r = (o : Outcome) × IsValidation told a d o × (outcome_
 abbrev pub listed_report : N.Outcome → Report
 listed_report (N.Listed text) = record { text = text; status = S.Done }
 listed_report (N.SchemaRefused words) = printed (codes "refused " ++ codes "first" ++ 32 ∷ words) S.Refused
-listed_report N.Unread = printed (codes "readfault") S.ReadFault
+listed_report N.ReadFault = printed (codes "readfault") S.ReadFault
 
 abbrev pub IsNormReport : Option Files → List ℕ → Report → Type 0
 IsNormReport told a r = (o : N.Outcome) × IsListing told a o × (listed_report o ≡ r)

@@ -6,7 +6,7 @@ ghost use Rattle.js_outside.specs.Contents.{contents};
 ghost use Rattle.js_outside.specs.Counts.{Rose};
 ghost use Rattle.js_words.specs.Commands.{command};
 ghost use Rattle.js_top.specs.Names.{MissesFile};
-ghost use Rattle.js_top.specs.Report.{line};
+ghost use Rattle.js_report.specs.Lines.{line};
 ghost use Rattle.js_top.specs.Running.{WritesReport};
 
 use crate::status::Status;

@@ -9,14 +9,13 @@ ghost use Rattle.js_top.specs.Names.{file_names, files_of};
 ghost use Rattle.js_top.specs.Preparing.{PreparedSays, report_of};
 
 use crate::status::Status;
-use crate::text::{limit, refusal, sample};
+use crate::text::{document_lines, limit_line};
 use js_cert::cert_text;
-use js_comparison::{FilesOutcome, compare_files};
+use js_commands::{Inclusion, Listing, Validation, compare_files, list_table, validate};
 use js_decide::Verdict;
 use js_doc::{Memory, Str};
-use js_norm::{Listing, list};
 use js_outside::Shelf;
-use js_validation::{Validation, validate};
+use js_report::refusal_line;
 use js_words::{Command, read_words};
 use std::alloc::Global;
 
@@ -27,7 +26,7 @@ pub(crate) enum Prepared {
     Usage,
 
     /// A file couldn't be read.
-    Unread,
+    ReadFault,
 
     /// Any other report.
     Made(Vec<u8>, Status),
@@ -39,7 +38,7 @@ impl Prepared {
     {
         match self {
             Prepared::Usage => b"usage\n",
-            Prepared::Unread => b"readfault\n",
+            Prepared::ReadFault => b"readfault\n",
             Prepared::Made(text, _) => text.as_slice(),
         }
     }
@@ -49,7 +48,7 @@ impl Prepared {
     {
         match self {
             Prepared::Usage => Status::Usage,
-            Prepared::Unread => Status::ReadFault,
+            Prepared::ReadFault => Status::ReadFault,
             Prepared::Made(_, status) => *status,
         }
     }
@@ -90,10 +89,10 @@ fn prepare_include<H: Shelf>(
         (H.begun shelf.old) (H.begun shelf.new) }
 {
     match compare_files(alloc, shelf, first, second)? {
-        FilesOutcome::Decided(verdict) => decided(alloc, verdict),
-        FilesOutcome::FirstRefused(words) => refused(alloc, "first", words),
-        FilesOutcome::SecondRefused(words) => refused(alloc, "second", words),
-        FilesOutcome::Unread => Ok(Prepared::Unread),
+        Inclusion::Decided(verdict) => decided(alloc, verdict),
+        Inclusion::FirstRefused(words) => refused(alloc, "first", words),
+        Inclusion::SecondRefused(words) => refused(alloc, "second", words),
+        Inclusion::ReadFault => Ok(Prepared::ReadFault),
     }
 }
 
@@ -121,7 +120,7 @@ fn prepare_valid<H: Shelf>(
         Validation::Invalid => made(alloc, "invalid\n", Status::Other),
         Validation::SchemaRefused(words) => refused(alloc, "first", words),
         Validation::DocumentRefused(words) => refused(alloc, "document", words),
-        Validation::Unread => Ok(Prepared::Unread),
+        Validation::ReadFault => Ok(Prepared::ReadFault),
     }
 }
 
@@ -134,10 +133,10 @@ fn prepare_norm<H: Shelf>(alloc: Global, shelf: &mut H, schema: &Str) -> Result<
     ensures begun { BeginsInOrder (H.told shelf.old) (files_of (Some (Norm schema.now)))
         (H.begun shelf.old) (H.begun shelf.new) }
 {
-    match list(alloc, shelf, schema)? {
+    match list_table(alloc, shelf, schema)? {
         Listing::Text(text) => Ok(Prepared::Made(text.into_bytes(), Status::Done)),
         Listing::Refused(words) => refused(alloc, "first", words),
-        Listing::Unread => Ok(Prepared::Unread),
+        Listing::ReadFault => Ok(Prepared::ReadFault),
     }
 }
 
@@ -152,7 +151,7 @@ fn refused(alloc: Global, role: &str, words: String) -> Result<Prepared, Memory>
     ensures { IfOk result
         (λ p. report_of p ≡ printed (codes "refused " ++ role.now ++ 32 ∷ string_bytes words) Refused) }
 {
-    let text = refusal(alloc, role, words.as_str())?;
+    let text = refusal_line(alloc, role, words.as_str())?;
     Ok(Prepared::Made(text.into_bytes(), Status::Refused))
 }
 
@@ -160,8 +159,8 @@ fn decided(alloc: Global, verdict: Verdict) -> Result<Prepared, Memory>
     ensures { IfOk result (λ p. report_of p ≡ verdict_report (verdict_view verdict)) }
 {
     let (text, status) = match verdict {
-        Verdict::Document(kind) => (sample(alloc, kind)?.into_bytes(), Status::Other),
-        Verdict::Limit(goal) => (limit(alloc, &goal)?.into_bytes(), Status::Limit),
+        Verdict::Document(kind) => (document_lines(alloc, kind)?.into_bytes(), Status::Other),
+        Verdict::Limit(goal) => (limit_line(alloc, &goal)?.into_bytes(), Status::Limit),
         Verdict::Certificate(cert) => (cert_text(alloc, &cert)?, Status::Done),
     };
     Ok(Prepared::Made(text, status))

@@ -1,29 +1,18 @@
-//! The texts of a report.
+//! The lines of verdicts.
 
-ghost use Rattle.std.specs.Prelude.{◌≡◌, ◌++◌, ◌∷◌, [], codes, string_bytes, IfOk};
+ghost use Rattle.std.specs.Prelude.{◌≡◌, ◌++◌, codes, string_bytes, IfOk};
 ghost use Rattle.certificates.specs.Line.{lines_text, signed_list_text};
 ghost use Rattle.js_algebra.specs.View.{kind_view};
-ghost use Rattle.js_top.specs.Report.{line, sample_text};
+ghost use Rattle.js_report.specs.Lines.{line};
+ghost use Rattle.js_top.specs.Report.{sample_text};
 
 use js_algebra::{Goal, JsonKind};
 use js_cert::append_list;
 use js_doc::Memory;
 use std::alloc::Global;
 
-/// The line of a refusal.
-pub(crate) fn refusal(alloc: Global, role: &str, words: &str) -> Result<String, Memory>
-    ensures { IfOk result (λ s. string_bytes s ≡ line (codes "refused " ++ role.now ++ 32 ∷ words.now)) }
-{
-    let mut text = String::from_str(alloc, "refused ")?;
-    text.push_str(role)?;
-    text.push_str(" ")?;
-    text.push_str(words)?;
-    text.push_str("\n")?;
-    Ok(text)
-}
-
 /// The line `document`, and the shortest document of the kind.
-pub(crate) fn sample(alloc: Global, kind: JsonKind) -> Result<String, Memory>
+pub(crate) fn document_lines(alloc: Global, kind: JsonKind) -> Result<String, Memory>
     ensures { IfOk result (λ s. string_bytes s ≡ line (codes "document") ++ line (sample_text (kind_view kind))) }
 {
     let document = match kind {
@@ -41,7 +30,7 @@ pub(crate) fn sample(alloc: Global, kind: JsonKind) -> Result<String, Memory>
 }
 
 /// The line of a goal whose trees have more ends than are looked at.
-pub(crate) fn limit(alloc: Global, goal: &Goal) -> Result<String, Memory>
+pub(crate) fn limit_line(alloc: Global, goal: &Goal) -> Result<String, Memory>
     ensures { IfOk result (λ s. string_bytes s ≡ line (codes "limit branches" ++ signed_list_text goal.now)) }
 {
     let mut text = String::from_str(alloc, "limit branches")?;

@@ -9,7 +9,7 @@ ghost use Rattle.js_words.specs.Commands.{command};
 ghost use Rattle.js_top.specs.Names.{IsInclude, IsValid, IsNorm, file_names, MissesFile};
 ghost use Rattle.js_top.specs.Judging.{WritesJudgement, WritesDecision, WritesJudgedRefusal};
 ghost use Rattle.js_top.specs.Listing.{WritesNamedTable, WritesListing, WritesNormRefusal};
-ghost use Rattle.js_top.specs.Report.{line};
+ghost use Rattle.js_report.specs.Lines.{line};
 ghost use Rattle.js_top.specs.Running.{WritesPart, WritesReport, WritesMeaning, WritesRefusal, WritesAnswer, WritesAccepted};
 ghost use Rattle.js_top.specs.Meaning.{IsCounterexample, IsCertificate, IsLimit, PassLimit, WhereTold};
 

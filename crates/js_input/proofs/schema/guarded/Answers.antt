@@ -2,8 +2,8 @@ use Rattle.js_schema.specs.SchemaView.{schema_view}
 use Rattle.js_input.proofs.CycleLemmas.{cycle-below}
 use Rattle.js_input.proofs.schema.guarded.Goals as goal
 
-pub told_cycle-requires : goal.told_cycle-requires
-told_cycle-requires c =
+pub cycle_words-requires : goal.cycle_words-requires
+cycle_words-requires c =
     let told = rw c.in-Err-Cycle.field-0-is at c.in-Err-Cycle.ensures.cycle in
     cycle-below (schema_view c.args.schema) c.in-Err-Cycle.cycle told.1
 

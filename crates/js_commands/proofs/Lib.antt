@@ -1,0 +1,12 @@
+-- Files that have the bytes that were read.
+pub mod FileLemmas
+-- `include`: from what files are read as to what they come to, and what that means.
+pub mod IncludeOutcomeLemmas
+pub mod IncludeMeaningLaws
+-- `valid`: validity over the entries of a schema that is read is validity for its value; then as for `include`.
+pub mod ValidEntriesLemmas
+pub mod ValidOutcomeLemmas
+pub mod ValidMeaningLaws
+-- `norm`: what position 0 of a schema's table means, and from what a file is read as to what it comes to.
+pub mod NormTableLemmas
+pub mod NormOutcomeLemmas

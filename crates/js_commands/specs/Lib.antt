@@ -1,0 +1,11 @@
+-- What a reader must believe: what the files of each command come to, and what that means for their values.
+pub mod ReadEntries
+pub mod IncludeOutcome
+pub mod IncludeMeaning
+pub mod ValidOutcome
+pub mod ValidMeaning
+pub mod NormOutcome
+-- What the calls answer.
+pub mod IncludeSaying
+pub mod ValidSaying
+pub mod NormSaying

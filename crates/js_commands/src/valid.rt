@@ -1,0 +1,80 @@
+//! `valid`: the schema is read, then the document, and then its validity is decided.
+
+ghost use Rattle.std.specs.Prelude.{◌≡◌, [], ◌∷◌, true, Ok, IfOk, OnErr, encode_utf8_all};
+ghost use Rattle.documents.specs.Json.{Json};
+ghost use Rattle.documents.specs.WellFormed.{is_json};
+ghost use Rattle.schemas.specs.Entries.{read};
+ghost use Rattle.schemas.specs.Guarded.{edges, are_ranks};
+ghost use Rattle.js_doc.specs.View.{view};
+ghost use Rattle.js_keywords.specs.Reading.{rules};
+ghost use Rattle.js_schema.specs.SchemaView.{schema_view};
+ghost use Rattle.draft06.specs.Validity.{valid};
+ghost use Rattle.js_input.specs.OrderOfFiles.{BeginsInOrder};
+ghost use Rattle.js_commands.specs.ValidOutcome.{of_test};
+ghost use Rattle.js_commands.specs.ValidSaying.{ValidationSays, outcome_of};
+
+use js_doc::{Doc, Memory, Str};
+use js_guard::Ranks;
+use js_input::{DocumentInput, SchemaInput, load_document, load_schema};
+use js_outside::Shelf;
+use js_schema::Schema;
+use js_valid::{ValidFault, valid};
+use std::alloc::Global;
+
+/// What a schema file and a document file come to.
+#[derive(Drop)]
+pub enum Validation {
+    /// The document is valid for the schema.
+    Valid,
+
+    /// It isn't.
+    Invalid,
+
+    /// The words of the schema's refusal after its role.
+    SchemaRefused(String),
+
+    /// The words of the document's refusal after its role.
+    DocumentRefused(String),
+
+    /// A file couldn't be read, and a fault is counted.
+    ReadFault,
+}
+
+/// Validates the document of one file by the schema of another. The schema is read first, and the document only where
+/// the schema is one.
+pub fn validate<H: Shelf>(
+    alloc: Global,
+    shelf: &mut H,
+    schema: &Str,
+    document: &Str,
+) -> Result<Validation, Memory>
+    ensures told { H.told shelf.new ≡ H.told shelf.old }
+    ensures says { IfOk result
+        (ValidationSays (H.told shelf.old) schema.now document.now (H.faults shelf.old) (H.faults shelf.new)) }
+    ensures memory { OnErr result (H.faults shelf.new ≡ H.faults shelf.old) }
+    ensures begun { BeginsInOrder (H.told shelf.old) (encode_utf8_all schema.now ∷ encode_utf8_all document.now ∷ [])
+        (H.begun shelf.old) (H.begun shelf.new) }
+{
+    let (table, ranks) = match load_schema(alloc, shelf, schema)? {
+        Some(SchemaInput::Read(table, ranks)) => (table, ranks),
+        Some(SchemaInput::Refused(words)) => return Ok(Validation::SchemaRefused(words)),
+        None => return Ok(Validation::ReadFault),
+    };
+    match load_document(alloc, shelf, document)? {
+        Some(DocumentInput::Read(doc)) => judged(alloc, &table, &ranks, &doc),
+        Some(DocumentInput::Refused(words)) => Ok(Validation::DocumentRefused(words)),
+        None => Ok(Validation::ReadFault),
+    }
+}
+
+fn judged(alloc: Global, schema: &Schema, ranks: &Ranks, doc: &Doc) -> Result<Validation, Memory>
+    requires { are_ranks (edges (schema_view schema.now)) ranks.now ≡ true }
+    ensures { IfOk result (λ v. (j : Json) → is_json j ≡ true → read rules j ≡ Ok (schema_view schema.now)
+        → outcome_of v ≡ of_test (valid rules j (view doc.now))) }
+{
+    match valid(alloc, schema, ranks, doc) {
+        Ok(true) => Ok(Validation::Valid),
+        Ok(false) => Ok(Validation::Invalid),
+        Err(ValidFault::Memory) => Err(Memory),
+    }
+}
