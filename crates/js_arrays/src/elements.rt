@@ -42,9 +42,7 @@ fn plus_each(node: &Node, index: usize) -> Option<Signed>
     ensures { map signed_view (option_to_list result) ≡ A.plus_each index (node_view node.now) }
 {
     match node {
-        Node::Items(first, rest) => {
-            Some(Signed::plus(item_at(first.as_slice(), *rest, index)))
-        }
+        Node::Items(first, rest) => { Some(Signed::plus(item_at(first.as_slice(), *rest, index))) }
         _ => None,
     }
 }
@@ -71,9 +69,7 @@ fn minus_serving(node: &Node, index: usize) -> Option<Signed>
     ensures { map signed_view (option_to_list result) ≡ A.minus_serving index (node_view node.now) }
 {
     match node {
-        Node::Items(first, rest) => {
-            Some(Signed::minus(item_at(first.as_slice(), *rest, index)))
-        }
+        Node::Items(first, rest) => { Some(Signed::minus(item_at(first.as_slice(), *rest, index))) }
         _ => None,
     }
 }

@@ -53,7 +53,6 @@ impl<T: Drop> From<AllocFailed<T>> for ArrayFault {
 
 impl From<PlanFault> for ArrayFault {
     ghost use Rattle.js_arrays.specs.Faults.{fault_of};
-
     ghost use Rattle.std.specs.Prelude.{◌≡◌};
 
     ghost from_gives = { λ fault made. made ≡ fault_of fault };

@@ -252,8 +252,7 @@ module _ (T : List Position) (frame : Frame) where
   opened es es' server ps ps' (W.Split n) gs on first under placed fine (l, e, r) =
       let ws = servers_of es' in
       let rest = left-more (servers_of es) (listed server) (reverse ps) fine in
-      let more = fine-more (servers_of es) (listed server) (reverse ps) fine in
-      (
+      let more = fine-more (servers_of es) (listed server) (reverse ps) fine in (
         Split n,
         refl,
         ap₂ (λ us ss. steps_after T frame us ++ ss) (sym on.servers)
@@ -270,8 +269,7 @@ module _ (T : List Position) (frame : Frame) where
   opened es es' server ps ps' W.Complete gs on first under placed fine (e, r) =
       let ws = servers_of es' in
       let rest = left-more (servers_of es) (listed server) (reverse ps) fine in
-      let more = fine-more (servers_of es) (listed server) (reverse ps) fine in
-      (
+      let more = fine-more (servers_of es) (listed server) (reverse ps) fine in (
         Complete (plan_after frame ws),
         refl,
         ap₂ (λ us ss. steps_after T frame us ++ ss) (sym on.servers)

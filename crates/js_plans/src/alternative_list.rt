@@ -130,22 +130,10 @@ fn placed(
     let mut before = Vec::new(alloc);
     let heads = head_goals(alloc, path, first)?;
     let numbers = numbers(alloc, first.len() as u32)?;
-    add_placed(
-        naming,
-        heads,
-        numbers.as_slice(),
-        &mut placed,
-        &mut before,
-    )?;
+    add_placed(naming, heads, numbers.as_slice(), &mut placed, &mut before)?;
     let members = member_goals(alloc, path)?;
     let cells = path::cells(alloc, path)?;
-    add_placed(
-        naming,
-        members,
-        cells.as_slice(),
-        &mut placed,
-        &mut before,
-    )?;
+    add_placed(naming, members, cells.as_slice(), &mut placed, &mut before)?;
     Ok(PlacedList::from_vec(placed))
 }
 
@@ -258,11 +246,7 @@ pub(crate) fn alternative<F: PlanFrame>(
 }
 
 /// Goes through the whole tree; `LimitPlans` exactly where it has more ends than a tree that is told.
-fn see_all<F: PlanFrame>(
-    alloc: Global,
-    frame: &F,
-    walk: &mut PlanWalk,
-) -> Result<(), PlanFault>
+fn see_all<F: PlanFrame>(alloc: Global, frame: &F, walk: &mut PlanWalk) -> Result<(), PlanFault>
     requires { IsWalk (F.table frame.now) (F.frame frame.now) walk.old }
     ensures few { OnOk result
         (walk.old.ends + ends (left (F.table frame.now) (F.frame frame.now) walk.old) ≤ most_plans) }
@@ -293,8 +277,7 @@ fn add_told<F: PlanFrame>(
         (F.frame frame.now)) (told_plans (F.frame frame.now) (servers_of walk.now.path.items) step)) }
 {
     if let PlanStep::Complete = step {
-        let alternative =
-            alternative(alloc, frame, naming, branch, walk.path(), walk.first())?;
+        let alternative = alternative(alloc, frame, naming, branch, walk.path(), walk.first())?;
         alternatives.push(alternative)?;
     }
     Ok(())

@@ -291,11 +291,7 @@ fn open<F: PlanFrame>(
 }
 
 /// Adds plans still to be visited, the first one next.
-fn add_pending(
-    level: usize,
-    servers: Vec<Server>,
-    pending: &mut Vec<Pending>,
-) -> Result<(), Memory>
+fn add_pending(level: usize, servers: Vec<Server>, pending: &mut Vec<Pending>) -> Result<(), Memory>
     ensures { OnOk result (reverse pending.new.items ≡ map (entry level) servers.items ++ reverse pending.old.items) }
 {
     let mut servers = servers;

@@ -17,8 +17,12 @@ goal_at-requires g c =
     subst (λ xs. are_in_table T xs ≡ true)
     (sym (served_list c.args.server c.demands-demands.result.now D c.args.path.now c.in_ok-served.served.items
     c.push.new.self.items c.as_slice.result.now _ _ c.demands-demands.ensures c.in_ok-served.ensures
-    c.in_ok-push.ensures.items refl (omega (arith, c.requires, ap length c.demands-demands.ensures,
-    length-map c.demands-demands.result.now signed_view)) (c.as_slice.ensures.value ∙ c.reverse.ensures.items)))
+    c.in_ok-push.ensures.items refl (omega (
+      arith,
+      c.requires,
+      ap length c.demands-demands.ensures,
+      length-map c.demands-demands.result.now signed_view,
+    )) (c.as_slice.ensures.value ∙ c.reverse.ensures.items)))
     (every-served (is_in_table T) c.args.server D (servers_of c.args.path.now)
     (omega (arith, c.requires, length-map c.args.path.now (λ e. e.server)))
     (g.met.F.PlanFrame.demands_in_table c.args.frame.now))
@@ -30,7 +34,11 @@ returns g c =
     let D = frame.demands in
     let list = served_list c.args.server c.demands-demands.result.now D c.args.path.now c.in_ok-served.served.items
     c.push.new.self.items c.as_slice.result.now _ _ c.demands-demands.ensures c.in_ok-served.ensures
-    c.in_ok-push.ensures.items refl (omega (arith, c.requires, ap length c.demands-demands.ensures,
-    length-map c.demands-demands.result.now signed_view)) (c.as_slice.ensures.value ∙ c.reverse.ensures.items) in
+    c.in_ok-push.ensures.items refl (omega (
+      arith,
+      c.requires,
+      ap length c.demands-demands.ensures,
+      length-map c.demands-demands.result.now signed_view,
+    )) (c.as_slice.ensures.value ∙ c.reverse.ensures.items) in
     if_ok _ _ c.goal_at.result (λ o e. e ∙ ap₂ (λ at ds. goal_of T frame (at, ds)) c.place_of.ensures list)
     c.goal_at.ensures

@@ -21,18 +21,18 @@ loop-i-preserved c =
           ≡ earlier c.args.server (map signed_view c.args.demands.now) 0 (servers_of c.args.path.now))
           (sym c.members_after-members.ensures)
           (elim c.if-serves_too.branch [
-      | then-serves_too+in_ok-push w ↦
-          next
-          (ap (λ v. v.items) w.found-is ∙ w.in_ok-push.ensures.items
-          ∙ ap (λ z. c.loop-i.found.items ++ z ∷ []) (get_same c.args.demands.now c.loop-i.i _ y l ∙ sym at)
-          ∙ ap (λ b. c.loop-i.found.items ++ cond b (y ∷ []) []) (sym w.if-serves_too.true))
-          c.loop-i.invariant.found
-      | else-serves_too w ↦
-          next
-          (ap (λ v. v.items) w.found-is ∙ sym (append-nil c.loop-i.found.items)
-          ∙ ap (λ b. c.loop-i.found.items ++ cond b (y ∷ []) []) (sym w.if-serves_too.false))
-          c.loop-i.invariant.found
-    ]);
+            | then-serves_too+in_ok-push w ↦
+                next
+                (ap (λ v. v.items) w.found-is ∙ w.in_ok-push.ensures.items
+                ∙ ap (λ z. c.loop-i.found.items ++ z ∷ []) (get_same c.args.demands.now c.loop-i.i _ y l ∙ sym at)
+                ∙ ap (λ b. c.loop-i.found.items ++ cond b (y ∷ []) []) (sym w.if-serves_too.true))
+                c.loop-i.invariant.found
+            | else-serves_too w ↦
+                next
+                (ap (λ v. v.items) w.found-is ∙ sym (append-nil c.loop-i.found.items)
+                ∙ ap (λ b. c.loop-i.found.items ++ cond b (y ∷ []) []) (sym w.if-serves_too.false))
+                c.loop-i.invariant.found
+          ]);
       few = omega (
         arith,
         c.members_after-members.ensures,

@@ -48,9 +48,8 @@ returns-else-branch-clause-dropped g c =
     let (k, m, e) = c.in_ok-form_first.ensures.clash c.if-branch.false in
     let count : c.min-count.result ≡ placed_heads frame ws =
     c.min-count.ensures ∙ ap₂ min long (c.from.ensures ∙ c.heads.ensures) in
-    let (i, h) = first-clash T frame ws k (omega (arith, m, count)) (omega (arith, m, count)) e in
-    (
+    let (i, h) = first-clash T frame ws k (omega (arith, m, count)) (omega (arith, m, count)) e in (
       i,
       steps-clash T frame ws i l
-      (ap₂ is_at_end (sym long) (sym c.below.ensures) ∙ sym c.is_at_end.ensures ∙ c.if-is_at_end.false) h,
+          (ap₂ is_at_end (sym long) (sym c.below.ensures) ∙ sym c.is_at_end.ensures ∙ c.if-is_at_end.false) h,
     )
