@@ -1,5 +1,5 @@
 -- References end where those after the first one do, and the ends of opposites are opposites.
-use Rattle.std.proofs.Common.{◌≡◌, ◌≢◌, ◌⊎◌, ⊎_elim, inl, inr, nat_lt, ℕ, zero, suc, ◌<◌, List, [], ◌∷◌, map, length, get_or, set, Bool, true, false, Option, Some, None, cond, option_map, refl, ap, sym, ◌∙◌, arith, subst}
+use Rattle.std.proofs.Common.{◌≡◌, ◌⊎◌, ⊎_elim, inl, inr, nat_lt, ℕ, zero, suc, ◌<◌, List, [], ◌∷◌, length, get_or, set, Bool, true, false, Option, Some, None, cond, option_map, refl, ap, sym, ◌∙◌, arith, subst}
 use Rattle.std.proofs.lemmas.List.{get_or-set_other, length-set}
 use Rattle.std.proofs.lemmas.Grind.{get_or-set_at}
 use Rattle.std.proofs.lemmas.Bool.{cases_eq, and_parts, ltb-true, lt-ltb, true≢false}
@@ -11,7 +11,7 @@ use Rattle.goal_laws.proofs.Forms.{follow-ends, follow-inside}
 use Rattle.js_algebra.specs.View.{with_sign, is_in_table}
 use Rattle.js_algebra.proofs.Orders.{same-itself}
 use Rattle.js_algebra.proofs.Tables.{every-position_at}
-use Rattle.js_algebra.specs.Ends.{AreEnds, MayBeEnds, AreLeft, HasEnds, signed_by, reference_of, known_at}
+use Rattle.js_algebra.specs.Ends.{MayBeEnds, AreLeft, HasEnds, signed_by, reference_of, known_at}
 
 -- a reference names a position that its node names
 names-reference : (n : ℕ) (P : Position) (b : Bool) (y : Signed) → names_below n P ≡ true → Some y ≡ reference_of b P

@@ -1,7 +1,7 @@
 -- What a set in the order of its members has, the rising list that it stands for, and what is added to it.
 use Rattle.std.proofs.Common.{◌≡◌, ℕ, zero, suc, ◌≤◌, ⊎_elim, Bool, true, false, ◌||◌, cond, List, [], ◌∷◌, ◌++◌, take, length, refl, arith, ap, sym, ◌∙◌, subst}
 use Rattle.std.proofs.Math.Bool.{or_comm, or-false}
-use Rattle.std.proofs.lemmas.List.{take-append-le, length-take}
+use Rattle.std.proofs.lemmas.List.{take-append-le}
 use Rattle.std.proofs.lemmas.Bool.{true≢false, or_cases, or_left, or_right}
 use Rattle.std.proofs.lemmas.Grind.{common_steps}
 use Rattle.position_laws.proofs.Lists.{some-append}
@@ -74,11 +74,6 @@ take-with_members k (x ∷ C) xs l =
     go : (b : Bool) → take k (cond b xs (xs ++ x ∷ [])) ≡ take k xs
     go true = refl
     go false = take-append-le k xs (x ∷ []) l
-
-pub still-with_member : (x : G.Signed) (old xs : List G.Signed) → take (length old) xs ≡ old
-    → take (length old) (with_member x xs) ≡ old
-still-with_member x old xs e =
-    take-with_members (length old) (x ∷ []) xs (omega (arith, length-take (length old) xs, ap length e)) ∙ e
 
 pub has-take : (k : ℕ) (xs : List G.Signed) (z : G.Signed) → has z (take k xs) ≡ true → has z xs ≡ true
 has-take zero xs z h = absurd (true≢false (sym h))

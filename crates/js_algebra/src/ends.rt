@@ -4,9 +4,7 @@
 //! whose end is known, and the end is left at each position that was passed; so all walks together take time in
 //! proportion to the number of positions, however long the chains are.
 
-ghost use Rattle.std.specs.Prelude.{◌≡◌, ◌⊎◌, ◌<◌, ◌^◌, ℕ, map, length, IfOk, IfSome, true, get_or, set, option_map};
-ghost use Rattle.positions.specs.Position.{names_below};
-ghost use Rattle.goals.specs.Signed.{Plus};
+ghost use Rattle.std.specs.Prelude.{◌≡◌, ◌<◌, ◌^◌, map, length, IfOk, true, set, option_map};
 ghost use Rattle.goals.specs.Goal as G;
 ghost use Rattle.js_algebra.specs.View.{node_view, signed_view, is_in_table};
 ghost use Rattle.js_algebra.specs.Ends.{AreEnds, MayBeEnds, AreLeft, AreThemselves, HasEnds, reference_of, known_at, signed_by};

@@ -3,7 +3,7 @@
 //! A goal stands for its list; that it rises holds of every value. Forming one follows each signed position along its
 //! references, sorts, and looks for a clash at neighbours, so its cost is that of the sort.
 
-ghost use Rattle.std.specs.Prelude.{◌≡◌, map, length, IfOk, IfSome, true, List, [], option_map};
+ghost use Rattle.std.specs.Prelude.{◌≡◌, map, length, IfOk, IfSome, true, List, []};
 ghost use Rattle.goals.specs.Signed.{is_rising, add_all};
 ghost use Rattle.goals.specs.Goal as G;
 ghost use Rattle.documents.specs.Document.{Document};

@@ -1,8 +1,8 @@
 -- The finder of numbers is right for each table, and so are the alternatives of a number branch.
-use Rattle.std.proofs.Common.{◌≡◌, ℕ, ℤ, List, [], ◌∷◌, Bool, true, false, Option, Some, None, Result, Ok, Err, IfOk, pos, length, refl, ap, sym, ◌∙◌, arith}
+use Rattle.std.proofs.Common.{◌≡◌, ℕ, ℤ, List, [], ◌∷◌, Bool, true, false, Option, Some, None, Result, Ok, Err, IfOk, pos, length, refl, ap, sym, arith}
 use Rattle.std.proofs.lemmas.Bool.{and_parts, ltb-true, true≢false}
 use Rattle.documents.specs.Kind as K
-use Rattle.documents.specs.Document.{Document, number}
+use Rattle.documents.specs.Document.{number}
 use Rattle.positions.specs.Position.{Position, is_table}
 use Rattle.positions.specs.Holds.{IsTable}
 use Rattle.position_laws.proofs.Tables.{is_table-IsTable}

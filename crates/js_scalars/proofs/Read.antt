@@ -1,5 +1,5 @@
 -- One signed position more is read.
-use Rattle.std.proofs.Common.{◌≡◌, ℕ, Bool, true, false, List, ◌∷◌, ap, ◌∙◌, sym, refl}
+use Rattle.std.proofs.Common.{◌≡◌, ℕ, Bool, true, false, List, ◌∷◌, ap, ◌∙◌, refl}
 use Rattle.positions.specs.Position.{Position, position_at}
 use Rattle.goals.specs.Signed.{Signed}
 use Rattle.number_groups.specs.Group.{Group}

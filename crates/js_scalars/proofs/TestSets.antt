@@ -1,5 +1,5 @@
 -- A list with one more signed position of the table is in the table.
-use Rattle.std.proofs.Common.{◌≡◌, ◌<◌, Bool, true, false, List, [], ◌∷◌, ◌++◌, map, length, refl, ap, ◌∙◌}
+use Rattle.std.proofs.Common.{◌≡◌, ◌<◌, Bool, true, false, List, [], ◌∷◌, ◌++◌, map, length, refl}
 use Rattle.std.proofs.lemmas.Bool.{and_parts, and_from, lt-ltb}
 use Rattle.positions.specs.Position.{Position}
 use Rattle.js_algebra.specs.View.{with_sign, signed_view, is_in_table, are_in_table}

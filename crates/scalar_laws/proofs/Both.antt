@@ -1,5 +1,5 @@
 -- Groups are put together in any grouping, and the group that asks nothing changes none.
-use Rattle.std.proofs.Common.{◌≡◌, ℤ, int_le, List, [], ◌++◌, cond, Option, Some, None, refl, ap, sym, ◌∙◌, arith}
+use Rattle.std.proofs.Common.{◌≡◌, ℤ, int_le, cond, Option, Some, None, refl, ap, ◌∙◌, arith}
 use Rattle.std.proofs.lemmas.Int.{ints}
 use Rattle.std.proofs.lemmas.List.{append_assoc, append-nil}
 use Rattle.number_groups.specs.Group.{Group}

@@ -1,5 +1,5 @@
 -- A whole number meets the group of a set exactly where it is all that the set asks.
-use Rattle.std.proofs.Common.{◌≡◌, ℕ, ℤ, pos, int_le, ◌≤ℤ◌, List, [], ◌∷◌, ◌++◌, Bool, true, false, not, ◌&&◌, ◌||◌, cond, Option, Some, None, refl, ap, sym, ◌∙◌, arith}
+use Rattle.std.proofs.Common.{◌≡◌, ℤ, int_le, List, [], ◌∷◌, Bool, true, false, not, ◌&&◌, ◌||◌, cond, Option, Some, None, refl, ap, sym, ◌∙◌, arith}
 use Rattle.std.specs.List.{list_all, list_any}
 use Rattle.std.proofs.lemmas.Int.{ints}
 use Rattle.documents.specs.Tests.{every}
@@ -7,7 +7,7 @@ use Rattle.documents.specs.Numbers.{has}
 use Rattle.positions.specs.Position.{Position}
 use Rattle.goals.specs.Signed.{Signed}
 use Rattle.number_groups.specs.Multiples.{is_multiple}
-use Rattle.number_groups.specs.Group.{Group, is_above, is_below, is_listed, is_struck, is_met}
+use Rattle.number_groups.specs.Group.{Group, is_above, is_below, is_struck, is_met}
 use Rattle.number_finder.specs.SetGroup.{Ask, AtLeast, AtMost, MultipleOf, NotMultipleOf, OneOf, NoneOf, Nothing, ask_at, group_of, greater, lesser, both, number_group}
 
 -- n is what is asked

@@ -1,26 +1,25 @@
 -- The number that is found for a set meets the set, and where none is found no document of numbers meets it.
-use Rattle.std.proofs.Common.{◌≡◌, ℕ, ℤ, pos, ◌+ℤ◌, ◌-ℤ◌, int_le, List, [], ◌∷◌, Bool, true, false, not, Option, Some, None, Result, Ok, Err, refl, ap, sym, ◌∙◌, subst, arith}
+use Rattle.std.proofs.Common.{◌≡◌, ℕ, ℤ, pos, ◌+ℤ◌, ◌-ℤ◌, int_le, List, Bool, true, false, not, Some, None, Ok, refl, ap, sym, ◌∙◌, subst, arith}
 use Rattle.std.proofs.lemmas.Int.{ints}
 use Rattle.std.proofs.lemmas.Bool.{not-false, true≢false}
 use Rattle.documents.specs.Tests.{every, some}
 use Rattle.documents.specs.Kind as K
 use Rattle.documents.specs.Kind.{same_kind}
 use Rattle.documents.specs.Document.{Document, null, boolean, number, string, array, object, kind_of}
-use Rattle.positions.specs.Position.{Position, True, False, Same, Not, All, Any, One, Depends, Types, NumMin, NumMax, Multiple, NumIn, position_at, is_table}
+use Rattle.positions.specs.Position.{Position, True, False, Same, Not, All, Any, One, Depends, Types, NumMin, NumMax, Multiple, NumIn, position_at}
 use Rattle.positions.specs.Holds.{asks, holds, IsTable}
 use Rattle.position_laws.proofs.Asks.{holds-asks}
 use Rattle.goals.specs.Signed.{Signed, Plus, Minus, met, meets}
 use Rattle.goals.specs.Choices.{plus_choices, minus_choices, choices, plus_wrong, minus_wrong, is_wrong}
 use Rattle.goal_laws.specs.Saturated.{IsSaturated}
 use Rattle.goal_laws.proofs.Saturated.{meets-saturated}
-use Rattle.list_laws.specs.In.{IsIn}
 use Rattle.list_laws.proofs.Lists.{every_at, every_from}
 use Rattle.frame_laws.proofs.Signs.{has_in}
-use Rattle.number_groups.specs.Group.{Group, is_met}
+use Rattle.number_groups.specs.Group.{is_met}
 use Rattle.number_groups.specs.Cases.{Cases, Found, Empty, LimitMultiples, LimitCandidates}
 use Rattle.number_groups.specs.Outcome.{outcome}
 use Rattle.number_groups.specs.Correct.{IsRight}
-use Rattle.alternatives.specs.Limit.{LimitKind, most_candidates}
+use Rattle.alternatives.specs.Limit.{most_candidates}
 use Rattle.alternatives.specs.Alternative.{Number}
 use Rattle.expansion_laws.proofs.Leaf.{IsFinder}
 use Rattle.number_finder.specs.SetGroup.{plus_ask, minus_ask, ask_at, number_group}

@@ -1,9 +1,9 @@
 -- The group of a set has bounds and divisors in their ranges, where the positions of its table have.
-use Rattle.std.proofs.Common.{◌≡◌, ℕ, ℤ, pos, negsuc, ◌+ℤ◌, ◌-ℤ◌, ◌^◌, ◌-◌, ◌≤◌, ◌≤ℤ◌, int_le, nat_le, nat_lt, unsigned_abs, List, [], ◌∷◌, Bool, true, false, ◌&&◌, cond, Option, Some, None, refl, ap, sym, ◌∙◌, subst, arith}
+use Rattle.std.proofs.Common.{◌≡◌, ℕ, ℤ, pos, negsuc, ◌+ℤ◌, ◌-ℤ◌, ◌^◌, ◌-◌, int_le, nat_le, nat_lt, unsigned_abs, List, [], ◌∷◌, Bool, true, false, cond, Option, Some, None, refl, arith}
 use Rattle.std.specs.List.{list_all}
 use Rattle.std.proofs.lemmas.Int.{ints}
 use Rattle.std.proofs.lemmas.Bool.{and_parts, and_from, le-leb}
-use Rattle.positions.specs.Position.{Position, NumMin, NumMax, Multiple, NumIn, position_at, in_range, is_table}
+use Rattle.positions.specs.Position.{Position, NumMin, NumMax, Multiple, position_at, in_range, is_table}
 use Rattle.position_laws.proofs.Tables.{is_table-in_range}
 use Rattle.goals.specs.Signed.{Signed, Plus, Minus}
 use Rattle.number_groups.specs.Group.{Group, is_near, is_ready}

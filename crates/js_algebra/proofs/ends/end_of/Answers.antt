@@ -1,5 +1,5 @@
 -- One step along a reference uses one of the steps that are left.
-use Rattle.std.proofs.Common.{◌≡◌, ◌-◌, map, length, arith, ap, sym, ◌∙◌, refl}
+use Rattle.std.proofs.Common.{◌-◌, map, length, arith, ap, sym, ◌∙◌, refl}
 use Rattle.std.proofs.lemmas.List.{length-map}
 use Rattle.goals.specs.Goal.{follow, follow_within}
 use Rattle.js_algebra.specs.View.{node_view, signed_view}

@@ -1,5 +1,5 @@
 -- The end of `x` is that of each position on the way to it.
-use Rattle.std.proofs.Common.{◌≡◌, map, length, ap, sym, ◌∙◌, arith}
+use Rattle.std.proofs.Common.{◌≡◌, map, ◌∙◌, arith}
 use Rattle.std.proofs.lemmas.List.{length-map}
 use Rattle.goals.specs.Goal.{follow}
 use Rattle.js_algebra.specs.View.{node_view, signed_view}

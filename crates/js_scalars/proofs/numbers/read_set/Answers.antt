@@ -1,5 +1,5 @@
 -- The first of what is left is read.
-use Rattle.std.proofs.Common.{◌≡◌, ◌∷◌, ◌+◌, drop, get_or, map, true, false, ap, ◌∙◌, sym, subst}
+use Rattle.std.proofs.Common.{◌≡◌, ◌∷◌, ◌+◌, drop, get_or, map, false, ap, ◌∙◌, sym}
 use Rattle.std.proofs.lemmas.Bool.{and_parts}
 use Rattle.number_finder.specs.SetGroup.{both, number_group}
 use Rattle.js_algebra.specs.View.{signed_view, is_in_table, are_in_table}

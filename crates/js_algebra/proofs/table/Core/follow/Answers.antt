@@ -1,7 +1,6 @@
 -- The end is kept for the position with plus.
-use Rattle.std.proofs.Common.{◌≡◌, ap, sym, ◌∙◌, subst, get_or, map, length, true, arith}
+use Rattle.std.proofs.Common.{◌≡◌, ap, sym, ◌∙◌, subst, map, true, arith}
 use Rattle.std.proofs.lemmas.List.{get_or-map, length-map}
-use Rattle.positions.specs.Position.{Position}
 use Rattle.goals.specs.Signed.{Plus}
 use Rattle.goals.specs.Goal.{follow}
 use Rattle.js_algebra.specs.View.{node_view, signed_view, is_in_table, Table}

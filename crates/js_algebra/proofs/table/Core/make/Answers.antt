@@ -1,6 +1,5 @@
 -- The references of a table end in it.
-use Rattle.std.proofs.Common.{◌≡◌, map, true, subst, sym}
-use Rattle.positions.specs.Position.{is_table}
+use Rattle.std.proofs.Common.{map, subst, sym}
 use Rattle.js_algebra.specs.View.{node_view}
 use Rattle.js_algebra.specs.Ends.{HasEnds}
 use Rattle.js_algebra.proofs.Ended.{table-ends}
