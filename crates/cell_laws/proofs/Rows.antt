@@ -18,7 +18,7 @@ use Rattle.cell_laws.specs.Leading.{walk}
 use Rattle.cell_laws.specs.RowTables.{IsRowOf, LeadsOn}
 use Rattle.cell_laws.proofs.Tables as T
 
-all_end : (w : List ℕ) (c : ℕ) → list_all is_scalar w ≡ true → is_scalar c ≡ true
+pub all_end : (w : List ℕ) (c : ℕ) → list_all is_scalar w ≡ true → is_scalar c ≡ true
     → list_all is_scalar (w ++ c ∷ []) ≡ true
 all_end [] c e f = and_from (is_scalar c) true f refl
 all_end (d ∷ w) c e f =

@@ -1,0 +1,6 @@
+mod Grow
+pub mod RowsFound
+pub mod SameAtoms
+mod Literals
+pub mod Wanted
+pub mod Strings
