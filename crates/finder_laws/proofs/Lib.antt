@@ -4,3 +4,6 @@ pub mod SameAtoms
 mod Literals
 pub mod Wanted
 pub mod Strings
+mod InOrder
+pub mod RowOrder
+pub mod FirstRow

@@ -85,7 +85,7 @@ below_none b (Some v) e = go (is_at_end (length v) b) refl e where
   go true p h = inr (v, refl, p)
   go false p h = cc h
 
-first_in : {A : Type 0} (x : A) (xs : List A) → first_of xs ≡ Some x → IsIn x xs
+pub first_in : {A : Type 0} (x : A) (xs : List A) → first_of xs ≡ Some x → IsIn x xs
 first_in x [] e = cc e
 first_in x (y ∷ xs) e = inl (let q : y ≡ x = cc e in sym q)
 
