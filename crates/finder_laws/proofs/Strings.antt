@@ -121,51 +121,55 @@ module _ (T : List Position) (S : List Signed) where
           enough : length L * 1 ≤ far
           enough = let a = states_far in omega (arith, a, few)
 
+module _ (T : List Position) (S : List Signed) where
+  abbrev IsFree : Option (List ℕ) → Type 0
+  IsFree o = IsOpen (is_at_end (lower T S) (below T S)) (limit_passed characters most_states (string_atoms T S))
+      (below T S) o (first_of (wanted_words T S))
+
+  come_from : (o : Option (List ℕ)) → strings_of T S ≡ Ok o
+      → ((is_at_end (lower T S) (below T S) ≡ true) × (o ≡ None)) ⊎ IsFree o
+  come_from o e = answered (is_at_end (lower T S) (below T S))
+      (limit_passed characters most_states (string_atoms T S)) (below T S) o (first_of (wanted_words T S)) e
+
+  -- the word that is found: of characters, wanted, and not too long
+  pub found_word : (w : List ℕ) → strings_of T S ≡ Ok (Some w)
+      → (list_all is_scalar w ≡ true) × (is_wanted T S w ≡ true) × (is_at_end (length w) (below T S) ≡ false)
+  found_word w e = ⊎_elim
+      (λ (x, y). cc y)
+      (λ o. let (p, h) = below_some (below T S) (first_of (wanted_words T S)) w o.is in
+      let (l, s, t) = wanted_is T S w (first_in w (wanted_words T S) p) in (s, t, h))
+      (come_from (Some w) e)
+
+  -- where none is found, none is wanted and short enough
+  pub none_wanted : strings_of T S ≡ Ok None → (w : List ℕ) → list_all is_scalar w ≡ true
+      → is_wanted T S w ≡ true → is_at_end (length w) (below T S) ≡ false → ⊥
+  none_wanted e w s t h =
+      let (a, b) = and_parts (every (wants T w) S) (nat_le (lower T S) (length w)) t in
+      let low = leb-true (lower T S) (length w) b in
+      let open_ = not_crossed (lower T S) (length w) (below T S) low h in
+      ⊎_elim (λ (x, y). true≢false (sym x ∙ open_)) (λ o. go o) (come_from None e) where
+        go : IsFree None → ⊥
+        go o =
+            let (rows, few) = none_passed (string_atoms T S) most_states o.passed in
+            let (v, f, l) = wanted_first T S
+            (rows_by (class_firsts (string_atoms T S)) (string_atoms T S) most_states) rows few w s t in
+            ⊎_elim
+            (λ q. let n : None ≡ Some v = sym q ∙ f in cc n)
+            (λ (u, q, g). let same : Some u ≡ Some v = sym q ∙ f in
+            let i : u ≡ v = cc same in
+            let k = not_crossed (length v) (length w) (below T S) l h in
+            true≢false (sym g ∙ ap (λ z. is_at_end (length z) (below T S)) i ∙ k))
+            (below_none (below T S) (first_of (wanted_words T S)) o.is)
+
 module _ (T : List Position) (ok : IsTable T) where
-  module _ (S : List Signed) where
-    abbrev IsFree : Option (List ℕ) → Type 0
-    IsFree o = IsOpen (is_at_end (lower T S) (below T S)) (limit_passed characters most_states (string_atoms T S))
-        (below T S) o (first_of (wanted_words T S))
-
-    come_from : (o : Option (List ℕ)) → strings_of T S ≡ Ok o
-        → ((is_at_end (lower T S) (below T S) ≡ true) × (o ≡ None)) ⊎ IsFree o
-    come_from o e = answered (is_at_end (lower T S) (below T S))
-        (limit_passed characters most_states (string_atoms T S)) (below T S) o (first_of (wanted_words T S)) e
-
-    -- the word that is found: of characters, wanted, and not too long
-    pub found_word : (w : List ℕ) → strings_of T S ≡ Ok (Some w)
-        → (list_all is_scalar w ≡ true) × (is_wanted T S w ≡ true) × (is_at_end (length w) (below T S) ≡ false)
-    found_word w e = ⊎_elim
-        (λ (x, y). cc y)
-        (λ o. let (p, h) = below_some (below T S) (first_of (wanted_words T S)) w o.is in
-        let (l, s, t) = wanted_is T S w (first_in w (wanted_words T S) p) in (s, t, h))
-        (come_from (Some w) e)
-
-    -- where none is found, none meets the set
-    pub none_wanted : strings_of T S ≡ Ok None → (w : List ℕ) → list_all is_scalar w ≡ true
-        → meets T S (string w) ≡ true → ⊥
-    none_wanted e w s m =
-        let (t, h) = wanted_from T ok S w m in
-        let (a, b) = and_parts (every (wants T w) S) (nat_le (lower T S) (length w)) t in
-        let low = leb-true (lower T S) (length w) b in
-        let open_ = not_crossed (lower T S) (length w) (below T S) low h in
-        ⊎_elim (λ (x, y). true≢false (sym x ∙ open_)) (λ o. go o t h) (come_from None e) where
-          go : IsFree None → is_wanted T S w ≡ true → is_at_end (length w) (below T S) ≡ false → ⊥
-          go o t h =
-              let (rows, few) = none_passed (string_atoms T S) most_states o.passed in
-              let (v, f, l) = wanted_first T S
-              (rows_by (class_firsts (string_atoms T S)) (string_atoms T S) most_states) rows few w s t in
-              ⊎_elim
-              (λ q. let n : None ≡ Some v = sym q ∙ f in cc n)
-              (λ (u, q, g). let same : Some u ≡ Some v = sym q ∙ f in
-              let i : u ≡ v = cc same in
-              let k = not_crossed (length v) (length w) (below T S) l h in
-              true≢false (sym g ∙ ap (λ z. is_at_end (length z) (below T S)) i ∙ k))
-              (below_none (below T S) (first_of (wanted_words T S)) o.is)
+  -- then none meets the set
+  pub none_meets : (S : List Signed) → strings_of T S ≡ Ok None → (w : List ℕ) → list_all is_scalar w ≡ true
+      → meets T S (string w) ≡ true → ⊥
+  none_meets S e w s m = let (t, h) = wanted_from T ok S w m in none_wanted T S e w s t h
 
   string_none : (S : List Signed) → strings_of T S ≡ Ok None → (J : Document) → is_document J ≡ true
       → kind_of J ≡ K.Text → meets T S J ≡ true → ⊥
-  string_none S e (string w) good kind m = none_wanted S e w (sym (scalars_same w) ∙ good) m
+  string_none S e (string w) good kind m = none_meets S e w (sym (scalars_same w) ∙ good) m
   string_none S e null good kind m = cc kind
   string_none S e (boolean b) good kind m = cc kind
   string_none S e (number n) good kind m = cc kind
@@ -175,7 +179,7 @@ module _ (T : List Position) (ok : IsTable T) where
   pub string_finder : IsFinder T K.Text (λ S. word_of (strings_of T S)) (λ w. Text) (strings_of T)
   string_finder = record {
     found = λ S full w e.
-        let (s, t, h) = found_word S w e in
+        let (s, t, h) = found_word T S w e in
         subst (λ z. IsMade T 0 S (string (word_of z 0 0))) (sym e)
         (scalars_same w ∙ s, omega arith, wanted_meets T ok S w full t h);
     none_found = λ S full e J good kind m. string_none S e J good kind m;

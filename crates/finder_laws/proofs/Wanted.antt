@@ -1,6 +1,6 @@
 -- A string meets a saturated set exactly where its word is wanted and not too long; and which words are wanted is told
 -- by the atoms of the set.
-use Rattle.std.proofs.Common.{◌≡◌, ℕ, ◌≤◌, inl, inr, ⊎_elim, Bool, true, false, ◌&&◌, not, cond, List, [], ◌∷◌, map, flat_map, length, nat_eq, nat_le, refl, ap, ap₂, sym, ◌∙◌, subst, arith}
+use Rattle.std.proofs.Common.{◌++◌, ◌≡◌, ℕ, ◌≤◌, inl, inr, ⊎_elim, Bool, true, false, ◌&&◌, not, cond, List, [], ◌∷◌, map, flat_map, length, nat_eq, nat_le, refl, ap, ap₂, sym, ◌∙◌, subst, arith}
 use Rattle.std.proofs.lemmas.Bool.{and_parts, and_from, or_parts, or_from, leb-true, le-leb, eqb-true}
 use Rattle.documents.specs.Tests.{every}
 use Rattle.documents.specs.Kind as K
@@ -98,8 +98,13 @@ module _ (T : List Position) (S : List Signed) where
   pub word_atom_in : (x : Signed) → IsIn x S → (a : Atom) → IsIn a (word_atoms (position_at T (position_of x)))
       → IsIn a (string_atoms T S)
   word_atom_in x i a j =
-      in_left a _ (length_atoms (lower T S))
-      (once_has a all_atoms (in_flat_map (λ x. word_atoms (position_at T (position_of x))) a x S i j))
+      once_has a (all_atoms ++ length_atoms (lower T S))
+      (in_left a all_atoms (length_atoms (lower T S))
+      (in_flat_map (λ x. word_atoms (position_at T (position_of x))) a x S i j))
+
+  pub length_atom_in : (a : Atom) → IsIn a (length_atoms (lower T S)) → IsIn a (string_atoms T S)
+  length_atom_in a i =
+      once_has a (all_atoms ++ length_atoms (lower T S)) (in_right a all_atoms (length_atoms (lower T S)) i)
 
   module _ (v w : List ℕ) (same : have_same_state (string_atoms T S) v w ≡ true) where
     wants_same : (x : Signed) → IsIn x S → wants T v x ≡ wants T w x
@@ -117,7 +122,7 @@ module _ (T : List Position) (S : List Signed) where
           let z = eqb-true (lower T S) 0 e in
           le-leb (lower T S) (length v) (omega (arith, z)) ∙ sym (le-leb (lower T S) (length w) (omega (arith, z)))
       go false e = truth_same (string_atoms T S) v w same (W.LengthMin (lower T S))
-          (in_right (W.LengthMin (lower T S)) _ (length_atoms (lower T S))
+          (length_atom_in (W.LengthMin (lower T S))
           (subst (λ b. IsIn (W.LengthMin (lower T S)) (cond b [] (W.LengthMin (lower T S) ∷ []))) (sym e) (inl refl)))
 
     pub wanted_same : is_wanted T S v ≡ is_wanted T S w

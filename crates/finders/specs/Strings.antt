@@ -56,10 +56,10 @@ word_atoms _ = []
 abbrev pub length_atoms : ℕ → List Atom
 length_atoms n = cond (nat_eq n 0) [] (W.LengthMin n ∷ [])
 
--- the atoms of the set, literal by literal and each once, and the lower bound
+-- the atoms of the literals in order, and then the lower bound, each once
 abbrev pub string_atoms : List Position → List Signed → List Atom
 string_atoms T S =
-    once (flat_map (λ x. word_atoms (position_at T (position_of x))) S) ++ length_atoms (lower T S)
+    once (flat_map (λ x. word_atoms (position_at T (position_of x))) S ++ length_atoms (lower T S))
 
 -- what a literal that lists words or has a pattern asks of a word
 abbrev pub wants : List Position → List ℕ → Signed → Bool
