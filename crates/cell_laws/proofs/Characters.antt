@@ -38,7 +38,7 @@ rank_rises c d s (inr (e, l)) = ranks (group_of c) (group_of d) c d e l where
   ranks : (g h c d : ℕ) → g ≡ h → c < d → g * 0x110000 + c < h * 0x110000 + d
   ranks g h c d e l = omega (arith, e, l)
 
-rising_ordered : (cs : List ℕ) → ((c : ℕ) → IsIn c cs → is_scalar c ≡ true) → Rising cs
+pub rising_ordered : (cs : List ℕ) → ((c : ℕ) → IsIn c cs → is_scalar c ≡ true) → Rising cs
     → IsOrdered (λ c d. rank c < rank d) cs
 rising_ordered [] s r = tt
 rising_ordered (c ∷ cs) s r =

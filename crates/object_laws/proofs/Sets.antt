@@ -41,7 +41,7 @@ lower_to T [] n h x i = absurd i
 lower_to T (y ∷ S) n h x (inl e) = subst (λ z. lower_at T z ≤ n) (sym e) (omega (arith, h))
 lower_to T (y ∷ S) n h x (inr i) = lower_to T S n (omega (arith, h)) x i
 
-lesser_end : (n : ℕ) (a b : Option ℕ) → is_at_end n (lesser a b) ≡ (is_at_end n a || is_at_end n b)
+pub lesser_end : (n : ℕ) (a b : Option ℕ) → is_at_end n (lesser a b) ≡ (is_at_end n a || is_at_end n b)
 lesser_end n None b = refl
 lesser_end n (Some k) None = go (nat_le k n) where
   go : (t : Bool) → t ≡ (t || false)

@@ -29,22 +29,22 @@ module _ (atoms : List Atom) where
   abbrev same : List ℕ → List ℕ → Bool
   same = have_same_state atoms
 
-  abbrev extend : List ℕ → List (List ℕ)
+  abbrev pub extend : List ℕ → List (List ℕ)
   extend w = map (λ c. w ++ c ∷ []) (class_firsts atoms)
 
-  longer : (v w : List ℕ) → IsIn w (extend v) → length v < length w
+  pub longer : (v w : List ℕ) → IsIn w (extend v) → length v < length w
   longer v w i =
       let (c, j, e) = from_map (λ c. v ++ c ∷ []) w (class_firsts atoms) i in
       let l : length w ≡ length v + 1 = ap length e ∙ length-append v (c ∷ []) in
       omega (arith, l)
 
-  same_next : (v w : List ℕ) (c d : ℕ) → same v w ≡ true → are_alike (dividers atoms) c d ≡ true
+  pub same_next : (v w : List ℕ) (c d : ℕ) → same v w ≡ true → are_alike (dividers atoms) c d ≡ true
       → same (v ++ c ∷ []) (w ++ d ∷ []) ≡ true
   same_next v w c d e k =
       (state_decides (word_state atoms (v ++ c ∷ [])) (word_state atoms (w ++ d ∷ []))).1
       (state_next atoms v w c d ((state_decides (word_state atoms v) (word_state atoms w)).0 e) k)
 
-  follows : (v w u : List ℕ) → same v w ≡ true → IsIn u (extend v)
+  pub follows : (v w u : List ℕ) → same v w ≡ true → IsIn u (extend v)
       → (z : List ℕ) × IsIn z (extend w) × (same u z ≡ true)
   follows v w u e i =
       let (c, j, q) = from_map (λ c. v ++ c ∷ []) u (class_firsts atoms) i in (

@@ -84,7 +84,8 @@ module _ {A : Type 0} (same : A → A → Bool) (laws : IsEquivalence same) (ext
           (subst (λ z. IsIn x z) (sym e) (in_right x K (x ∷ X) (inl refl))))
           (inl refl)
 
-      next : (K X : List A) (x : A) → L ≡ K ++ x ∷ X → (Y : List A) × (mentioned K ≡ K ++ x ∷ Y)
+      -- what a beginning of the rows mentions is longer by the next row at least
+      pub next : (K X : List A) (x : A) → L ≡ K ++ x ∷ X → (Y : List A) × (mentioned K ≡ K ++ x ∷ Y)
       next K X x e =
           let (Y, p) = begins K (x ∷ X) in
           elim (prefixes K (x ∷ X) (mentioned K) Y (sym e ∙ rows ∙ ap (λ z. mentioned z) e ∙ p)) [

@@ -1,0 +1,9 @@
+mod Grow
+pub mod RowsFound
+pub mod SameAtoms
+mod Literals
+pub mod Wanted
+pub mod Strings
+mod InOrder
+pub mod RowOrder
+pub mod FirstRow

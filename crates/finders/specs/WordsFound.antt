@@ -1,0 +1,16 @@
+-- The words that pass a test, in order, and how long words are looked at.
+use Rattle.std.specs.Prelude.{ℕ, ◌*◌, List, [], ◌∷◌, filter, Bool, Option, Some, None}
+use Rattle.cells.specs.WordsInOrder.{shorter}
+use Rattle.alternatives.specs.Limit.{most_states, most_words}
+
+-- Longer words than these need not be looked at, to find a first word or to count words up to the most that are counted:
+-- where there are rows, each is reached by a word of fewer characters than there are rows.
+unfoldable pub far : ℕ
+far = most_states * most_words
+
+abbrev pub words_found : List ℕ → ℕ → (List ℕ → Bool) → List (List ℕ)
+words_found characters far test = filter test (shorter characters far)
+
+abbrev pub first_of : {A : Type 0} → List A → Option A
+first_of [] = None
+first_of (x ∷ xs) = Some x

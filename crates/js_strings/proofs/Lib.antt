@@ -1,0 +1,6 @@
+mod Wishing
+mod NamingLaws
+mod NameSteps
+mod Letters
+mod Finding
+mod LeafLaws
