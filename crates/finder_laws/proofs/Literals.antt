@@ -3,7 +3,7 @@
 use Rattle.std.proofs.Common.{◌≡◌, ℕ, suc, ◌≤◌, Bool, true, false, ◌&&◌, ◌||◌, not, List, [], ◌∷◌, length, nat_eq, nat_le, None, refl, ap, ap₂, sym, ◌∙◌, arith}
 use Rattle.std.specs.List.{list_any}
 use Rattle.std.specs.Cmp.Lexicographic.{pointwise}
-use Rattle.std.proofs.lemmas.Bool.{leb-true, leb-false, le-leb, lt-leb, not-false}
+use Rattle.std.proofs.lemmas.Bool.{leb-true, leb-false, le-leb, lt-leb, not-false, not-true}
 use Rattle.documents.specs.Tests.{every, some, same_word}
 use Rattle.documents.specs.Kind as K
 use Rattle.documents.specs.Kind.{same_kind}
@@ -16,7 +16,6 @@ use Rattle.position_laws.proofs.Asks.{holds-asks}
 use Rattle.goals.specs.Signed.{Signed, Plus, Minus, met}
 use Rattle.goals.specs.Choices.{plus_choices, minus_choices, choices, plus_wrong, minus_wrong, is_wrong}
 use Rattle.frames.specs.Frame.{is_at_end}
-use Rattle.list_laws.proofs.Tests.{not_true}
 use Rattle.finders.specs.Strings.{plus_lower, minus_lower, lower_at, plus_below, minus_below, below_at, word_atoms, wants}
 
 pointwise-same : (v w : List ℕ) → pointwise nat_eq v w ≡ same_word v w
@@ -59,11 +58,11 @@ module _ (here : ℕ → Bool) (below : ℕ → Document → Bool) (w : List ℕ
   wanted_plus _ e = refl
 
   low_minus : (P : Position) → not (Asks P) ≡ true → minus_lower P ≤ length w
-  low_minus (LengthMax n) e = leb-false (length w) n (not_true (nat_le (length w) n) e)
+  low_minus (LengthMax n) e = leb-false (length w) n (not-true (nat_le (length w) n) e)
   low_minus _ e = omega arith
 
   high_minus : (P : Position) → not (Asks P) ≡ true → is_at_end (length w) (minus_below P) ≡ false
-  high_minus (LengthMin n) e = not_true (nat_le n (length w)) e
+  high_minus (LengthMin n) e = not-true (nat_le n (length w)) e
   high_minus _ e = refl
 
   wanted_minus : (P : Position) → not (Asks P) ≡ true → wants_minus P ≡ true
