@@ -34,7 +34,8 @@ below n xs = every (λ x. nat_lt (position_of x) n) xs
 
 module _ (n i : ℕ) where
   pub plus_each-below : (Q : Position) → names_below n Q ≡ true → below n (A.plus_each i Q) ≡ true
-  plus_each-below (P.Items ps r) e = let (a, b) = and_parts (nat_lt r n) _ e in and_from _ _ (item-below n ps r i a b) refl
+  plus_each-below (P.Items ps r) e =
+      let (a, b) = and_parts (nat_lt r n) _ e in and_from _ _ (item-below n ps r i a b) refl
   plus_each-below _ e = refl
 
   pub minus_each-below : (Q : Position) → names_below n Q ≡ true → below n (A.minus_each Q) ≡ true
@@ -46,7 +47,8 @@ module _ (n i : ℕ) where
   plus_serving-below _ e = refl
 
   pub minus_serving-below : (Q : Position) → names_below n Q ≡ true → below n (A.minus_serving i Q) ≡ true
-  minus_serving-below (P.Items ps r) e = let (a, b) = and_parts (nat_lt r n) _ e in and_from _ _ (item-below n ps r i a b) refl
+  minus_serving-below (P.Items ps r) e =
+      let (a, b) = and_parts (nat_lt r n) _ e in and_from _ _ (item-below n ps r i a b) refl
   minus_serving-below _ e = refl
 
 module _ (T : List Position) (n : ℕ) (at : Place) where

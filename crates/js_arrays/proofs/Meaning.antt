@@ -17,7 +17,8 @@ module _ (T : List Position) (ranks : List ℕ) (table : is_table T ranks ≡ tr
   follows (Err e) a = tt
   follows (Ok leaf) a = λ l full d can pass J good kind deep m.
       let ok = is_table-IsTable T ranks table l in
-      let (x, i, h) = (array_is_leaf T ok (λ S. λ c n. [])).follows k S full leaf.alternatives a d can pass J good kind deep m in
+      let (x, i, h) =
+      (array_is_leaf T ok (λ S. λ c n. [])).follows k S full leaf.alternatives a d can pass J good kind deep m in
       some_from (is_met can) x leaf.alternatives i h
 
   pub makes : (r : Result Leaf ArrayFault) → Answers T k S r → IfOk r (λ leaf. Makes T S leaf.alternatives)

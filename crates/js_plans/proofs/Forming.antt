@@ -1,15 +1,15 @@
 -- What serves the next demand serves these demands, and a longer list clashes where a shorter one does.
-use Rattle.std.proofs.Common.{◌≡◌, inl, inr, Result, Ok, Err, IfOk, ℕ, zero, suc, ◌+◌, ◌<◌, ◌≤◌, List, [], ◌∷◌, ◌++◌, map, reverse, length, get_or, Bool, true, false, ◌&&◌, ◌||◌, cond, Option, Some, None, refl, arith, ap, ap₂, sym, ◌∙◌, subst, append-nil, append_assoc}
+use Rattle.std.proofs.Common.{◌≡◌, inl, inr, Result, Ok, Err, IfOk, ℕ, zero, suc, ◌+◌, ◌<◌, List, [], ◌∷◌, ◌++◌, map, reverse, length, get_or, Bool, true, false, ◌||◌, cond, Some, None, refl, arith, ap, ap₂, sym, ◌∙◌, subst, append-nil}
 use Rattle.std.proofs.lemmas.Bool.{and_parts, and_from, or_left, or_right, or_cases}
 use Rattle.std.proofs.lemmas.List.{map-append, length-map, reverse-append}
-use Rattle.documents.specs.Tests.{every, some}
+use Rattle.documents.specs.Tests.{every}
 use Rattle.positions.specs.Position.{Position}
 use Rattle.goals.specs.Signed.{Signed, Plus, has, add_all, opposite}
 use Rattle.goals.specs.Goal.{form, form_of, followed, follow, clashes, is_always, is_never}
 use Rattle.goal_laws.proofs.Signs.{has-add_all, some-has, has-some}
-use Rattle.frames.specs.Frame.{Frame, Head, list_at}
+use Rattle.frames.specs.Frame.{Frame, Head}
 use Rattle.frames.specs.Plan.{goal_of}
-use Rattle.js_algebra.specs.View.{signed_view, is_in_table, are_in_table}
+use Rattle.js_algebra.specs.View.{signed_view}
 use Rattle.js_algebra.specs.declared.signed.Signed as C
 use Rattle.js_algebra.proofs.Choosing.{get_or-map}
 use Rattle.js_plans.specs.declared.server.Server.{Server}
@@ -26,7 +26,8 @@ map-reverse f (x ∷ xs) =
     ∙ sym (reverse-append (f x ∷ []) (map f xs))
 
 pub served_list : (s : Server) (ds : List C.Signed) (D : List Signed) (path : List Served) (v xs ys : List C.Signed)
-    (z : C.Signed) (n : ℕ) → map signed_view ds ≡ D → map signed_view v ≡ earlier s (map signed_view ds) 0 (servers_of path)
+    (z : C.Signed) (n : ℕ) → map signed_view ds ≡ D
+    → map signed_view v ≡ earlier s (map signed_view ds) 0 (servers_of path)
     → xs ≡ v ++ get_or ds n z ∷ [] → n ≡ length path → n < length ds → ys ≡ reverse xs
     → map signed_view ys
     ≡ reverse (earlier s D 0 (servers_of path) ++ get_or D (length (servers_of path)) (Plus 0) ∷ [])
@@ -127,7 +128,8 @@ module _ (T : List Position) where
       (λ z h. has-add_all z (followed T (xs ++ ys)) []
       ∙ or_left _ false
       (subst (λ zs. has z zs ≡ true) (sym (followed-append xs ys))
-      (has-append z (followed T xs) (followed T ys) (in_list (has z (followed T xs)) (sym (has-add_all z (followed T xs) []) ∙ h)))))
+      (has-append z (followed T xs) (followed T ys)
+      (in_list (has z (followed T xs)) (sym (has-add_all z (followed T xs) []) ∙ h)))))
       (no_form (add_all (followed T xs) []) e)) where
         in_list : (b : Bool) → (b || false) ≡ true → b ≡ true
         in_list true h = refl

@@ -1,12 +1,12 @@
 -- What a list of servers says of the plan that it makes.
-use Rattle.std.proofs.Common.{◌≡◌, ℕ, zero, suc, ◌+◌, ◌-◌, ◌<◌, ◌≤◌, max, List, [], ◌∷◌, ◌++◌, map, reverse, drop, length, get_or, Bool, true, false, ◌&&◌, cond, nat_eq, nat_lt, refl, arith, ap, ap₂, sym, ◌∙◌, subst, drop-cons, append-nil, append_assoc}
-use Rattle.std.proofs.lemmas.Bool.{and_parts, ltb-true, ltb-false, eqb-true, eqb-false}
+use Rattle.std.proofs.Common.{◌≡◌, ℕ, zero, suc, ◌+◌, ◌<◌, ◌≤◌, max, List, [], ◌∷◌, ◌++◌, map, drop, length, get_or, Bool, true, false, cond, refl, arith, ap, ap₂, sym, ◌∙◌, subst, drop-cons, append-nil, append_assoc}
+use Rattle.std.proofs.lemmas.Bool.{and_parts, ltb-true}
 use Rattle.std.proofs.lemmas.List.{map-append}
 use Rattle.goals.specs.Signed.{Signed}
 use Rattle.js_algebra.specs.View.{signed_view}
 use Rattle.js_algebra.specs.declared.signed.Signed as C
 use Rattle.js_plans.specs.declared.path.Served.{Served}
-use Rattle.frames.specs.Plan.{Plan, Member, plan, member, serve_head, serve_member, used, one_more}
+use Rattle.frames.specs.Plan.{Plan, Member, member, serve_head, serve_member, used, one_more}
 use Rattle.js_plans.specs.declared.server.Server.{Server}
 use Rattle.js_plans.specs.declared.server.Server.TheVariants as V
 use Rattle.js_plans.specs.Serving.{serve, serve_all}
@@ -107,7 +107,8 @@ cells-serve_all (d ∷ ds) (w ∷ ws) p l =
     cells-serve_all ds ws (serve d p w) (omega (arith, l)) ∙ cells-serve d p w (cells_of ws)
 
 -- how many members there are
-pub members-serve : (d : Signed) (p : Plan) (s : Server) → length (serve d p s).members ≡ members_after (length p.members) s
+pub members-serve : (d : Signed) (p : Plan) (s : Server)
+    → length (serve d p s).members ≡ members_after (length p.members) s
 members-serve d p (V.Head k) = refl
 members-serve d p (V.Member k) = same p.members k where
   same : (ms : List Member) (k : ℕ) → length (serve_member d ms k) ≡ length ms

@@ -1,17 +1,15 @@
 -- Members and fillers by the cells and the goals of what is placed.
-use Rattle.std.proofs.Common.{◌≡◌, ℕ, zero, suc, ◌+◌, ◌-◌, ◌<◌, ◌≤◌, max, min, List, [], ◌∷◌, ◌++◌, map, flat_map, reverse, take, length, get_or, replicate, Bool, true, false, cond, nat_eq, Option, Some, None, refl, arith, ap, ap₂, sym, ◌∙◌, subst, append-nil, append_assoc}
+use Rattle.std.proofs.Common.{◌≡◌, ℕ, zero, suc, ◌+◌, ◌≤◌, min, List, [], ◌∷◌, ◌++◌, map, flat_map, reverse, take, length, Bool, true, false, cond, nat_eq, Some, refl, arith, ap, ap₂, sym, ◌∙◌, append-nil, append_assoc}
 use Rattle.std.specs.List.{range_with_len}
 use Rattle.std.proofs.lemmas.List.{map-append, length-map, length-append, length-set, length-take-le, reverse-append}
 use Rattle.std.proofs.lemmas.List.FromFn.{length-range_with_len}
 use Rattle.std.proofs.lemmas.Bool.{and_parts, ltb-true}
-use Rattle.std.proofs.lemmas.Simd.{map-map}
 use Rattle.positions.specs.Position.{Position}
 use Rattle.goals.specs.Signed.{Signed}
 use Rattle.documents.specs.Kind.{Kind}
 use Rattle.frames.specs.Frame as F
 use Rattle.frames.specs.Frame.{Frame, Head, In}
 use Rattle.frames.specs.Plan.{Plan, Member, size, placed, goal_of, heads_from, need, count_in}
-use Rattle.frames.specs.Fillers as P
 use Rattle.frames.specs.Fillers.{times, filler_at, fillers, with_room}
 use Rattle.alternatives.specs.Alternative as A
 use Rattle.expansions.specs.Leaves as N
@@ -127,14 +125,16 @@ module _ (T : List Position) (frame : Frame) where
       ∙ ap (range_with_len j) e
 
   member-cells : (ms : List Member)
-      → map (λ s. cell_of s.0) (map (λ m. (let s : F.Place × List Signed = (In m.cell, m.served) in s)) ms) ≡ map (λ m. m.cell) ms
+      → map (λ s. cell_of s.0) (map (λ m. (let s : F.Place × List Signed = (In m.cell, m.served) in s)) ms)
+      ≡ map (λ m. m.cell) ms
   member-cells [] = refl
   member-cells (m ∷ ms) = ap (λ cs. m.cell ∷ cs) (member-cells ms)
 
   placed-cells : (q : Plan) → map (λ s. cell_of s.0) (placed frame q)
       ≡ range_with_len 0 (min (size frame q) (length q.heads)) ++ map (λ m. m.cell) q.members
   placed-cells q =
-      map-append (λ s. cell_of s.0) (take (size frame q) (heads_from 0 q.heads)) (map (λ m. (In m.cell, m.served)) q.members)
+      map-append (λ s. cell_of s.0) (take (size frame q) (heads_from 0 q.heads))
+      (map (λ m. (In m.cell, m.served)) q.members)
       ∙ ap₂ (λ xs ys. xs ++ ys) (head-cells 0 (size frame q) q.heads) (member-cells q.members)
 
   -- the members of the plan of a path
@@ -157,9 +157,11 @@ module _ (T : List Position) (frame : Frame) where
       (shown-path T frame es gs path first l)
       ∙ ap (λ cs. placed_from (naming_view n) 0 [] cs (put_heads es (take k gs) ++ put_members es []))
       (placed-cells q ∙ ap₂ (λ h cs. range_with_len 0 (min (size frame q) h) ++ cs) heads (cells-all T frame ws few))
-      ∙ placed_append (naming_view n) 0 [] (range_with_len 0 k) (cells_of ws) (put_heads es (take k gs)) (put_members es []) same
+      ∙ placed_append (naming_view n) 0 [] (range_with_len 0 k) (cells_of ws) (put_heads es (take k gs))
+      (put_members es []) same
       ∙ ap₂ (λ i before. placed_from (naming_view n) 0 [] (range_with_len 0 k) (put_heads es (take k gs))
-      ++ placed_from (naming_view n) i before (cells_of ws) (put_members es [])) z (append-nil (reverse (range_with_len 0 k)))
+      ++ placed_from (naming_view n) i before (cells_of ws) (put_members es [])) z
+      (append-nil (reverse (range_with_len 0 k)))
 
   pub placed-length : (ws : List Server) → length ws ≤ length frame.demands
       → length (placed frame (plan_after frame ws)) ≡ placed_heads frame ws + length (cells_of ws)

@@ -1,16 +1,15 @@
 -- The options of a demand are its choices, so the tree of a plan goes on with one more that serves.
-use Rattle.std.proofs.Common.{◌≡◌, ℕ, zero, suc, ◌+◌, ◌<◌, ◌≤◌, List, [], ◌∷◌, ◌++◌, map, filter, flat_map, drop, length, get_or, Bool, true, false, ◌&&◌, refl, arith, ap, ap₂, sym, ◌∙◌, subst}
+use Rattle.std.proofs.Common.{◌≡◌, ℕ, ◌<◌, List, [], ◌∷◌, ◌++◌, map, filter, flat_map, drop, length, get_or, ◌&&◌, refl, arith, ap, ap₂, sym, ◌∙◌}
 use Rattle.std.proofs.lemmas.List.{map-append, length-map}
 use Rattle.std.proofs.lemmas.List.Folds.{flat_map-map}
-use Rattle.std.proofs.lemmas.Simd.{map-map}
 use Rattle.std.specs.List.{range_with_len}
 use Rattle.positions.specs.Position.{Position}
 use Rattle.goals.specs.Signed.{Signed, Plus}
 use Rattle.frames.specs.Frame.{Frame}
-use Rattle.frames.specs.Plan.{Plan, PlanStep, Split, Complete, plan, member, serve_head, serve_member, servers, has_room, options, steps, unless_dropped}
+use Rattle.frames.specs.Plan.{Plan, Split, Complete, plan, member, serve_head, serve_member, servers, has_room, options, steps, unless_dropped}
 use Rattle.js_plans.specs.declared.server.Server.{Server}
 use Rattle.js_plans.specs.declared.server.Server.TheVariants as V
-use Rattle.js_plans.specs.Serving.{serve, choices, serve_all, plan_after, steps_after}
+use Rattle.js_plans.specs.Serving.{serve, choices, serve_all}
 
 by_head : (d : Signed) (p : Plan) (xs : List ℕ)
     → map (λ k. plan (serve_head d p.heads k) p.members) xs ≡ map (serve d p) (map V.Head xs)

@@ -1,18 +1,17 @@
 -- The choices by the cells of the members, and that each of them is there.
-use Rattle.std.proofs.Common.{◌≡◌, ℕ, zero, suc, ◌+◌, ◌-◌, ◌<◌, ◌≤◌, List, [], ◌∷◌, ◌++◌, map, filter, length, get_or, Bool, true, false, ◌&&◌, not, cond, nat_eq, refl, arith, ap, ap₂, sym, ◌∙◌, subst}
+use Rattle.std.proofs.Common.{◌≡◌, ℕ, zero, suc, ◌+◌, ◌-◌, ◌<◌, ◌≤◌, List, [], ◌∷◌, ◌++◌, map, filter, length, Bool, true, false, ◌&&◌, not, cond, nat_eq, refl, arith, ap, ap₂, sym, ◌∙◌}
 use Rattle.std.specs.List.{range_with_len}
 use Rattle.std.proofs.lemmas.Bool.{and_parts, and_from, lt-ltb}
 use Rattle.documents.specs.Tests.{every}
-use Rattle.goals.specs.Signed.{Signed, Plus}
+use Rattle.goals.specs.Signed.{Signed}
 use Rattle.frames.specs.Frame.{Frame, is_at_end}
-use Rattle.frames.specs.Plan.{Plan, Member, count_in, has_room, servers}
+use Rattle.frames.specs.Plan.{Member, count_in, has_room, servers}
 use Rattle.frames.specs.Fillers.{times}
 use Rattle.js_plans.specs.declared.server.Server.{Server}
 use Rattle.js_plans.specs.declared.server.Server.TheVariants as V
-use Rattle.js_plans.specs.Serving.{choices, plan_after}
+use Rattle.js_plans.specs.Serving.{plan_after}
 use Rattle.js_plans.specs.Servers.{cells_of, is_valid}
 use Rattle.js_plans.specs.Choosing.{next_demand, choices_after, serving_cells, open_cells}
-use Rattle.js_plans.proofs.Grown.{cells_in}
 use Rattle.js_plans.proofs.Shown.{heads-long, members-count, cells-all}
 
 pub range-next : (k n : ℕ) → k < n → range_with_len k (n - k) ≡ k ∷ range_with_len (k + 1) (n - (k + 1))
@@ -71,7 +70,8 @@ module _ (frame : Frame) where
   servers-few d k n (m ∷ ms) h l =
       go (frame.inside d m.cell) (servers-few d (suc k) n ms h (omega (arith, l))) where
         go : (b : Bool) → every (is_valid h n) (map V.Member (servers frame d (suc k) ms)) ≡ true
-            → every (is_valid h n) (map V.Member (cond b (k ∷ servers frame d (suc k) ms) (servers frame d (suc k) ms))) ≡ true
+            → every (is_valid h n) (map V.Member (cond b (k ∷ servers frame d (suc k) ms) (servers frame d (suc k) ms)))
+            ≡ true
         go true more = and_from _ _ (lt-ltb k n (omega (arith, l))) more
         go false more = more
 

@@ -1,11 +1,11 @@
 -- The plans that are still to be visited: the steps that are left after each step of the walk.
-use Rattle.std.proofs.Common.{◌≡◌, ℕ, zero, suc, ◌+◌, ◌<◌, ◌≤◌, inl, inr, min, List, [], ◌∷◌, ◌++◌, map, flat_map, take, drop, length, get_or, max, replicate, reverse, Bool, true, false, ◌&&◌, cond, Option, Some, None, refl, arith, ap, ap₂, sym, ◌∙◌, subst, append-nil, append_assoc}
-use Rattle.std.proofs.lemmas.Bool.{and_parts, and_from, cases_lt}
-use Rattle.std.proofs.lemmas.List.{map-append, take-append-drop, length-map, length-append, length-reverse, length-take, length-take-le, take-take, take-append-le, reverse-append}
-use Rattle.std.proofs.Math.Seq.{take-length, take-append_seam}
+use Rattle.std.proofs.Common.{◌≡◌, ℕ, zero, suc, ◌+◌, ◌<◌, ◌≤◌, inl, inr, List, [], ◌∷◌, ◌++◌, map, flat_map, take, drop, length, max, replicate, reverse, Bool, true, false, cond, Option, Some, None, refl, arith, ap, ap₂, sym, ◌∙◌, subst, append-nil, append_assoc}
+use Rattle.std.proofs.lemmas.Bool.{and_parts, cases_lt}
+use Rattle.std.proofs.lemmas.List.{map-append, take-append-drop, length-map, length-append, length-take, take-append-le, reverse-append}
+use Rattle.std.proofs.Math.Seq.{take-length}
 use Rattle.documents.specs.Tests.{every}
 use Rattle.positions.specs.Position.{Position}
-use Rattle.goals.specs.Signed.{Signed, Plus}
+use Rattle.goals.specs.Signed.{Signed}
 use Rattle.frames.specs.Frame.{Frame, is_at_end}
 use Rattle.frames.specs.Plan as S
 use Rattle.frames.specs.Plan.{Plan, Member, used, with_members, placed, goal_of, PlanStep, Over, Clashing, Split, Complete, size, ends, complete, steps, first_clash, by_clash, unless_dropped, empty_plan}
@@ -19,8 +19,8 @@ use Rattle.js_plans.specs.Serving.{plan_after, steps_after}
 use Rattle.js_plans.specs.Servers.{cells_of, most_used, is_valid, are_valid, servers_of}
 use Rattle.js_plans.specs.Goals.{goal_after, AreFirst, AreGoals}
 use Rattle.js_plans.specs.Placing.{put_heads, put_members}
-use Rattle.js_plans.specs.Choosing.{next_demand, choices_after}
-use Rattle.js_plans.specs.Walks.{most_plans, listed, placed_heads, size_of, with_count, IsClash, IsDropped, GoesOn, Opens, IsPath, Fits, AreFine, steps_left, entry, entries, Matches, is_end, one_more, told_plans}
+use Rattle.js_plans.specs.Choosing.{choices_after}
+use Rattle.js_plans.specs.Walks.{listed, placed_heads, size_of, with_count, IsClash, IsDropped, GoesOn, Opens, IsPath, Fits, AreFine, steps_left, entry, Matches, is_end, one_more, told_plans}
 use Rattle.js_plans.proofs.Opening.{steps-split, steps-complete}
 use Rattle.js_plans.proofs.Options.{choices-valid}
 use Rattle.js_plans.proofs.Shown.{valid-before, valid-push, no-clash, shown-placed, heads-long, members-count, server-clash}
@@ -106,27 +106,27 @@ module _ (T : List Position) (frame : Frame) where
   module _ (es : List Served) (gs : List (List Signed)) (path : IsPath T frame es) (first : AreFirst T frame 0 gs)
       (under : is_at_end (size frame (plan_after frame (servers_of es))) frame.below ≡ false)
       (placed : placed_heads frame (servers_of es) ≤ length gs) where
-    abbrev ws : List Server
-    ws = servers_of es
+    abbrev at_path : List Server
+    at_path = servers_of es
 
-    clear : first_clash T frame (plan_after frame ws) ≡ None
+    clear : first_clash T frame (plan_after frame at_path) ≡ None
     clear = no-clash T frame es gs path.few path.valid path.goals first placed
 
-    few : length ws ≤ length frame.demands
+    few : length at_path ≤ length frame.demands
     few = subst (λ n. n ≤ length frame.demands) (sym (length-map es (λ e. e.server))) path.few
 
-    pub opened-complete : length ws ≡ length frame.demands
-        → steps_after T frame ws ≡ Complete (plan_after frame ws) ∷ []
+    pub opened-complete : length at_path ≡ length frame.demands
+        → steps_after T frame at_path ≡ Complete (plan_after frame at_path) ∷ []
     opened-complete e =
-        steps-complete T frame frame.demands ws (empty_plan frame) e
-        ∙ unless_same T frame (plan_after frame ws) _ under clear
+        steps-complete T frame frame.demands at_path (empty_plan frame) e
+        ∙ unless_same T frame (plan_after frame at_path) _ under clear
 
-    pub opened-split : length ws < length frame.demands
-        → steps_after T frame ws ≡ Split (length (choices_after frame ws))
-        ∷ flat_map (λ s. steps_after T frame (ws ++ s ∷ [])) (choices_after frame ws)
+    pub opened-split : length at_path < length frame.demands
+        → steps_after T frame at_path ≡ Split (length (choices_after frame at_path))
+        ∷ flat_map (λ s. steps_after T frame (at_path ++ s ∷ [])) (choices_after frame at_path)
     opened-split l =
-        steps-split T frame frame.demands ws (empty_plan frame) l
-        ∙ unless_same T frame (plan_after frame ws) _ under clear
+        steps-split T frame frame.demands at_path (empty_plan frame) l
+        ∙ unless_same T frame (plan_after frame at_path) _ under clear
 
   pub shown-path : (es : List Served) (gs : List (List Signed)) → IsPath T frame es → AreFirst T frame 0 gs
       → placed_heads frame (servers_of es) ≤ length gs
@@ -281,7 +281,8 @@ module _ (T : List Position) (frame : Frame) where
       )
 
   -- the plan that is visited next
-  pub popped : (ws : List Server) (es old : List Pending) (e : Pending) → old ≡ es ++ e ∷ [] → reverse old ≡ e ∷ reverse es
+  pub popped : (ws : List Server) (es old : List Pending) (e : Pending) → old ≡ es ++ e ∷ []
+      → reverse old ≡ e ∷ reverse es
   popped ws es old e q = ap reverse q ∙ reverse-append es (e ∷ [])
 
   pub next-fine : (ws : List Server) (es old : List Pending) (e : Pending) → old ≡ es ++ e ∷ []

@@ -1,19 +1,14 @@
 -- What stands at the places of a plan and serves which demands, read off the servers; and the goals of all places.
-use Rattle.std.proofs.Common.{◌≡◌, ℕ, zero, suc, ◌+◌, ◌-◌, ◌<◌, ◌≤◌, max, min, inl, inr, List, [], ◌∷◌, ◌++◌, map, reverse, take, length, get_or, set, replicate, Bool, true, false, ◌&&◌, cond, nat_eq, nat_lt, Option, Some, None, refl, arith, ap, ap₂, sym, ◌∙◌, subst, append-nil, append_assoc}
-use Rattle.std.proofs.lemmas.Bool.{and_parts, ltb-true, ltb-false, eqb-true, eqb-false}
-use Rattle.std.proofs.lemmas.List.{map-append, length-map, reverse-append}
-use Rattle.positions.specs.Position.{Position}
-use Rattle.goals.specs.Signed.{Signed, Plus}
-use Rattle.frames.specs.Frame as F
-use Rattle.frames.specs.Frame.{Frame, Head, In}
-use Rattle.frames.specs.Plan.{Plan, Member, plan, member, empty_plan, serve_head, serve_member, goal_of, heads_from}
+use Rattle.std.proofs.Common.{◌≡◌, ℕ, zero, suc, ◌<◌, ◌≤◌, List, [], ◌∷◌, ◌++◌, reverse, length, get_or, Bool, true, false, cond, nat_eq, refl, arith, ap, sym, ◌∙◌, subst, append_assoc}
+use Rattle.std.proofs.lemmas.Bool.{and_parts, ltb-true, eqb-true, eqb-false}
+use Rattle.std.proofs.lemmas.List.{reverse-append}
+use Rattle.goals.specs.Signed.{Signed}
+use Rattle.frames.specs.Plan.{Plan, Member, member, serve_head, serve_member}
 use Rattle.js_plans.specs.declared.server.Server.{Server}
 use Rattle.js_plans.specs.declared.server.Server.TheVariants as V
-use Rattle.js_plans.specs.declared.path.Served.{Served}
-use Rattle.js_plans.specs.Serving.{serve, serve_all, plan_after}
-use Rattle.js_plans.specs.Servers.{cells_of, members_after, serves_too, earlier, is_valid, are_valid, servers_of}
-use Rattle.js_plans.specs.Goals.{place_after, goal_after, AreFirst, AreGoals}
-use Rattle.js_plans.proofs.Grown.{heads-serve, heads-serve_all, cells_in, cells-serve_all, members-serve}
+use Rattle.js_plans.specs.Serving.{serve, serve_all}
+use Rattle.js_plans.specs.Servers.{members_after, serves_too, earlier, is_valid, are_valid}
+use Rattle.js_plans.proofs.Grown.{heads-serve, members-serve}
 
 -- the member of that number
 abbrev pub member_at : List Member → ℕ → Member

@@ -1,30 +1,29 @@
 -- The goals of what a plan places, as the servers come one after another: all are formed along a path, and where the
 -- list of a server or of a first place clashes, the plan is dropped.
-use Rattle.std.proofs.Common.{◌≡◌, ℕ, zero, suc, ◌+◌, ◌-◌, ◌<◌, ◌≤◌, max, min, List, [], ◌∷◌, ◌++◌, map, reverse, take, length, get_or, set, replicate, Bool, true, false, ◌&&◌, cond, Option, Some, None, refl, arith, ap, ap₂, sym, ◌∙◌, subst, append-nil, append_assoc}
+use Rattle.std.proofs.Common.{◌≡◌, ℕ, zero, suc, ◌+◌, ◌<◌, ◌≤◌, max, min, List, [], ◌∷◌, ◌++◌, map, reverse, take, length, get_or, set, replicate, true, cond, Option, Some, None, refl, arith, ap, ap₂, sym, ◌∙◌, subst, append-nil, append_assoc}
 use Rattle.std.specs.Option.{is_none}
-use Rattle.std.proofs.lemmas.Bool.{and_parts, and_from, ltb-true, lt-ltb}
-use Rattle.std.proofs.lemmas.List.{map-append, length-map, length-append, length-set, map-set, reverse-append}
+use Rattle.std.proofs.lemmas.Bool.{and_parts, and_from, ltb-true}
+use Rattle.std.proofs.lemmas.List.{map-append, length-map, length-append, map-set, reverse-append}
 use Rattle.std.proofs.lemmas.Simd.{map-map}
 use Rattle.positions.specs.Position.{Position}
 use Rattle.goals.specs.Signed.{Signed, Plus}
 use Rattle.frames.specs.Frame as F
 use Rattle.frames.specs.Frame.{Frame, Head, In, is_at_end}
-use Rattle.frames.specs.Plan as S
-use Rattle.frames.specs.Plan.{Plan, Member, PlanStep, Over, Clashing, plan, member, empty_plan, serve_head, serve_member, used, size, with_members, goal_of, heads_from, placed, clash_from, first_clash, unless_dropped}
-use Rattle.js_algebra.proofs.Choosing.{get_or-map}
+use Rattle.frames.specs.Plan.{Plan, Member, member, empty_plan, serve_head, serve_member, used, size, goal_of, heads_from, placed, clash_from, first_clash}
 use Rattle.js_plans.specs.declared.server.Server.{Server}
 use Rattle.js_plans.specs.declared.server.Server.TheVariants as V
 use Rattle.js_plans.specs.declared.path.Served.{Served}
-use Rattle.js_plans.specs.Serving.{serve, serve_all, plan_after, steps_after}
-use Rattle.js_plans.specs.Servers.{with_cell, cells_of, members_after, used_after, most_used, earlier, is_valid, are_valid, servers_of}
-use Rattle.js_plans.specs.Goals.{place_after, goal_after, AreFirst, IsFirstClash, AreGoals}
+use Rattle.js_plans.specs.Serving.{serve, serve_all, plan_after}
+use Rattle.js_plans.specs.Servers.{cells_of, members_after, used_after, most_used, earlier, is_valid, are_valid, servers_of}
+use Rattle.js_plans.specs.Goals.{place_after, goal_after, AreFirst, AreGoals}
 use Rattle.js_plans.specs.Choosing.{next_demand}
 use Rattle.js_plans.specs.Placing.{put_head, put_member, put_heads, put_members}
 use Rattle.js_plans.proofs.Forming.{goal-more}
 use Rattle.js_plans.proofs.Grown.{heads-serve_all, cells_in, cells-serve_all, used-serve_head}
 use Rattle.js_plans.proofs.Seen.{member_at, served_by, served-serve_all}
 
-pub cells-push : (ws : List Server) (s : Server) → length (cells_of (ws ++ s ∷ [])) ≡ members_after (length (cells_of ws)) s
+pub cells-push : (ws : List Server) (s : Server)
+    → length (cells_of (ws ++ s ∷ [])) ≡ members_after (length (cells_of ws)) s
 cells-push [] (V.Head k) = refl
 cells-push [] (V.Member k) = refl
 cells-push [] (V.New c) = refl
@@ -117,7 +116,8 @@ module _ (T : List Position) (frame : Frame) where
   pub placed-goals : (p : Plan) → map (goal_of T frame) (placed frame p)
       ≡ head_goals 0 (size frame p) p.heads ++ member_goals p.members
   placed-goals p =
-      map-append (goal_of T frame) (take (size frame p) (heads_from 0 p.heads)) (map (λ m. (In m.cell, m.served)) p.members)
+      map-append (goal_of T frame) (take (size frame p) (heads_from 0 p.heads))
+      (map (λ m. (In m.cell, m.served)) p.members)
       ∙ ap (λ os. head_goals 0 (size frame p) p.heads ++ os)
       (map-map (goal_of T frame) (λ m. (In m.cell, m.served)) p.members)
 
@@ -174,7 +174,8 @@ module _ (T : List Position) (frame : Frame) where
   pub cells-all : (ws : List Server) → length ws ≤ length frame.demands → cells_in (P ws) ≡ cells_of ws
   cells-all ws l = cells-serve_all frame.demands ws (empty_plan frame) l
 
-  pub members-count : (ws : List Server) → length ws ≤ length frame.demands → length (P ws).members ≡ length (cells_of ws)
+  pub members-count : (ws : List Server) → length ws ≤ length frame.demands
+      → length (P ws).members ≡ length (cells_of ws)
   members-count ws l = sym (length-map (P ws).members (λ m. m.cell)) ∙ ap length (cells-all ws l)
 
   -- what serves the next demand too, in the plan
@@ -248,7 +249,8 @@ module _ (T : List Position) (frame : Frame) where
   members-next ws s l v u =
       ap (λ p. member_goals p.members) (next-plan ws s l)
       ∙ by_server s u
-      ∙ ap (λ o. member_with s o (member_goals (P ws).members)) (sym (goal-after-plan ws s (omega (arith, l)) v u)) where
+      ∙ ap (λ o. member_with s o (member_goals (P ws).members))
+      (sym (goal-after-plan ws s (omega (arith, l)) v u)) where
         by_server : (s : Server) → is_valid frame.heads (length (cells_of ws)) s ≡ true
             → member_goals (serve (next_demand frame ws) (P ws) s).members
             ≡ member_with s (goal_of T frame (stands s (P ws), next_demand frame ws ∷ served_by s (P ws)))
@@ -434,7 +436,8 @@ module _ (T : List Position) (frame : Frame) where
   pub shown-placed : (es : List Served) (gs : List (List Signed)) → length es ≤ length frame.demands
       → are_valid frame.heads 0 (servers_of es) ≡ true → AreGoals T frame [] es → AreFirst T frame 0 gs
       → let n = min (size frame (P (servers_of es))) frame.heads in n ≤ length gs
-      → map (goal_of T frame) (placed frame (P (servers_of es))) ≡ map Some (put_heads es (take n gs) ++ put_members es [])
+      → map (goal_of T frame) (placed frame (P (servers_of es)))
+      ≡ map Some (put_heads es (take n gs) ++ put_members es [])
   shown-placed es gs l v a f m =
       let p = P (servers_of es) in
       let n = min (size frame p) frame.heads in

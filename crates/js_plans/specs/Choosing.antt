@@ -1,5 +1,5 @@
 -- What may serve the next demand, by the cells of the members.
-use Rattle.std.specs.Prelude.{ℕ, suc, ◌+◌, List, [], ◌∷◌, length, get_or, Bool, ◌&&◌, not, cond}
+use Rattle.std.specs.Prelude.{ℕ, ◌+◌, List, [], ◌∷◌, length, get_or, ◌&&◌, not, cond}
 use Rattle.goals.specs.Signed.{Signed, Plus}
 use Rattle.frames.specs.Frame.{Frame, is_at_end}
 use Rattle.frames.specs.Fillers.{times}

@@ -1,14 +1,13 @@
 -- The goals of the places of a plan, as they are formed after the servers of a path.
-use Rattle.std.specs.Prelude.{◌≡◌, ℕ, zero, suc, ◌+◌, ◌<◌, List, [], ◌∷◌, ◌++◌, reverse, length, get_or, Option, Some, None, ⊤}
+use Rattle.std.specs.Prelude.{◌≡◌, ℕ, suc, ◌<◌, List, [], ◌∷◌, ◌++◌, reverse, length, get_or, Option, Some, None, ⊤}
 use Rattle.positions.specs.Position.{Position}
 use Rattle.goals.specs.Signed.{Signed, Plus}
 use Rattle.frames.specs.Frame as F
 use Rattle.frames.specs.Frame.{Frame}
-use Rattle.frames.specs.Plan.{Plan, goal_of, empty_plan}
+use Rattle.frames.specs.Plan.{goal_of}
 use Rattle.js_plans.specs.declared.server.Server.{Server}
 use Rattle.js_plans.specs.declared.server.Server.TheVariants as V
 use Rattle.js_plans.specs.declared.path.Served.{Served}
-use Rattle.js_plans.specs.Serving.{serve}
 use Rattle.js_plans.specs.Servers.{cells_of, earlier}
 
 -- where a server stands

@@ -1,5 +1,5 @@
 -- The goals of what is placed, as the servers of a path come one after another.
-use Rattle.std.specs.Prelude.{ℕ, List, [], ◌∷◌, ◌++◌, slice_set}
+use Rattle.std.specs.Prelude.{List, [], ◌∷◌, ◌++◌, slice_set}
 use Rattle.goals.specs.Signed.{Signed}
 use Rattle.js_plans.specs.declared.server.Server.{Server}
 use Rattle.js_plans.specs.declared.server.Server.TheVariants as V

@@ -1,5 +1,5 @@
 -- What a list of servers says of the plan that it makes.
-use Rattle.std.specs.Prelude.{ℕ, zero, suc, ◌+◌, max, List, [], ◌∷◌, ◌++◌, map, length, get_or, Bool, true, false, ◌&&◌, cond, nat_eq, nat_lt}
+use Rattle.std.specs.Prelude.{ℕ, ◌+◌, max, List, [], ◌∷◌, map, Bool, true, false, ◌&&◌, cond, nat_eq, nat_lt}
 use Rattle.goals.specs.Signed.{Signed}
 use Rattle.js_plans.specs.declared.server.Server.{Server}
 use Rattle.js_plans.specs.declared.server.Server.TheVariants as V

@@ -1,11 +1,11 @@
 -- What serves the demands of a frame one after another, and the plans and the steps after that.
-use Rattle.std.specs.Prelude.{ℕ, zero, suc, ◌+◌, List, [], ◌∷◌, ◌++◌, map, filter, drop, length, max, Bool, true, false, ◌&&◌, cond, nat_eq, Option, Some, None, get_or}
+use Rattle.std.specs.Prelude.{List, [], ◌∷◌, ◌++◌, map, filter, drop, length, ◌&&◌}
 use Rattle.std.specs.List.{range_with_len}
 use Rattle.positions.specs.Position.{Position}
 use Rattle.goals.specs.Signed.{Signed}
 use Rattle.frames.specs.Frame as F
 use Rattle.frames.specs.Frame.{Frame}
-use Rattle.frames.specs.Plan.{Plan, Member, PlanStep, plan, member, empty_plan, serve_head, serve_member, servers, has_room, steps}
+use Rattle.frames.specs.Plan.{Plan, PlanStep, plan, member, empty_plan, serve_head, serve_member, servers, has_room, steps}
 use Rattle.js_plans.specs.declared.server.Place.{Place}
 use Rattle.js_plans.specs.declared.server.Place.TheVariants as P
 use Rattle.js_plans.specs.declared.server.Server.{Server}

@@ -1,7 +1,6 @@
 -- How far a walk through the plans of a frame has come, and the steps that are left.
-use Rattle.std.specs.Prelude.{◌≡◌, ℕ, zero, suc, ◌+◌, ◌<◌, ◌≤◌, min, max, List, [], ◌∷◌, ◌++◌, map, flat_map, take, length, reverse, get_or, Bool, true, false, Option, Some, None, ⊤}
+use Rattle.std.specs.Prelude.{◌≡◌, ℕ, zero, suc, ◌+◌, ◌<◌, ◌≤◌, min, max, List, [], ◌∷◌, ◌++◌, map, take, length, reverse, Bool, true, false, Option, Some, None, ⊤}
 use Rattle.positions.specs.Position.{Position}
-use Rattle.goals.specs.Signed.{Signed, Plus}
 use Rattle.frames.specs.Frame.{Frame}
 use Rattle.frames.specs.Plan as F
 use Rattle.frames.specs.Plan.{Plan, size, ends}

@@ -87,7 +87,8 @@ fn add_placed(
     requires same { length goals.items ≡ length cells.now }
     requires few { length before.old.items + length cells.now < 2 ^ 32 }
     ensures placed { OnOk result (map placed_view placed.new.items ≡ map placed_view placed.old.items
-        ++ placed_from (naming_view naming) (length before.old.items) (reverse before.old.items) cells.now goals.items) }
+        ++ placed_from (naming_view naming) (length before.old.items) (reverse before.old.items) cells.now
+        goals.items) }
     ensures before { OnOk result (before.new.items ≡ before.old.items ++ cells.now) }
 {
     let mut index = 0;

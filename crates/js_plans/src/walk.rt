@@ -100,7 +100,8 @@ impl PlanWalk {
         frame: &F,
     ) -> Result<Option<PlanStep>, PlanFault>
         requires { IsWalk (F.table frame.now) (F.frame frame.now) self.old }
-        ensures told { IfOk result (λ step. MatchOption step (left (F.table frame.now) (F.frame frame.now) self.old ≡ [])
+        ensures told { IfOk result (λ step. MatchOption step
+            (left (F.table frame.now) (F.frame frame.now) self.old ≡ [])
             (λ s. Tells (F.table frame.now) (F.frame frame.now) self.old self.new s)) }
         ensures end { IfOk result (λ step. IsNone step → (left (F.table frame.now) (F.frame frame.now) self.new ≡ [])
             × (self.new.ends ≡ self.old.ends)) }
@@ -212,8 +213,8 @@ pub(crate) fn size<F: PlanFrame>(frame: &F, extent: Extent) -> u64
     u64::from(frame.floor()).max(extent.used.max(members))
 }
 
-/// Forms the goals of the first places of the plan of the path and the server, as if they served nothing. A step is what
-/// the plan is dropped for.
+/// Forms the goals of the first places of the plan of the path and the server, as if they served nothing. A step is
+/// what the plan is dropped for.
 fn place_first<F: PlanFrame>(
     alloc: Global,
     frame: &F,

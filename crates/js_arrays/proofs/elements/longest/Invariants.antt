@@ -8,6 +8,7 @@ abbrev pub invariant-loop-x : goal.invariant-loop-x
 invariant-loop-x l =
     let T = l.core.positions in
     record {
-      longest : max l.longest (A.longest T (map signed_view (drop l.x-index l.set))) ≡ A.longest T (map signed_view l.set);
+      longest : max l.longest (A.longest T (map signed_view (drop l.x-index l.set)))
+          ≡ A.longest T (map signed_view l.set);
       in_table : are_in_table T (map signed_view (drop l.x-index l.set)) ≡ true;
     }

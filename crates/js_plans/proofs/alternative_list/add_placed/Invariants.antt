@@ -1,5 +1,5 @@
 -- What is left of the goals and of the cells.
-use Rattle.std.proofs.Common.{◌≡◌, ◌+◌, ◌<◌, ◌^◌, ◌++◌, map, drop, length, reverse}
+use Rattle.std.proofs.Common.{◌≡◌, ◌+◌, ◌++◌, map, drop, length, reverse}
 use Rattle.std.specs.Vec.Iter.{into_iter_items}
 use Rattle.js_expansion.specs.View.{placed_view}
 use Rattle.js_plans.specs.Named.{naming_view, placed_from}

@@ -1,5 +1,5 @@
 -- The plan of the path.
-use Rattle.std.proofs.Common.{◌≡◌, ◌+◌, ◌-◌, ◌<◌, ◌≤◌, ◌++◌, [], map, flat_map, take, reverse, max, min, cond, nat_eq, length, arith, ap, ap₂, sym, ◌∙◌, subst}
+use Rattle.std.proofs.Common.{◌≡◌, ◌+◌, ◌-◌, ◌≤◌, ◌++◌, [], map, flat_map, take, reverse, max, min, cond, nat_eq, length, arith, ap, ap₂, sym, ◌∙◌, subst}
 use Rattle.std.proofs.lemmas.List.{length-map, length-take-le}
 use Rattle.frames.specs.Plan.{size, need, placed}
 use Rattle.std.specs.List.{range_with_len}

@@ -1,11 +1,10 @@
 -- First places, then members.
-use Rattle.std.proofs.Common.{◌≡◌, ◌+◌, ◌<◌, ◌++◌, [], map, reverse, length, arith, ap, ap₂, sym, ◌∙◌, subst}
+use Rattle.std.proofs.Common.{◌≡◌, ◌++◌, [], map, reverse, length, arith, ap, ap₂, sym, ◌∙◌}
 use Rattle.std.proofs.lemmas.List.{length-map, length-append}
 use Rattle.std.specs.List.{range_with_len}
 use Rattle.std.proofs.lemmas.List.FromFn.{length-range_with_len}
 use Rattle.js_expansion.specs.View.{placed_view}
-use Rattle.js_plans.specs.Servers.{cells_of, servers_of}
-use Rattle.js_plans.specs.Placing.{put_heads, put_members}
+use Rattle.js_plans.specs.Servers.{servers_of}
 use Rattle.js_plans.specs.Named.{naming_view, placed_from}
 use Rattle.js_plans.proofs.Namings.{length-put_heads, length-put_members, cells-few}
 use Rattle.js_plans.proofs.alternative_list.placed.Goals as goal

@@ -1,5 +1,5 @@
 -- The first places that are left.
-use Rattle.std.proofs.Common.{◌≡◌, ◌-◌, ◌≤◌, ◌++◌, map}
+use Rattle.std.proofs.Common.{◌≡◌, ◌-◌, ◌++◌, map}
 use Rattle.std.specs.List.{range_with_len}
 use Rattle.js_plans.specs.declared.server.Server.TheVariants as V
 use Rattle.js_plans.proofs.choices.add_heads.Given as goal

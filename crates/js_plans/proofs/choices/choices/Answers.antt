@@ -1,11 +1,11 @@
 -- All choices.
-use Rattle.std.proofs.Common.{◌≡◌, ◌++◌, [], map, length, get_or, arith, ap, ap₂, sym, ◌∙◌}
+use Rattle.std.proofs.Common.{◌++◌, map, get_or, arith, ap, ap₂, sym, ◌∙◌}
 use Rattle.std.proofs.lemmas.List.{length-map}
 use Rattle.std.specs.List.{range_with_len}
 use Rattle.goals.specs.Signed.{Plus}
 use Rattle.js_plans.specs.declared.server.Server.TheVariants as V
 use Rattle.js_plans.specs.Servers.{servers_of}
-use Rattle.js_plans.specs.Choosing.{next_demand, serving_cells, open_cells}
+use Rattle.js_plans.specs.Choosing.{serving_cells, open_cells}
 use Rattle.js_plans.proofs.Options.{choices-are}
 use Rattle.js_plans.proofs.choices.choices.Goals as goal
 

@@ -1,6 +1,5 @@
 -- One more goal.
-use Rattle.std.proofs.Common.{◌≡◌, ◌+◌, ◌∷◌, ◌++◌, [], length, Some, arith, ap, sym, ◌∙◌, subst}
-use Rattle.goals.specs.Signed.{Signed}
+use Rattle.std.proofs.Common.{◌≡◌, [], Some, arith, sym, ◌∙◌, subst}
 use Rattle.frames.specs.Frame.{Head}
 use Rattle.frames.specs.Plan.{goal_of}
 use Rattle.js_plans.specs.Goals.{AreFirst}

@@ -1,12 +1,9 @@
 -- The demands that a server serves, the latest first.
-use Rattle.std.proofs.Common.{◌≡◌, ◌∷◌, ◌++◌, [], map, reverse, length, get_or, true, arith, ap, ap₂, refl, sym, ◌∙◌, subst, IfOk, ◌<◌}
+use Rattle.std.proofs.Common.{◌≡◌, length, true, arith, ap, ap₂, refl, sym, ◌∙◌, subst}
 use Rattle.std.proofs.lemmas.List.{length-map}
-use Rattle.goals.specs.Signed.{Signed, Plus}
 use Rattle.frames.specs.Plan.{goal_of}
 use Rattle.js_algebra.specs.View.{signed_view, is_in_table, are_in_table}
-use Rattle.js_plans.specs.Serving.{place_view}
-use Rattle.js_plans.specs.Servers.{earlier, servers_of}
-use Rattle.js_plans.specs.Goals.{goal_after}
+use Rattle.js_plans.specs.Servers.{servers_of}
 use Rattle.js_plans.proofs.Forming.{served_list, every-served, if_ok}
 use Rattle.js_plans.proofs.formed.goal_after.Goals as goal
 

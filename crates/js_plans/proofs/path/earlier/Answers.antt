@@ -1,7 +1,7 @@
 -- One more demand of the path is looked at.
 use Rattle.std.proofs.Common.{◌≡◌, ◌+◌, ◌<◌, length, ◌++◌, drop, [], ◌∷◌, cond, map, arith, ap, sym, ◌∙◌, subst, append-nil}
 use Rattle.js_algebra.specs.View.{signed_view}
-use Rattle.js_plans.specs.Servers.{earlier, members_after, servers_of}
+use Rattle.js_plans.specs.Servers.{earlier, servers_of}
 use Rattle.js_plans.proofs.Grown.{next_earlier, get_within, get_same, few_after}
 use Rattle.js_plans.proofs.path.earlier.Goals as goal
 use Rattle.js_plans.proofs.path.earlier.Goals.{then-serves_too+in_ok-push, else-serves_too}

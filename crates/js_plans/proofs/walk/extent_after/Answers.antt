@@ -1,5 +1,5 @@
 -- One more server.
-use Rattle.std.proofs.Common.{◌≡◌, ◌++◌, length, ap, ap₂, sym, ◌∙◌}
+use Rattle.std.proofs.Common.{◌++◌, length, ap, sym, ◌∙◌}
 use Rattle.js_plans.specs.Servers.{most_used, used_after, members_after, cells_of, servers_of}
 use Rattle.js_plans.specs.Walks.{listed}
 use Rattle.js_plans.proofs.Shown.{used-push, cells-push}

@@ -1,5 +1,5 @@
 -- What a plan is dropped for.
-use Rattle.std.proofs.Common.{◌≡◌, ◌++◌, ◌<◌, ◌≤◌, min, length, true, false, arith, ap, ap₂, sym, ◌∙◌, subst}
+use Rattle.std.proofs.Common.{◌≡◌, ◌++◌, ◌≤◌, min, length, arith, ap₂, sym, ◌∙◌, subst}
 use Rattle.frames.specs.Frame.{is_at_end}
 use Rattle.frames.specs.Plan.{size}
 use Rattle.js_plans.specs.Serving.{plan_after}

@@ -1,5 +1,5 @@
 -- The path goes on.
-use Rattle.std.proofs.Common.{◌≡◌, ◌++◌, [], ◌∷◌, Some, ap, sym, ◌∙◌, subst}
+use Rattle.std.proofs.Common.{◌++◌, [], ◌∷◌, ap, sym, ◌∙◌, subst}
 use Rattle.std.proofs.lemmas.List.{map-append}
 use Rattle.js_plans.specs.Servers.{servers_of}
 use Rattle.js_plans.specs.Goals.{goal_after}
@@ -15,7 +15,8 @@ returns-in_ok-push-in-Some-2-clause-served g c = λ _.
     let s = c.in-Some.server in
     record {
       path = subst (λ es. IsPath T frame es) (sym c.in_ok-push-in-Some-2.ensures.items)
-          (path-push T frame path _ c.requires.path (subst (λ o. Fits frame (servers_of path) o) c.in-Some.is c.requires.fits)
+          (path-push T frame path _ c.requires.path
+          (subst (λ o. Fits frame (servers_of path) o) c.in-Some.is c.requires.fits)
           (ap (λ es. goal_after T frame (servers_of es) s) (sym c.as_slice.ensures.value)
           ∙ sym c.in_ok-goal.ensures ∙ c.in-Some-2.is));
       servers =

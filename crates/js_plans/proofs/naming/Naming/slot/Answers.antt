@@ -1,5 +1,5 @@
 -- The cells are counted in whatever order.
-use Rattle.std.proofs.Common.{◌≡◌, length, reverse, ap, sym, ◌∙◌}
+use Rattle.std.proofs.Common.{length, reverse, ap, sym, ◌∙◌}
 use Rattle.alternatives.specs.Alternative as A
 use Rattle.frames.specs.Frame as F
 use Rattle.js_plans.specs.Named.{naming_view}

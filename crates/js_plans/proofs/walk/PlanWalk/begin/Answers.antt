@@ -1,5 +1,5 @@
 -- All steps are left.
-use Rattle.std.proofs.Common.{◌≡◌, ◌++◌, [], ◌∷◌, reverse, ap, ap₂, sym, ◌∙◌, append-nil}
+use Rattle.std.proofs.Common.{◌++◌, [], ◌∷◌, reverse, ap, ap₂, ◌∙◌, append-nil}
 use Rattle.frames.specs.Plan.{plan_steps}
 use Rattle.js_plans.specs.Servers.{servers_of}
 use Rattle.js_plans.specs.Walks.{steps_left}

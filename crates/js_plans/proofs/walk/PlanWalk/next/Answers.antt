@@ -1,9 +1,9 @@
 -- The next plan.
-use Rattle.std.proofs.Common.{◌≡◌, ◌+◌, ◌++◌, ◌∷◌, reverse, take, length, arith, ap, sym, ◌∙◌, subst}
+use Rattle.std.proofs.Common.{◌≡◌, ◌+◌, reverse, arith, ap, sym, ◌∙◌, subst}
 use Rattle.std.proofs.lemmas.List.{length-reverse}
 use Rattle.frames.specs.Plan.{ends}
 use Rattle.js_plans.specs.Servers.{servers_of}
-use Rattle.js_plans.specs.Walks.{IsPath, is_end, one_more, left, Tells}
+use Rattle.js_plans.specs.Walks.{IsPath, is_end, one_more, left}
 use Rattle.js_plans.proofs.Remaining.{path-take, fine-next, left-next, left-ends, told-ends}
 use Rattle.js_plans.proofs.walk.PlanWalk.next.Goals as goal
 

@@ -1,11 +1,11 @@
 -- A visit by its step.
-use Rattle.std.proofs.Common.{◌≡◌, ◌++◌, Some, None, IfSome, reverse, length, ◌∷◌, ◌≤◌, false, ap, sym, ◌∙◌, subst}
+use Rattle.std.proofs.Common.{◌≡◌, ◌++◌, IfSome, reverse, length, ◌∷◌, ◌≤◌, false, ap, sym, ◌∙◌, subst}
 use Rattle.frames.specs.Frame.{is_at_end}
 use Rattle.frames.specs.Plan.{size}
 use Rattle.js_plans.specs.declared.walk.PlanStep.TheVariants as V
 use Rattle.js_plans.specs.Serving.{plan_after}
 use Rattle.js_plans.specs.Servers.{servers_of}
-use Rattle.js_plans.specs.Walks.{listed, left, steps_left, placed_heads, IsDropped, IsPath, AreFine, Opens, Visits}
+use Rattle.js_plans.specs.Walks.{listed, left, steps_left, placed_heads, IsDropped, IsPath, AreFine, Opens}
 use Rattle.js_plans.proofs.Forming.{if_ok}
 use Rattle.js_plans.proofs.Remaining.{dropped, not_dropped, opened, clashed, none_is}
 use Rattle.js_plans.proofs.walk.PlanWalk.visit.Goals as goal
@@ -48,10 +48,14 @@ returns-then-not-branch-clause-visits g c =
     record {
       step = step;
       is = is;
-      told = told ∙ ap (λ xs. step ∷ steps_left T frame (servers_of xs) (reverse c.args.self.now.pending.items)) (sym stays);
+      told =
+          told
+          ∙ ap (λ xs. step ∷ steps_left T frame (servers_of xs) (reverse c.args.self.now.pending.items)) (sym stays);
       path = subst (λ xs. IsPath T frame xs) (sym stays) c.requires.path;
       first = c.in_ok-step.ensures.first;
-      fine = subst (λ xs. AreFine frame (servers_of xs) (reverse c.args.self.now.pending.items)) (sym stays) c.requires.fine;
+      fine =
+          subst (λ xs. AreFine frame (servers_of xs) (reverse c.args.self.now.pending.items)) (sym stays)
+          c.requires.fine;
       complete = λ e. absurd (not_dropped T frame ws V.Clashing d e);
     }
 
