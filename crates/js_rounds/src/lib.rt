@@ -7,6 +7,7 @@
 mod elements;
 mod meeting;
 mod names;
+mod parts;
 mod rounds;
 mod runs;
 mod used;
