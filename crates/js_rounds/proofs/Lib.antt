@@ -7,3 +7,4 @@ mod Using
 mod Needs
 mod Members
 mod InOrder
+mod Chosen
