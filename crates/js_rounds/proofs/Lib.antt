@@ -8,3 +8,4 @@ mod Needs
 mod Members
 mod InOrder
 mod Chosen
+mod Witnessing
