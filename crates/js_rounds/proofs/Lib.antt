@@ -9,3 +9,4 @@ mod Members
 mod InOrder
 mod Chosen
 mod Witnessing
+mod SmallWords

@@ -13,3 +13,6 @@ mod runs;
 mod used;
 
 pub use rounds::Rounds;
+
+#[cfg(test)]
+mod tests;
