@@ -1,14 +1,14 @@
 -- Members in the order of their names: there is one such list.
-use Rattle.std.proofs.Common.{◌≡◌, ◌≢◌, ℕ, zero, suc, ◌+◌, ◌≤◌, ◌<◌, ◌⊎◌, inl, inr, List, [], ◌∷◌, map, length, get_or, Bool, true, false, not, ◌&&◌, ◌||◌, cond, nat_eq, nat_lt, Ordering, Less, Equal, Greater, nat_cmp, refl, ap, ap₂, sym, ◌∙◌, subst, arith, true≢false, eqb-true, eq-eqb}
+use Rattle.std.proofs.Common.{◌≡◌, ℕ, zero, suc, ◌+◌, ◌≤◌, ◌<◌, ◌⊎◌, inl, inr, List, [], ◌∷◌, map, length, get_or, Bool, true, false, not, ◌&&◌, ◌||◌, cond, nat_eq, nat_lt, Ordering, Less, Equal, Greater, nat_cmp, refl, ap, ap₂, sym, ◌∙◌, subst, arith, true≢false, eqb-true, eq-eqb}
 use Rattle.std.specs.Ordering.{is_lt}
 use Rattle.std.specs.Cmp.{IsStrictWeakOrder}
-use Rattle.std.proofs.lemmas.Bool.Decides.{eqb_tells}
 use Rattle.std.proofs.lemmas.Bool.{and_parts, and_from, cases_order}
 use Rattle.documents.specs.Tests.{every, some, same_word, comes_before}
 use Rattle.documents.proofs.NameOrder.{comes_before-same, comes_before-trans, smaller_first, same_first}
 use Rattle.alternatives.specs.Slots.{are_different}
 use Rattle.shared_documents.specs.Part.{is_before, members_rise}
 use Rattle.search.specs.Witness.{put, sorted}
+use Rattle.search_laws.proofs.Names.{same_word_flip}
 use Rattle.list_laws.specs.In.{IsIn}
 use Rattle.list_laws.proofs.Lists.{every_at, in_map, from_map}
 use Rattle.std.specs.List.{AllByRecursion, Contains, IsDistinct}
@@ -232,20 +232,6 @@ module _ {A : Type 0} (name : A → List ℕ) (part : A → ℕ) where
   abbrev Same : A → A → Bool
   Same x y = same_word (name x) (name y)
 
-  same_flip : (v w : List ℕ) → same_word v w ≡ same_word w v
-  same_flip [] [] = refl
-  same_flip [] (d ∷ w) = refl
-  same_flip (c ∷ v) [] = refl
-  same_flip (c ∷ v) (d ∷ w) = ap₂ (λ a b. a && b) (flip c d) (same_flip v w) where
-    flip : (c d : ℕ) → nat_eq c d ≡ nat_eq d c
-    flip c d = go (eqb_tells c d) (eqb_tells d c) where
-      go : ((nat_eq c d ≡ true) × (c ≡ d)) ⊎ ((nat_eq c d ≡ false) × (c ≢ d))
-          → ((nat_eq d c ≡ true) × (d ≡ c)) ⊎ ((nat_eq d c ≡ false) × (d ≢ c)) → nat_eq c d ≡ nat_eq d c
-      go (inl (e, p)) (inl (h, q)) = e ∙ sym h
-      go (inr (e, p)) (inr (h, q)) = e ∙ sym h
-      go (inl (e, p)) (inr (h, q)) = absurd (q (sym p))
-      go (inr (e, p)) (inl (h, q)) = absurd (p (sym q))
-
   none_same : (x : A) (xs : List A) → some (same_word (name x)) (map (λ m. m.0) (map View xs)) ≡ false
       → AllByRecursion (λ y. same_word (name x) (name y) ≡ false) xs
   none_same x [] e = tt
@@ -314,7 +300,7 @@ module _ {A : Type 0} (name : A → List ℕ) (part : A → ℕ) where
       → IsSortedBy (λ x y. comes_before (name x) (name y)) ys
       → are_different same_word (map (λ m. m.0) (map View xs)) ≡ true → members_rise (map View ys) ≡ true
   sort_rises xs ys p h d =
-      rising ys (IsDistinct-IsPermutation (λ x y. same_word (name x) (name y)) (λ x y. same_flip (name x) (name y)) xs ys p
+      rising ys (IsDistinct-IsPermutation (λ x y. same_word (name x) (name y)) (λ x y. same_word_flip (name x) (name y)) xs ys p
       (distinct xs d)) (λ k e l. h k e (omega arith) l)
 
   pub sort_same : (xs ys : List A) → IsPermutation xs ys

@@ -7,3 +7,6 @@ mod Using
 mod Needs
 mod Members
 mod InOrder
+mod Chosen
+mod Witnessing
+mod SmallWords

@@ -1,5 +1,5 @@
 -- How many words of a cell are needed.
-use Rattle.std.proofs.Common.{◌≡◌, ◌≢◌, ℕ, zero, suc, ◌+◌, ◌-◌, ◌≤◌, ◌<◌, ◌⊎◌, inl, inr, max, List, [], ◌∷◌, ◌++◌, Bool, true, false, ◌&&◌, cond, nat_eq, nat_le, nat_lt, length, take, drop, get_or, set, replicate, refl, ap, ap₂, sym, ◌∙◌, subst, arith, get_or-set_same, get_or-set_other, eqb-true, eq-eqb}
+use Rattle.std.proofs.Common.{◌≡◌, ◌≢◌, ℕ, zero, suc, ◌+◌, ◌-◌, ◌≤◌, ◌<◌, ◌⊎◌, inl, inr, max, List, [], ◌∷◌, ◌++◌, map, Bool, true, false, ◌&&◌, cond, nat_eq, nat_le, nat_lt, length, take, drop, get_or, set, replicate, refl, ap, ap₂, sym, ◌∙◌, subst, arith, get_or-set_same, get_or-set_other, eqb-true, eq-eqb}
 use Rattle.std.proofs.lemmas.Bool.{and_parts, leb-true}
 use Rattle.std.proofs.lemmas.Bool.Decides.{eqb_tells}
 use Rattle.std.proofs.lemmas.List.{take_all, drop_all}
@@ -11,6 +11,7 @@ use Rattle.alternatives.specs.Slots.{capacity, cell_at, word_at, has_room, next_
 use Rattle.expansions.specs.DocumentOf.{slot_name}
 use Rattle.search.specs.Rounds.{NumberedPlaced}
 use Rattle.search.specs.Uses.{repeated}
+use Rattle.search.specs.Witness.{named}
 use Rattle.js_expansion.specs.View.{slot_view}
 use Rattle.js_rounds.specs.Spread.{spread}
 use Rattle.js_rounds.specs.Slots.{wanted, wanted_by}
@@ -182,3 +183,15 @@ module _ (cells : List (List (List ℕ))) where
     go : (s : Slot) → p.slot ≡ s → slot_name (word_at lists) s ≡ slot_name (word_at cells) s
     go (Index x) e = refl
     go (Name c k) e = word_same lists (wanted_by runs) c k h (name_wanted runs p c k i e)
+
+  names_as : (lists : List (List (List ℕ))) (place : ℕ → ℕ) (ps : List NumberedPlaced)
+      → ((p : NumberedPlaced) → IsIn p ps → slot_name (word_at lists) p.slot ≡ slot_name (word_at cells) p.slot)
+      → map (named (word_at lists) place) ps ≡ map (named (word_at cells) place) ps
+  names_as lists place [] h = refl
+  names_as lists place (p ∷ ps) h =
+      ap₂ (λ n ms. (n, place p.goal) ∷ ms) (h p (inl refl)) (names_as lists place ps (λ q i. h q (inr i)))
+
+  pub named_same : (lists : List (List (List ℕ))) (runs : List Run)
+      → ((x : ℕ) → get_or lists x [] ≡ take (wanted_by runs x) (cell_at cells x)) → (place : ℕ → ℕ)
+      → map (named (word_at lists) place) (spread runs) ≡ map (named (word_at cells) place) (spread runs)
+  named_same lists runs h place = names_as lists place (spread runs) (names_same lists runs h)

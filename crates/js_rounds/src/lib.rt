@@ -7,8 +7,12 @@
 mod elements;
 mod meeting;
 mod names;
+mod parts;
 mod rounds;
 mod runs;
 mod used;
 
 pub use rounds::Rounds;
+
+#[cfg(test)]
+mod tests;

@@ -193,3 +193,44 @@ fn in_order(mut members: Vec<PartMember>) -> Vec<PartMember>
     members.sort_unstable_by(compare);
     members
 }
+
+/// The members of runs, under the words of the branch, in ascending order of their names.
+pub(crate) fn members<E: Expander>(
+    alloc: Global,
+    expander: &E,
+    goal: &Goal,
+    branch: BranchId,
+    runs: &[Run],
+    places: &[u32],
+) -> Result<PartMap, Memory>
+    requires taken { E.takes expander.now goal.now ≡ true }
+    requires branch { names_branch (E.expansion expander.now goal.now) (kind_view branch.kind) branch.number ≡ true }
+    requires room { every (λ p. has_room (E.cells expander.now goal.now (kind_view branch.kind) branch.number) p.slot 1)
+        (spread runs.now) ≡ true }
+    requires differ { are_different same_word (map (λ m. m.0)
+        (map (W.named (word_at (E.cells expander.now goal.now (kind_view branch.kind) branch.number)) (place_at places.now))
+        (spread runs.now))) ≡ true }
+    ensures { IfOk result (λ m. m ≡ W.sorted
+        (map (W.named (word_at (E.cells expander.now goal.now (kind_view branch.kind) branch.number)) (place_at places.now))
+        (spread runs.now))) }
+{
+    let lists = words_of(alloc, expander, goal, branch, runs)?;
+    let members = members_of(alloc, &lists, runs, places)?;
+    Ok(PartMap::from_vec(in_order(members)))
+}
+
+/// The word of a text: the first of cell 0.
+pub(crate) fn text<E: Expander>(
+    alloc: Global,
+    expander: &E,
+    goal: &Goal,
+    branch: BranchId,
+) -> Result<Str, Memory>
+    requires taken { E.takes expander.now goal.now ≡ true }
+    requires branch { names_branch (E.expansion expander.now goal.now) (kind_view branch.kind) branch.number ≡ true }
+    requires room { 0 < capacity (cell_at (E.cells expander.now goal.now (kind_view branch.kind) branch.number) 0) }
+    ensures { IfOk result (λ s. s ≡ word_at (E.cells expander.now goal.now (kind_view branch.kind) branch.number) 0 0) }
+{
+    let words = expander.words(alloc, goal, branch, 0, 1)?;
+    word(alloc, &[words], 0, 0)
+}

@@ -10,6 +10,7 @@ pub mod Quiet
 pub mod Marking
 pub mod Names
 pub mod Parts
+pub mod Building
 pub mod Witness
 pub mod Decided
 pub mod Examples

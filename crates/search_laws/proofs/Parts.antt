@@ -193,7 +193,7 @@ module _ (words : List Signed → Kind → ℕ → ℕ → ℕ → List ℕ) (ex
       lacks : IsIn m (in_order expansion f q) × (uses expansion f Count n m ≡ true) → ⊥
       lacks (i, u) = true≢false (sym (has_order expansion f q m i) ∙ h)
 
-  used_in : (m : ℕ) → uses expansion f Count n m ≡ true → Round Count m ≡ true → IsIn m Goals
+  pub used_in : (m : ℕ) → uses expansion f Count n m ≡ true → Round Count m ≡ true → IsIn m Goals
   used_in m u e =
       to_filter (uses expansion f Count n) m (in_order expansion f Count) (order_has expansion f Count m e) u
 
@@ -203,12 +203,12 @@ module _ (words : List Signed → Kind → ℕ → ℕ → ℕ → List ℕ) (ex
       (u, has_order expansion f Count m j)
 
   -- what a used goal contains
-  record Within (m : ℕ) (e : Entered expansion f m) (p : NumberedPlaced) : Type 0 where
-    used : uses expansion f Count n p.goal ≡ true
-    round_has : Round e.q p.goal ≡ true
-    before : Place p.goal < Place m
+  pub record Within (m : ℕ) (e : Entered expansion f m) (p : NumberedPlaced) : Type 0 where
+    pub used : uses expansion f Count n p.goal ≡ true
+    pub round_has : Round e.q p.goal ≡ true
+    pub before : Place p.goal < Place m
 
-  contents_used : (m : ℕ) → uses expansion f Count n m ≡ true → Round Count m ≡ true → (e : Entered expansion f m)
+  pub contents_used : (m : ℕ) → uses expansion f Count n m ≡ true → Round Count m ≡ true → (e : Entered expansion f m)
       → (p : NumberedPlaced) → IsIn p (contents expansion f m) → Within m e p
   contents_used m u r e p i =
       let h = contents_below expansion f Count m r e p i in

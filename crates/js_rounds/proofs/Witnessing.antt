@@ -1,0 +1,61 @@
+-- The used goals of a goal that has an answer: each has one, there are no more than goals, and one at least.
+use Rattle.std.proofs.Common.{◌≡◌, ℕ, zero, suc, ◌+◌, ◌≤◌, ◌<◌, inl, inr, List, [], ◌∷◌, length, take, map, get_or, Bool, true, is_some, refl, ap, sym, ◌∙◌, subst, arith}
+use Rattle.std.proofs.lemmas.List.{take_all}
+use Rattle.std.proofs.lemmas.List.FromFn.{length-range_with_len}
+use Rattle.std.specs.List.{range_with_len}
+use Rattle.documents.specs.Kind.{Kind}
+use Rattle.documents.specs.Document.{Document}
+use Rattle.goals.specs.Signed.{Signed}
+use Rattle.list_laws.specs.In.{IsIn}
+use Rattle.list_laws.proofs.Counts.{subset_length}
+use Rattle.list_laws.proofs.Tests.{in_range}
+use Rattle.shared_documents.specs.Part.{Part}
+use Rattle.shared_documents.specs.Unshared.{unshared}
+use Rattle.alternatives.specs.Expansion.{Expansion}
+use Rattle.search.specs.Explored.{Found}
+use Rattle.search.specs.Rounds.{round}
+use Rattle.search.specs.Documents.{document}
+use Rattle.search.specs.Uses.{satisfied, used_goals}
+use Rattle.search.specs.Witness.{place_in, part, parts}
+use Rattle.search_laws.proofs.Rise.{answer_round}
+use Rattle.search_laws.proofs.Answers.{added_low}
+use Rattle.search_laws.proofs.Parts.{in_used, used_own, parts_stand, place_last}
+use Rattle.search_laws.proofs.Building.{Made, used_distinct}
+
+module _ (words : List Signed → Kind → ℕ → ℕ → ℕ → List ℕ) (X : List Signed → Expansion) (f : Found) (n : ℕ)
+    (reached : round X f (length f.goals) n ≡ true) where
+  abbrev Used : List ℕ
+  Used = used_goals X f n
+
+  pub used_low : (m : ℕ) → IsIn m Used → m < length f.goals
+  used_low m i = added_low X f (length f.goals) m (in_used words X f n reached m i).1
+
+  pub used_satisfied : (m : ℕ) → IsIn m Used → is_some (satisfied X f m) ≡ true
+  used_satisfied m i = answer_round X f (length f.goals) m ∙ (in_used words X f n reached m i).1
+
+  pub used_few : length Used ≤ length f.goals
+  used_few =
+      let l = subset_length Used (range_with_len 0 (length f.goals)) (used_distinct X f n)
+      (λ m i. in_range (length f.goals) m (used_low m i)) in
+      omega (arith, l, length-range_with_len 0 (length f.goals))
+
+  one_at_least : (xs : List ℕ) (m : ℕ) → IsIn m xs → 0 < length xs
+  one_at_least [] m i = absurd i
+  one_at_least (x ∷ xs) m i = omega arith
+
+  pub used_some : 0 < length Used
+  used_some = one_at_least Used n (used_own words X f n reached)
+
+  pub all_made : (i : ℕ) (made : List Part) (places : List ℕ) → length Used ≤ i → Made words X f n reached i made places
+      → made ≡ parts words X f n
+  all_made i made places l h =
+      h.parts ∙ ap (map (part words X f (place_in (used_goals X f n)))) (take_all i Used l)
+
+  -- the last part is that of the goal
+  pub last_stands : (made : List Part) (last : ℕ) → made ≡ parts words X f n → last + 1 ≡ length Used
+      → unshared made last ≡ document words X f (length f.goals) n
+  last_stands made last e l =
+      let p = place_last words X f n reached in
+      let same : last ≡ place_in (used_goals X f n) n = omega (arith, p, l) in
+      ap (λ z. unshared z last) e ∙ ap (unshared (parts words X f n)) same
+      ∙ parts_stand words X f n reached n (used_own words X f n reached)
