@@ -1,6 +1,6 @@
 mod Grow
 pub mod RowsFound
-pub mod SameAtoms
+pub mod Once
 mod Literals
 pub mod Wanted
 pub mod Strings

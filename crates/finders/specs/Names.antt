@@ -7,7 +7,7 @@ use Rattle.goals.specs.Signed.{Signed}
 use Rattle.name_truths.specs.NameAtoms.{name_atoms}
 use Rattle.cells.specs.Cells.{Cells, cells}
 use Rattle.alternatives.specs.Limit.{LimitKind, most_states, most_words}
-use Rattle.finders.specs.SameAtom.{once}
+use Rattle.finders.specs.Once.{once}
 use Rattle.finders.specs.Limits.{rows_found, limit_passed, unless_passed}
 use Rattle.finders.specs.WordsFound.{far}
 

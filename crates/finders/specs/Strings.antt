@@ -9,7 +9,7 @@ use Rattle.goals.specs.Signed.{Signed, Plus, Minus, position_of}
 use Rattle.frames.specs.Frame.{is_at_end}
 use Rattle.frames.specs.ArrayFrame.{lesser}
 use Rattle.alternatives.specs.Limit.{LimitKind, most_states}
-use Rattle.finders.specs.SameAtom.{once}
+use Rattle.finders.specs.Once.{once}
 use Rattle.finders.specs.Limits.{limit_passed, unless_passed}
 use Rattle.finders.specs.WordsFound.{far, words_found, first_of}
 

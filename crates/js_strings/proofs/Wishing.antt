@@ -1,39 +1,28 @@
 -- One more truth that is asked for.
-use Rattle.std.proofs.Common.{◌≡◌, ℕ, suc, ◌<◌, ◌≤◌, ◌+◌, inl, inr, ⊎_elim, Bool, true, false, ◌&&◌, ◌||◌, if◌then◌else◌, nat_lt, List, [], ◌∷◌, ◌++◌, map, length, get_or, Option, Some, None, slice_get, Decides, refl, ap, ap₂, sym, ◌∙◌, subst, append-nil, length-append, arith}
+use Rattle.std.proofs.Common.{◌≡◌, ℕ, suc, ◌<◌, ◌≤◌, ◌+◌, inl, inr, ⊎_elim, Bool, true, false, ◌&&◌, ◌||◌, if◌then◌else◌, nat_lt, List, [], ◌∷◌, ◌++◌, map, length, get_or, Option, Some, None, slice_get, refl, ap, ap₂, sym, ◌∙◌, subst, append-nil, length-append, arith}
 use Rattle.std.specs.Bool.{beq}
 use Rattle.std.specs.List.{list_any}
 use Rattle.std.proofs.lemmas.Bool.{and_parts, and_from, lt-ltb, ltb-true}
-use Rattle.std.proofs.lemmas.List.{length-map, get_or_append_left, get_or-map}
+use Rattle.std.proofs.lemmas.List.{length-map, map-append, get_or_append_left, get_or-map}
 use Rattle.std.proofs.lemmas.Option.{get_or_from_slice_get, slice_get_within}
 use Rattle.indexmap.specs.IndexSet.{insert_key}
 use Rattle.documents.specs.Tests.{every}
 use Rattle.word_states.specs.Atom as W
 use Rattle.word_states.specs.Atom.{is_true}
 use Rattle.word_states.specs.Mention.{mention}
-use Rattle.js_nfa.specs.SameAtom as N
+use Rattle.word_states.specs.SameAtom.{same_atom}
+use Rattle.state_laws.proofs.SameAtoms.{same_atom-Decides}
 use Rattle.js_nfa.specs.AtomView.{atom_view}
 use Rattle.js_nfa.specs.declared.atom.Atom.{Atom}
-use Rattle.finders.specs.SameAtom.{same_atom}
-use Rattle.finder_laws.proofs.SameAtoms.{same_atom-decides}
 use Rattle.js_strings.specs.declared.wish.Wish.{Wish}
 use Rattle.js_strings.specs.Wishes.{are_within, is_met, are_met}
 
-one_test : {A : Type 0} (p q : Bool) → Decides p A → Decides q A → p ≡ q
-one_test true true a b = refl
-one_test false false a b = refl
-one_test true false a b = sym (b.1 (a.0 refl))
-one_test false true a b = a.1 (b.0 refl)
-
--- the test of the program's atoms is that of the definitions
-same_both : (a b : W.Atom) → N.same_atom a b ≡ same_atom a b
-same_both a b = one_test (N.same_atom a b) (same_atom a b) (N.same_atom-Decides a b) (same_atom-decides a b)
-
 abbrev pub same_key : Atom → Atom → Bool
-same_key a b = N.same_atom (atom_view a) (atom_view b)
+same_key a b = same_atom (atom_view a) (atom_view b)
 
 any_views : (a : Atom) (ks : List Atom) → list_any (same_key a) ks ≡ list_any (same_atom (atom_view a)) (map atom_view ks)
 any_views a [] = refl
-any_views a (k ∷ ks) = ap₂ (λ x y. x || y) (same_both (atom_view a) (atom_view k)) (any_views a ks)
+any_views a (k ∷ ks) = ap (λ y. same_atom (atom_view a) (atom_view k) || y) (any_views a ks)
 
 map_end : {A B : Type 0} (f : A → B) (xs : List A) (x : A) → map f (xs ++ x ∷ []) ≡ map f xs ++ f x ∷ []
 map_end f [] x = refl
@@ -65,10 +54,6 @@ every_end p (y ∷ xs) x = ap (λ b. p y && b) (every_end p xs x) ∙ sym (assoc
   assoc true b c = refl
   assoc false b c = refl
 
-map_append : {A B : Type 0} (f : A → B) (xs ys : List A) → map f (xs ++ ys) ≡ map f xs ++ map f ys
-map_append f [] ys = refl
-map_append f (x ∷ xs) ys = ap (λ z. f x ∷ z) (map_append f xs ys)
-
 -- with further atoms the same is asked
 met_more : (ks X : List Atom) (ws : List Wish) (w : List ℕ) → are_within ks ws ≡ true
     → are_met (map atom_view (ks ++ X)) ws w ≡ are_met (map atom_view ks) ws w
@@ -78,7 +63,7 @@ met_more ks X (x ∷ ws) w h =
     let l = ltb-true x.atom (length ks) a in
     let m : x.atom < length (map atom_view ks) = (let e = length-map ks atom_view in omega (arith, l, e)) in
     let g : get_or (map atom_view (ks ++ X)) x.atom (W.LengthMin 0) ≡ get_or (map atom_view ks) x.atom (W.LengthMin 0) =
-    ap (λ z. get_or z x.atom (W.LengthMin 0)) (map_append atom_view ks X)
+    ap (λ z. get_or z x.atom (W.LengthMin 0)) (map-append atom_view ks X)
     ∙ get_or_append_left (map atom_view ks) (map atom_view X) (W.LengthMin 0) x.atom m in
     ap₂ (λ t r. beq (is_true t w) x.truth && r) g (met_more ks X ws w b)
 
@@ -113,7 +98,7 @@ module _ (ks new : List Atom) (ws more : List Wish) (a : Atom) (x : Wish)
   atom_there =
       get_or-map atom_view new x.atom a (W.LengthMin 0) place
       ∙ ap atom_view (get_or_from_slice_get new x.atom stored.0 a stored.1)
-      ∙ sym ((N.same_atom-Decides (atom_view a) (atom_view stored.0)).0 stored.2)
+      ∙ sym ((same_atom-Decides (atom_view a) (atom_view stored.0)).0 stored.2)
 
   pub wished_words : (w : List ℕ)
       → are_met (map atom_view new) more w ≡ (are_met (map atom_view ks) ws w && beq (is_true (atom_view a) w) x.truth)

@@ -18,7 +18,7 @@ impl Asked {
     ghost use Rattle.word_states.specs.Mention.{mention, mention_all};
     ghost use Rattle.positions.specs.Position.{position_at};
     ghost use Rattle.goals.specs.Signed.{position_of};
-    ghost use Rattle.finders.specs.SameAtom.{same_atom};
+    ghost use Rattle.word_states.specs.SameAtom.{same_atom};
     ghost use Rattle.finders.specs.Strings.{lower, word_atoms, length_atoms, string_atoms, wants, is_wanted};
     ghost use Rattle.js_algebra.specs.View.{signed_view, is_in_table, are_in_table};
     ghost use Rattle.js_nfa.specs.AtomView.{atom_view};

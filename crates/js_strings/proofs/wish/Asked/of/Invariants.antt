@@ -4,7 +4,7 @@ use Rattle.documents.specs.Tests.{every}
 use Rattle.word_states.specs.Mention.{mention_all}
 use Rattle.positions.specs.Position.{position_at}
 use Rattle.goals.specs.Signed.{position_of}
-use Rattle.finders.specs.SameAtom.{same_atom}
+use Rattle.word_states.specs.SameAtom.{same_atom}
 use Rattle.finders.specs.Strings.{lower, word_atoms, length_atoms, string_atoms, wants}
 use Rattle.js_algebra.specs.View.{signed_view, are_in_table}
 use Rattle.js_strings.specs.Asking.{atoms_in, asks}
