@@ -164,14 +164,14 @@ read_on-plain (x ∷ xs) done more h =
     (read_on-plain xs (done ++ x ∷ []) more (λ k l. h (suc k) (omega arith))
     ∙ ap (λ ys. read_on plain ys more) (append_assoc done (x ∷ []) xs))
 
-high_bytes : (c : ℕ) → 128 ≤ c → (k : ℕ) → k < length (encode_utf8 c) → 128 ≤ get_or (encode_utf8 c) k 0
+pub high_bytes : (c : ℕ) → 128 ≤ c → (k : ℕ) → k < length (encode_utf8 c) → 128 ≤ get_or (encode_utf8 c) k 0
 high_bytes c big k below = elim (cases_lt (get_or (encode_utf8 c) k 0) 128) [
   | inl low ↦ absurd (omega (arith, inside_one c [] (encode_utf8 c) k (sym (append-nil _)) below low))
   | inr h ↦ h
 ]
 
 -- a character that isn't escaped
-character-plain : (c : ℕ) → 32 ≤ c → (c ≡ 34 → ⊥) → (c ≡ 92 → ⊥) → character_text c ≡ encode_utf8 c
+pub character-plain : (c : ℕ) → 32 ≤ c → (c ≡ 34 → ⊥) → (c ≡ 92 → ⊥) → character_text c ≡ encode_utf8 c
 character-plain c h q b =
     rw (
       ne_eqb c 34 q,
