@@ -8,8 +8,9 @@ use Rattle.shared_documents.specs.Part.{Part, null, boolean, number, string, arr
 use Rattle.document_texts.specs.Scalars.{character_text, string_text, joined}
 use Rattle.document_texts.specs.PartsText.{reference_text, named_text, part_text, line_text, lines_text, count_text, parts_text}
 use Rattle.document_texts.specs.PartsRead.{is_named, is_member, is_told}
+use Rattle.document_text_laws.specs.Reader.{ends}
 use Rattle.document_text_laws.proofs.StringLaws.{same-string}
-use Rattle.document_text_laws.proofs.NumberLaws.{ends, same-number, no-number}
+use Rattle.document_text_laws.proofs.NumberLaws.{same-number, no-number}
 
 -- what is written in one way: x, and what comes behind
 abbrev pub Same : {A : Type 0} → A → A → List ℕ → List ℕ → Type 0
@@ -33,11 +34,11 @@ module _ {A : Type 0} (write : A → List ℕ) (good : A → Bool) (first close 
   abbrev pub more : List A → List ℕ → List ℕ
   more xs r = flat_map (λ y. 44 ∷ y) (map write xs) ++ close ∷ r
 
-  ends-more : (xs : List A) (r : List ℕ) → ends (more xs r) ≡ true
+  pub ends-more : (xs : List A) (r : List ℕ) → ends (more xs r) ≡ true
   ends-more [] r = rw c.digit refl
   ends-more (x ∷ xs) r = refl
 
-  more-next : (x : A) (xs : List A) (r : List ℕ) → more (x ∷ xs) r ≡ 44 ∷ (write x ++ more xs r)
+  pub more-next : (x : A) (xs : List A) (r : List ℕ) → more (x ∷ xs) r ≡ 44 ∷ (write x ++ more xs r)
   more-next x xs r = append_assoc (44 ∷ write x) (flat_map (λ y. 44 ∷ y) (map write xs)) (close ∷ r)
 
   same-more : (xs ys : List A) (r u : List ℕ) → every good xs ≡ true → every good ys ≡ true → more xs r ≡ more ys u
@@ -64,7 +65,7 @@ module _ {A : Type 0} (write : A → List ℕ) (good : A → Bool) (first close 
   abbrev pub list : List A → List ℕ → List ℕ
   list xs r = joined (map write xs) ++ close ∷ r
 
-  list-next : (x : A) (xs : List A) (r : List ℕ) → list (x ∷ xs) r ≡ write x ++ more xs r
+  pub list-next : (x : A) (xs : List A) (r : List ℕ) → list (x ∷ xs) r ≡ write x ++ more xs r
   list-next x xs r = append_assoc (write x) (flat_map (λ y. 44 ∷ y) (map write xs)) (close ∷ r)
 
   begins-list : (x : A) (xs : List A) (r : List ℕ) → list (x ∷ xs) r ≡ first ∷ (w.others x ++ more xs r)
@@ -94,7 +95,7 @@ module _ {A : Type 0} (write : A → List ℕ) (good : A → Bool) (first close 
 small : (i : ℕ) → is_named i ≡ true → i < 10 ^ 64
 small i h = omega (arith, ltb-true i 4294967296 h)
 
-references : Writes reference_text is_named 35
+pub references : Writes reference_text is_named 35
 references = record {
   others = decimal;
   begins = λ i. refl;
@@ -120,17 +121,17 @@ same-member m n r u hm hn er eu e =
     behind_two (x ∷ []) = []
     behind_two (x ∷ y ∷ xs) = xs
 
-members : Writes named_text is_member 34
+pub members : Writes named_text is_member 34
 members = record {
   others = λ m. flat_map character_text m.0 ++ 34 ∷ [] ++ 58 ∷ reference_text m.1;
   begins = λ m. refl;
   same = same-member;
 }
 
-array_end : Closes 35 93
+pub array_end : Closes 35 93
 array_end = record { comma = λ e. omega (arith, e); begins = λ e. omega (arith, e); digit = refl }
 
-object_end : Closes 34 125
+pub object_end : Closes 34 125
 object_end = record { comma = λ e. omega (arith, e); begins = λ e. omega (arith, e); digit = refl }
 
 -- ---- parts

@@ -1,5 +1,5 @@
 -- What bytes are read as: one table at most, or one line at which they stop being the beginning of one.
-use Rattle.std.proofs.Common.{◌≡◌, ◌⊎◌, inl, inr, ℕ, zero, suc, ◌+◌, ◌-◌, ◌<◌, ◌≤◌, List, [], ◌∷◌, ◌++◌, length, true, ◌&&◌, nat_lt, refl, sym, ap, ap₂, ◌∙◌, subst, arith, append_assoc, append-nil}
+use Rattle.std.proofs.Common.{◌≡◌, ◌⊎◌, inl, inr, ℕ, zero, suc, ◌+◌, ◌-◌, ◌<◌, ◌≤◌, List, [], ◌∷◌, ◌++◌, length, Bool, true, ◌&&◌, nat_lt, refl, sym, ap, ap₂, ◌∙◌, subst, arith, append_assoc, append-nil}
 use Rattle.std.proofs.lemmas.Bool.{cases_eq, cases_lt, eq-eqb, ne_eqb, and_parts, and_from}
 use Rattle.std.proofs.lemmas.List.{length-append}
 use Rattle.documents.specs.Tests.{every}
@@ -100,11 +100,12 @@ lines-append i k (p ∷ ps) qs e =
     ap (λ xs. line_text i p ++ xs) (lines-append (suc i) k ps qs (omega (arith, e)))
     ∙ sym (append_assoc (line_text i p) (lines_text (suc i) ps) (lines_text k qs))
 
-told-append : (ps qs : List Part) → every is_told ps ≡ true → every is_told qs ≡ true → every is_told (ps ++ qs) ≡ true
-told-append [] qs h g = g
-told-append (p ∷ ps) qs h g =
-    let both = and_parts (is_told p) (every is_told ps) h in
-    and_from (is_told p) (every is_told (ps ++ qs)) both.0 (told-append ps qs both.1 g)
+pub every-join : {A : Type 0} (p : A → Bool) (xs ys : List A) → every p xs ≡ true → every p ys ≡ true
+    → every p (xs ++ ys) ≡ true
+every-join p [] ys h g = g
+every-join p (x ∷ xs) ys h g =
+    let both = and_parts (p x) (every p xs) h in
+    and_from (p x) (every p (xs ++ ys)) both.0 (every-join p xs ys both.1 g)
 
 -- so many parts are to come, these came, and so much is left
 pub record Reading (count : ℕ) (ps : List Part) (left bytes : List ℕ) : Type 0 where
@@ -141,7 +142,7 @@ reading-next n ps p line left rest bytes r less cut is part told =
     lines-append 0 k ps (p ∷ []) (omega arith) ∙ ap (λ xs. lines_text 0 ps ++ xs) one in
     record {
       table = is_table-pushed ps p r.table part;
-      told = told-append ps (p ∷ []) r.told (and_from (is_told p) true told refl);
+      told = every-join is_told ps (p ∷ []) r.told (and_from (is_told p) true told refl);
       some = r.some;
       few = r.few;
       within = omega (arith, length-append ps (p ∷ []), less);
@@ -207,7 +208,7 @@ front-begins n ps left bytes r =
       behind = lines_text (length ps) more.others;
       read = record {
         table = more.table;
-        told = told-append ps more.others r.told more.told;
+        told = every-join is_told ps more.others r.told more.told;
         some = omega (arith, size, r.some);
         few = omega (arith, size, r.few);
         text = ap (λ k. count_text k ++ lines_text 0 (ps ++ more.others)) size
