@@ -1,19 +1,10 @@
 -- A number in decimal is read in one way, where no digit comes behind it.
-use Rattle.std.proofs.Common.{◌≡◌, ℕ, ◌+◌, ◌-◌, ◌*◌, ◌/◌, ◌%◌, ◌^◌, ◌<◌, List, [], ◌∷◌, ◌++◌, Bool, true, false, cond, refl, sym, ap, ◌∙◌, arith, append_assoc}
+use Rattle.std.proofs.Common.{◌≡◌, ℕ, ◌+◌, ◌-◌, ◌*◌, ◌/◌, ◌%◌, ◌^◌, ◌<◌, ◌≤◌, List, [], ◌∷◌, ◌++◌, length, get_or, Bool, true, false, cond, refl, sym, ap, ◌∙◌, arith, append_assoc}
 use Rattle.std.specs.Char.{is_ascii_digit}
 use Rattle.std.specs.Fmt.{decimal}
+use Rattle.document_text_laws.specs.Reader.{number_on, ends}
 use Rattle.std.proofs.lemmas.Bool.{true≢false}
 use Rattle.std.proofs.lemmas.Fmt.{decimal_by_steps_wide}
-
--- the number, after `n` was read of it, and what comes behind its digits
-abbrev number_on : ℕ → List ℕ → ℕ × List ℕ
-number_on n [] = (n, [])
-number_on n (d ∷ ds) = cond (is_ascii_digit d) (number_on (n * 10 + (d - 48)) ds) (n, d ∷ ds)
-
--- no digit comes first
-abbrev pub ends : List ℕ → Bool
-ends [] = true
-ends (d ∷ ds) = cond (is_ascii_digit d) false true
 
 one_digit : (n d : ℕ) (more : List ℕ) → d < 10 → number_on n ((48 + d) ∷ more) ≡ number_on (n * 10 + d) more
 one_digit n d more l =
@@ -42,8 +33,25 @@ number_on-ends n (d ∷ ds) h = go (is_ascii_digit d) h where
   go true h = cc
   go false h = refl
 
-number-read : (n : ℕ) (rest : List ℕ) → n < 10 ^ 64 → ends rest ≡ true → number_on 0 (decimal n ++ rest) ≡ (n, rest)
+pub number-read : (n : ℕ) (rest : List ℕ) → n < 10 ^ 64 → ends rest ≡ true → number_on 0 (decimal n ++ rest) ≡ (n, rest)
 number-read n rest l h = (decimal-read n l).read rest ∙ number_on-ends n rest h
+
+-- a digit more makes no number smaller
+number_on-grows : (n : ℕ) (ds : List ℕ) → n ≤ (number_on n ds).0
+number_on-grows n [] = omega arith
+number_on-grows n (d ∷ ds) = go (is_ascii_digit d) (number_on-grows (n * 10 + (d - 48)) ds) where
+  go : (b : Bool) → n * 10 + (d - 48) ≤ (number_on (n * 10 + (d - 48)) ds).0
+      → n ≤ (cond b (number_on (n * 10 + (d - 48)) ds) (n, d ∷ ds)).0
+  go true h = omega (arith, h)
+  go false h = omega arith
+
+pub number_on-digit : (n m : ℕ) (ds rest : List ℕ) → 1 ≤ length ds → is_ascii_digit (get_or ds 0 0) ≡ true
+    → number_on n ds ≡ (m, rest) → n * 10 + (get_or ds 0 0 - 48) ≤ m
+number_on-digit n m [] rest l h e = absurd (omega (arith, l))
+number_on-digit n m (d ∷ ds) rest l h e =
+    let first : number_on n (d ∷ ds) ≡ number_on (n * 10 + (d - 48)) ds = rw h refl in
+    let same : (number_on (n * 10 + (d - 48)) ds).0 ≡ m = ap (λ z. z.0) (sym first ∙ e) in
+    omega (arith, number_on-grows (n * 10 + (d - 48)) ds, same)
 
 -- ---- two numbers with the same digits
 
@@ -54,13 +62,13 @@ same-number m n r u lm ln hr hu e =
     (ap (λ z. z.0) both, ap (λ z. z.1) both)
 
 -- a number begins with a digit
-record Begins (n : ℕ) (ds : List ℕ) : Type 0 where
-  first : ℕ
-  others : List ℕ
-  is : ds ≡ first ∷ others
-  digit : is_ascii_digit first ≡ true
+pub record Begins (n : ℕ) (ds : List ℕ) : Type 0 where
+  pub first : ℕ
+  pub others : List ℕ
+  pub is : ds ≡ first ∷ others
+  pub digit : is_ascii_digit first ≡ true
 
-decimal-begins : (n : ℕ) → n < 10 ^ 64 → Begins n (decimal n)
+pub decimal-begins : (n : ℕ) → n < 10 ^ 64 → Begins n (decimal n)
 decimal-begins =
     decimal_by_steps_wide Begins
     (λ n l. record { first = 48 + n; others = []; is = refl; digit = grind (arith, l) })

@@ -6,9 +6,11 @@ use Rattle.std.proofs.lemmas.Bool.{and_parts, ltb-true}
 use Rattle.documents.specs.Tests.{every, is_scalar}
 use Rattle.shared_documents.specs.Part.{Part, null, boolean, number, string, array, object}
 use Rattle.document_texts.specs.Scalars.{character_text, string_text, joined}
-use Rattle.document_texts.specs.PartsText.{reference_text, named_text, part_text, line_text, lines_text, parts_text}
+use Rattle.document_texts.specs.PartsText.{reference_text, named_text, part_text, line_text, lines_text, count_text, parts_text}
+use Rattle.document_texts.specs.PartsRead.{is_named, is_member, is_told}
+use Rattle.document_text_laws.specs.Reader.{ends}
 use Rattle.document_text_laws.proofs.StringLaws.{same-string}
-use Rattle.document_text_laws.proofs.NumberLaws.{ends, same-number, no-number}
+use Rattle.document_text_laws.proofs.NumberLaws.{same-number, no-number}
 
 -- what is written in one way: x, and what comes behind
 abbrev pub Same : {A : Type 0} → A → A → List ℕ → List ℕ → Type 0
@@ -32,11 +34,11 @@ module _ {A : Type 0} (write : A → List ℕ) (good : A → Bool) (first close 
   abbrev pub more : List A → List ℕ → List ℕ
   more xs r = flat_map (λ y. 44 ∷ y) (map write xs) ++ close ∷ r
 
-  ends-more : (xs : List A) (r : List ℕ) → ends (more xs r) ≡ true
+  pub ends-more : (xs : List A) (r : List ℕ) → ends (more xs r) ≡ true
   ends-more [] r = rw c.digit refl
   ends-more (x ∷ xs) r = refl
 
-  more-next : (x : A) (xs : List A) (r : List ℕ) → more (x ∷ xs) r ≡ 44 ∷ (write x ++ more xs r)
+  pub more-next : (x : A) (xs : List A) (r : List ℕ) → more (x ∷ xs) r ≡ 44 ∷ (write x ++ more xs r)
   more-next x xs r = append_assoc (44 ∷ write x) (flat_map (λ y. 44 ∷ y) (map write xs)) (close ∷ r)
 
   same-more : (xs ys : List A) (r u : List ℕ) → every good xs ≡ true → every good ys ≡ true → more xs r ≡ more ys u
@@ -63,7 +65,7 @@ module _ {A : Type 0} (write : A → List ℕ) (good : A → Bool) (first close 
   abbrev pub list : List A → List ℕ → List ℕ
   list xs r = joined (map write xs) ++ close ∷ r
 
-  list-next : (x : A) (xs : List A) (r : List ℕ) → list (x ∷ xs) r ≡ write x ++ more xs r
+  pub list-next : (x : A) (xs : List A) (r : List ℕ) → list (x ∷ xs) r ≡ write x ++ more xs r
   list-next x xs r = append_assoc (write x) (flat_map (λ y. 44 ∷ y) (map write xs)) (close ∷ r)
 
   begins-list : (x : A) (xs : List A) (r : List ℕ) → list (x ∷ xs) r ≡ first ∷ (w.others x ++ more xs r)
@@ -90,13 +92,10 @@ module _ {A : Type 0} (write : A → List ℕ) (good : A → Bool) (first close 
 
 -- ---- numbers of parts, and members
 
-abbrev pub is_named : ℕ → Bool
-is_named i = nat_lt i 4294967296
-
 small : (i : ℕ) → is_named i ≡ true → i < 10 ^ 64
 small i h = omega (arith, ltb-true i 4294967296 h)
 
-references : Writes reference_text is_named 35
+pub references : Writes reference_text is_named 35
 references = record {
   others = decimal;
   begins = λ i. refl;
@@ -104,9 +103,6 @@ references = record {
       let digits : decimal i ++ r ≡ decimal j ++ u = cc in
       same-number i j r u (small i hi) (small j hj) er eu digits;
 }
-
-abbrev pub is_member : List ℕ × ℕ → Bool
-is_member m = every is_scalar m.0 && is_named m.1
 
 same-member : (m n : List ℕ × ℕ) (r u : List ℕ) → is_member m ≡ true → is_member n ≡ true → ends r ≡ true
     → ends u ≡ true → named_text m ++ r ≡ named_text n ++ u → Same m n r u
@@ -125,30 +121,20 @@ same-member m n r u hm hn er eu e =
     behind_two (x ∷ []) = []
     behind_two (x ∷ y ∷ xs) = xs
 
-members : Writes named_text is_member 34
+pub members : Writes named_text is_member 34
 members = record {
   others = λ m. flat_map character_text m.0 ++ 34 ∷ [] ++ 58 ∷ reference_text m.1;
   begins = λ m. refl;
   same = same-member;
 }
 
-array_end : Closes 35 93
+pub array_end : Closes 35 93
 array_end = record { comma = λ e. omega (arith, e); begins = λ e. omega (arith, e); digit = refl }
 
-object_end : Closes 34 125
+pub object_end : Closes 34 125
 object_end = record { comma = λ e. omega (arith, e); begins = λ e. omega (arith, e); digit = refl }
 
 -- ---- parts
-
--- strings and names are scalar values, numbers lie within 128 bits, and so do the numbers of parts within 32
-abbrev pub is_told : Part → Bool
-is_told null = true
-is_told (boolean b) = true
-is_told (number (pos n)) = nat_lt n 170141183460469231731687303715884105728
-is_told (number (negsuc n)) = nat_lt n 170141183460469231731687303715884105728
-is_told (string s) = every is_scalar s
-is_told (array is) = every is_named is
-is_told (object ms) = every is_member ms
 
 wide : (n : ℕ) → nat_lt n 170141183460469231731687303715884105728 ≡ true → n < 10 ^ 64
 wide n h = omega (arith, ltb-true n 170141183460469231731687303715884105728 h)
@@ -322,13 +308,20 @@ same-lines i (p ∷ ps) (q ∷ qs) r u l size hp hq e =
 abbrev behind_word : List ℕ → List ℕ
 behind_word xs = tail_of (tail_of (tail_of (tail_of (tail_of (tail_of xs)))))
 
-counted : (ps : List Part) → behind_word (parts_text ps) ≡ decimal (length ps) ++ 10 ∷ lines_text 0 ps
-counted ps = append_assoc (decimal (length ps)) (10 ∷ []) (lines_text 0 ps)
+-- a count and what comes behind it
+counted : (n : ℕ) (r : List ℕ) → behind_word (count_text n ++ r) ≡ decimal n ++ 10 ∷ r
+counted n r = append_assoc (decimal n) (10 ∷ []) r
+
+pub same-count : (m n : ℕ) (r u : List ℕ) → m ≤ 4294967295 → n ≤ 4294967295 → count_text m ++ r ≡ count_text n ++ u
+    → Same m n r u
+same-count m n r u lm ln e =
+    let count = same-number m n (10 ∷ r) (10 ∷ u) (omega (arith, lm)) (omega (arith, ln)) refl refl
+    (sym (counted m r) ∙ ap behind_word e ∙ counted n u) in
+    (count.0, ap tail_of count.1)
 
 -- tables with the same text are the same
 pub same-table : (ps qs : List Part) → length ps ≤ 4294967295 → length qs ≤ 4294967295 → every is_told ps ≡ true
     → every is_told qs ≡ true → parts_text ps ≡ parts_text qs → ps ≡ qs
 same-table ps qs lp lq hp hq e =
-    let count = same-number (length ps) (length qs) (10 ∷ lines_text 0 ps) (10 ∷ lines_text 0 qs)
-    (omega (arith, lp)) (omega (arith, lq)) refl refl (sym (counted ps) ∙ ap behind_word e ∙ counted qs) in
-    same-lines 0 ps qs [] [] (omega (arith, lp)) count.0 hp hq (ap (λ xs. xs ++ []) (ap tail_of count.1))
+    let count = same-count (length ps) (length qs) (lines_text 0 ps) (lines_text 0 qs) lp lq e in
+    same-lines 0 ps qs [] [] (omega (arith, lp)) count.0 hp hq (ap (λ xs. xs ++ []) count.1)

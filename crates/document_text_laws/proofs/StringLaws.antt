@@ -1,36 +1,13 @@
 -- A string's text is read in one way: what it says, and what comes behind it.
-use Rattle.std.proofs.Common.{◌≡◌, ◌⊎◌, inl, inr, ℕ, zero, suc, ◌+◌, ◌*◌, ◌<◌, ◌≤◌, List, [], ◌∷◌, ◌++◌, length, get_or, flat_map, true, cond, nat_eq, Option, Some, None, encode_utf8_all, chars, refl, sym, ap, ◌∙◌, subst, arith, append-nil, append_assoc}
-use Rattle.std.specs.Char.{encode_utf8, digit_value}
+use Rattle.std.proofs.Common.{◌≡◌, ◌⊎◌, inl, inr, ℕ, zero, suc, ◌+◌, ◌*◌, ◌<◌, ◌≤◌, List, [], ◌∷◌, ◌++◌, length, get_or, drop, flat_map, true, cond, nat_eq, Option, Some, None, encode_utf8_all, chars, refl, sym, ap, ◌∙◌, subst, arith, append-nil, append_assoc}
+use Rattle.std.specs.Char.{encode_utf8}
 use Rattle.std.proofs.lemmas.Bool.{cases_eq, cases_lt, ne_eqb, le-ltb, and_parts, and_from}
 use Rattle.std.proofs.lemmas.Str.{encode_ascii, inside_one, chars-encodes}
-use Rattle.std.specs.Str.{all_scalars}
+use Rattle.std.specs.Str.{all_scalars, IsUtf8}
 use lib.Utf8.{scalar}
 use Rattle.documents.specs.Tests.{every, is_scalar}
 use Rattle.document_texts.specs.Scalars.{character_text, string_text}
-
--- ---- a reader: in a string, behind a backslash, or where so many further digits come
-
-data Mode : Type 0 where
-  plain : Mode
-  escaped : Mode
-  digits : ℕ → ℕ → Mode
-
--- the character of a letter behind a backslash
-abbrev escape_of : ℕ → ℕ
-escape_of x =
-    cond (nat_eq x 98) 8 (cond (nat_eq x 102) 12 (cond (nat_eq x 110) 10
-    (cond (nat_eq x 114) 13 (cond (nat_eq x 116) 9 x))))
-
--- the bytes of the string, after `done` was read of it, and what comes behind its last quote
-abbrev read_on : Mode → List ℕ → List ℕ → Option (List ℕ × List ℕ)
-read_on m done [] = None
-read_on plain done (x ∷ xs) =
-    cond (nat_eq x 34) (Some (done, xs))
-    (cond (nat_eq x 92) (read_on escaped done xs) (read_on plain (done ++ x ∷ []) xs))
-read_on escaped done (x ∷ xs) =
-    cond (nat_eq x 117) (read_on (digits 3 0) done xs) (read_on plain (done ++ escape_of x ∷ []) xs)
-read_on (digits zero v) done (x ∷ xs) = read_on plain (done ++ (v * 16 + digit_value x) ∷ []) xs
-read_on (digits (suc n) v) done (x ∷ xs) = read_on (digits n (v * 16 + digit_value x)) done xs
+use Rattle.document_text_laws.specs.Reader.{plain, read_on}
 
 -- ---- a character
 
@@ -164,14 +141,14 @@ read_on-plain (x ∷ xs) done more h =
     (read_on-plain xs (done ++ x ∷ []) more (λ k l. h (suc k) (omega arith))
     ∙ ap (λ ys. read_on plain ys more) (append_assoc done (x ∷ []) xs))
 
-high_bytes : (c : ℕ) → 128 ≤ c → (k : ℕ) → k < length (encode_utf8 c) → 128 ≤ get_or (encode_utf8 c) k 0
+pub high_bytes : (c : ℕ) → 128 ≤ c → (k : ℕ) → k < length (encode_utf8 c) → 128 ≤ get_or (encode_utf8 c) k 0
 high_bytes c big k below = elim (cases_lt (get_or (encode_utf8 c) k 0) 128) [
   | inl low ↦ absurd (omega (arith, inside_one c [] (encode_utf8 c) k (sym (append-nil _)) below low))
   | inr h ↦ h
 ]
 
 -- a character that isn't escaped
-character-plain : (c : ℕ) → 32 ≤ c → (c ≡ 34 → ⊥) → (c ≡ 92 → ⊥) → character_text c ≡ encode_utf8 c
+pub character-plain : (c : ℕ) → 32 ≤ c → (c ≡ 34 → ⊥) → (c ≡ 92 → ⊥) → character_text c ≡ encode_utf8 c
 character-plain c h q b =
     rw (
       ne_eqb c 34 q,
@@ -224,6 +201,10 @@ behind-text : (s rest : List ℕ) → behind (string_text s ++ rest) ≡ Some (e
 behind-text s rest =
     ap (read_on plain []) (append_assoc (flat_map character_text s) (34 ∷ []) rest) ∙ read_on-text s [] rest
 
+-- the same by what stands behind the first quote
+pub read_on-string : (s rest : List ℕ) → read_on plain [] (drop 1 (string_text s ++ rest)) ≡ Some (encode_utf8_all s, rest)
+read_on-string s rest = behind-text s rest
+
 -- ---- two strings with the same text
 
 scalars-of : (s : List ℕ) → every is_scalar s ≡ true → all_scalars s ≡ true
@@ -235,11 +216,17 @@ scalars-of (c ∷ s) h =
     one : (c : ℕ) → is_scalar c ≡ true → scalar c ≡ true
     one c h = grind (arith, h)
 
+pub chars-text : (s : List ℕ) → every is_scalar s ≡ true → chars (encode_utf8_all s) ≡ s
+chars-text s h = chars-encodes s (scalars-of s h)
+
+pub utf8-text : (s bytes : List ℕ) → every is_scalar s ≡ true → bytes ≡ encode_utf8_all s → IsUtf8 bytes
+utf8-text s bytes h is = (s, (scalars-of s h, sym is))
+
 pub same-string : (s t r u : List ℕ) → every is_scalar s ≡ true → every is_scalar t ≡ true
     → string_text s ++ r ≡ string_text t ++ u → (s ≡ t) × (r ≡ u)
 same-string s t r u hs ht e =
     let both = sym (behind-text s r) ∙ ap behind e ∙ behind-text t u in
     let pair : ◌≡◌ {A = List ℕ × List ℕ} (encode_utf8_all s, r) (encode_utf8_all t, u) = cc in (
-      sym (chars-encodes s (scalars-of s hs)) ∙ ap (λ z. chars z.0) pair ∙ chars-encodes t (scalars-of t ht),
+      sym (chars-text s hs) ∙ ap (λ z. chars z.0) pair ∙ chars-text t ht,
       ap (λ z. z.1) pair,
     )

@@ -3,4 +3,6 @@
 pub mod Scalars
 pub mod DocumentText
 pub mod PartsText
+-- which bytes are a table's text, and where others are told
+pub mod PartsRead
 pub mod Measured

@@ -4,3 +4,8 @@ pub mod LineLemmas
 pub mod MeasureLemmas
 pub mod MeasureLaws
 pub mod RoomLemmas
+pub mod ScanLemmas
+pub mod ListReading
+pub mod NumberReading
+pub mod PartReading
+pub mod TableReading

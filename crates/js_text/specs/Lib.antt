@@ -4,3 +4,4 @@
 pub mod Kept
 pub mod Summed
 pub mod Commas
+pub mod Reads

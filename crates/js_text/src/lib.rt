@@ -8,12 +8,16 @@
 
 mod document;
 mod measures;
+mod part_reader;
 mod scalars;
+mod scanner;
 mod table;
+mod table_reader;
 
 pub use document::doc_text;
 pub use measures::{Measure, Measures};
 pub use table::parts_text;
+pub use table_reader::{PartsLineFault, parts_read};
 
 #[cfg(test)]
 mod tests;

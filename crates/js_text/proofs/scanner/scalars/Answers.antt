@@ -1,0 +1,9 @@
+-- A text is made of scalar values.
+use Rattle.std.proofs.Common.{sym, ap, ◌∙◌}
+use Rattle.documents.specs.Tests.{every, is_scalar}
+use Rattle.js_doc.proofs.Scalars.{every-chars}
+use Rattle.js_text.proofs.scanner.scalars.Goals as goal
+
+pub returns-clause-scalar : goal.returns-clause-scalar
+returns-clause-scalar c =
+    ap (every is_scalar) (sym c.as_text.ensures.text) ∙ every-chars c.as_text.result.now c.as_text.utf8
