@@ -1,14 +1,14 @@
 -- What literals ask of elements is of the table, and depends on the index of a place alone.
-use Rattle.std.proofs.Common.{◌≡◌, ℕ, zero, suc, ◌<◌, ◌≤◌, List, [], ◌∷◌, ◌++◌, map, flat_map, length, get_or, Bool, true, false, ◌&&◌, nat_lt, refl, arith, ap, ap₂, sym, ◌∙◌, subst}
+use Rattle.std.proofs.Common.{◌≡◌, ℕ, zero, suc, ◌<◌, ◌≤◌, List, [], ◌∷◌, ◌++◌, flat_map, length, get_or, Bool, true, nat_lt, refl, arith, ap, ap₂}
 use Rattle.std.proofs.lemmas.Bool.{and_parts, and_from}
 use Rattle.documents.specs.Tests.{every}
 use Rattle.positions.specs.Position as P
 use Rattle.positions.specs.Position.{Position, names_below}
 use Rattle.goals.specs.Signed.{Signed, Plus, Minus, position_of}
-use Rattle.frames.specs.Frame.{Place, Head, In}
+use Rattle.frames.specs.Frame.{Place}
 use Rattle.frames.specs.ArrayFrame as A
 use Rattle.frames.specs.ArrayFrame.{item_at, index_of}
-use Rattle.js_algebra.specs.View.{places, is_in_table, are_in_table}
+use Rattle.js_algebra.specs.View.{places}
 use Rattle.js_algebra.specs.declared.node.Pos.{Pos}
 use Rattle.js_arrays.specs.Elements.{asked_at, served_at}
 

@@ -1,7 +1,5 @@
 -- What the alternatives that are answered mean, by the laws of the leaf at arrays.
-use Rattle.std.proofs.Common.{◌≡◌, ℕ, ◌<◌, List, [], length, true, Result, Ok, Err, IfOk}
-use Rattle.documents.specs.Tests.{some}
-use Rattle.documents.specs.Kind as K
+use Rattle.std.proofs.Common.{◌≡◌, ℕ, List, [], true, Result, Ok, Err, IfOk}
 use Rattle.list_laws.proofs.Tests.{some_from}
 use Rattle.positions.specs.Position.{Position, is_table}
 use Rattle.position_laws.proofs.Tables.{is_table-IsTable}

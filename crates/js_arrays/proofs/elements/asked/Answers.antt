@@ -1,5 +1,5 @@
 -- Positions that are named are in the table.
-use Rattle.std.proofs.Common.{◌≡◌, length, map, true, sym, subst}
+use Rattle.std.proofs.Common.{◌≡◌, length, true, sym, subst}
 use Rattle.js_algebra.specs.View.{node_view, are_in_table}
 use Rattle.js_arrays.proofs.Asking.{plus_each-below}
 use Rattle.js_arrays.proofs.elements.asked.Goals as goal

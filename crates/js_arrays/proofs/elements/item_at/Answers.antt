@@ -1,5 +1,5 @@
 -- The position in the list, or the rest.
-use Rattle.std.proofs.Common.{◌≡◌, length, ap, sym, ◌∙◌}
+use Rattle.std.proofs.Common.{length, sym}
 use Rattle.std.proofs.lemmas.Bool.{ltb-true, ltb-false}
 use Rattle.js_arrays.proofs.Asking.{item-within, item-past}
 use Rattle.js_arrays.proofs.elements.item_at.Goals as goal

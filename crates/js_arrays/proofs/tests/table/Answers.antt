@@ -1,10 +1,9 @@
 -- The table is one.
-use Rattle.std.proofs.Common.{◌≡◌, ℕ, List, [], ◌∷◌, map, Bool, true, ◌&&◌, nat_lt, refl, ap, ap₂, sym, ◌∙◌, subst}
+use Rattle.std.proofs.Common.{◌≡◌, ℕ, List, [], ◌∷◌, map, true, ◌&&◌, nat_lt, refl, ap, ap₂, ◌∙◌}
 use Rattle.documents.specs.Tests.{every}
 use Rattle.positions.specs.Position.{is_table}
 use Rattle.js_algebra.specs.View.{node_view, places}
 use Rattle.js_algebra.specs.declared.node.Pos.{Pos}
-use Rattle.js_algebra.specs.declared.node.Node.{Node}
 use Rattle.js_arrays.proofs.tests.table.Goals as goal
 
 every_place : (n : ℕ) (ps : List Pos) → every (λ q. nat_lt q n) (places ps) ≡ every (λ p. nat_lt p.0 n) ps
