@@ -1,5 +1,5 @@
 -- Members and fillers by the cells and the goals of what is placed.
-use Rattle.std.proofs.Common.{◌≡◌, ℕ, zero, suc, ◌+◌, ◌≤◌, min, List, [], ◌∷◌, ◌++◌, map, flat_map, reverse, take, length, Bool, true, false, cond, nat_eq, Some, refl, arith, ap, ap₂, sym, ◌∙◌, append-nil, append_assoc}
+use Rattle.std.proofs.Common.{◌≡◌, ℕ, zero, suc, ◌+◌, ◌≤◌, min, List, [], ◌∷◌, ◌++◌, map, flat_map, reverse, take, length, true, cond, nat_eq, Some, refl, arith, ap, ap₂, sym, ◌∙◌, append-nil, append_assoc}
 use Rattle.std.specs.List.{range_with_len}
 use Rattle.std.proofs.lemmas.List.{map-append, length-map, length-append, length-set, length-take-le, reverse-append}
 use Rattle.std.proofs.lemmas.List.FromFn.{length-range_with_len}
@@ -14,6 +14,7 @@ use Rattle.frames.specs.Fillers.{times, filler_at, fillers, with_room}
 use Rattle.alternatives.specs.Alternative as A
 use Rattle.expansions.specs.Leaves as N
 use Rattle.expansions.specs.Leaves.{by_index, by_name, cell_of, members_of, placed_as, filling_of, plan_alternative}
+use Rattle.frame_laws.proofs.Occurrences.{times_append}
 use Rattle.js_plans.specs.declared.naming.Naming.{Naming}
 use Rattle.js_plans.specs.declared.naming.Naming.TheVariants as V
 use Rattle.js_plans.specs.declared.server.Server.{Server}
@@ -28,14 +29,6 @@ use Rattle.js_plans.specs.Named.{naming_view, placed_from, filler_in}
 use Rattle.js_plans.proofs.Options.{times-cells}
 use Rattle.js_plans.proofs.Shown.{heads-long, cells-all}
 use Rattle.js_plans.proofs.Remaining.{shown-path}
-
-pub times_append : (c : ℕ) (xs ys : List ℕ) → times c (xs ++ ys) ≡ times c xs + times c ys
-times_append c [] ys = omega arith
-times_append c (x ∷ xs) ys = go (nat_eq x c) (times_append c xs ys) where
-  go : (b : Bool) → times c (xs ++ ys) ≡ times c xs + times c ys
-      → cond b (suc (times c (xs ++ ys))) (times c (xs ++ ys)) ≡ cond b (suc (times c xs)) (times c xs) + times c ys
-  go true e = omega (arith, e)
-  go false e = e
 
 pub times-reverse : (c : ℕ) (xs : List ℕ) → times c (reverse xs) ≡ times c xs
 times-reverse c [] = refl

@@ -39,9 +39,6 @@ pub used-push : (n : ℕ) (ws : List Server) (s : Server) → most_used n (ws ++
 used-push n [] s = refl
 used-push n (w ∷ ws) s = used-push (used_after n w) ws s
 
-members_on : ℕ → List Server → ℕ
-members_on m ws = m + length (cells_of ws)
-
 members_on-cons : (m : ℕ) (w : Server) (ws : List Server)
     → members_after m w + length (cells_of ws) ≡ m + length (cells_of (w ∷ ws))
 members_on-cons m (V.Head k) ws = refl
@@ -104,9 +101,6 @@ none-right (None ∷ os) rs h = tt
 none-right (Some g ∷ os) rs h = none-right os rs h
 
 module _ (T : List Position) (frame : Frame) where
-  abbrev goal_at : F.Place × List Signed → Option (List Signed)
-  goal_at s = goal_of T frame s
-
   abbrev pub head_goals : ℕ → ℕ → List (List Signed) → List (Option (List Signed))
   head_goals j n xs = map (goal_of T frame) (take n (heads_from j xs))
 

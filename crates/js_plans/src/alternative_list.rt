@@ -325,9 +325,9 @@ pub fn plan_alternatives<F: PlanFrame>(
     if u64::from(frame.heads()) + frame.demands().len() as u64 >= 1 << 32 {
         return Err(PlanFault::Memory);
     }
-    let mut walk = PlanWalk::new(alloc, frame)?;
+    let mut walk = PlanWalk::new(alloc)?;
     see_all(alloc, frame, &mut walk)?;
-    walk.begin(frame)?;
+    walk.begin()?;
     let alternatives = collect(alloc, frame, naming, branch, &mut walk)?;
     Ok(AlternativeList::from_vec(alternatives))
 }

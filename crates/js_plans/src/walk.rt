@@ -4,8 +4,9 @@
 //! part of the path. Each has at least one end, so the tree has too many as soon as the ends that were told and the
 //! plans that are left are too many; this bounds the list too.
 
-ghost use Rattle.std.specs.Prelude.{◌≡◌, ◌<◌, ◌≤◌, ◌+◌, ◌^◌, ◌++◌, [], ◌∷◌, length, reverse, map, true, false, None, IfOk, IfErr, OnOk, IfSome, MatchOption, IsNone};
-ghost use Rattle.frames.specs.Frame.{is_at_end};
+ghost use Rattle.std.specs.Prelude.{◌≡◌, List, ◌<◌, ◌≤◌, ◌+◌, ◌^◌, ◌++◌, [], ◌∷◌, length, reverse, map, true, false, None, IfOk, IfErr, OnOk, IfSome, MatchOption, IsNone};
+ghost use Rattle.positions.specs.Position.{Position};
+ghost use Rattle.frames.specs.Frame.{Frame, is_at_end};
 ghost use Rattle.frames.specs.Plan.{size, ends, plan_steps};
 ghost use Rattle.js_plans.specs.Serving.{plan_after, steps_after};
 ghost use Rattle.js_plans.specs.Servers.{most_used, cells_of, servers_of};
@@ -45,8 +46,8 @@ struct Pending {
     server: Option<Server>,
 }
 
-/// A walk through the tree of plans of a frame, of which some steps were told; `left` are the others. From one `begin`
-/// to the next all its calls are to be given the same frame.
+/// A walk through the tree of plans of a frame, of which some steps were told; `left` are the others. All its calls are
+/// to be given the same frame.
 #[derive(Drop)]
 pub struct PlanWalk {
     path: Vec<Served>,
@@ -57,11 +58,10 @@ pub struct PlanWalk {
 }
 
 impl PlanWalk {
-    /// The walk of which nothing was told.
-    pub fn new<F: PlanFrame>(alloc: Global, frame: &F) -> Result<PlanWalk, Memory>
-        ensures walk { IfOk result (λ w. IsWalk (F.table frame.now) (F.frame frame.now) w) }
-        ensures left { IfOk result (λ w. left (F.table frame.now) (F.frame frame.now) w
-            ≡ plan_steps (F.table frame.now) (F.frame frame.now)) }
+    /// A walk of which nothing was told, through the tree of whatever frame it is given.
+    pub fn new(alloc: Global) -> Result<PlanWalk, Memory>
+        ensures walk { IfOk result (λ w. (T : List Position) (frame : Frame) → IsWalk T frame w) }
+        ensures left { IfOk result (λ w. (T : List Position) (frame : Frame) → left T frame w ≡ plan_steps T frame) }
         ensures ends { IfOk result (λ w. w.ends ≡ 0) }
     {
         let mut walk = PlanWalk {
@@ -70,16 +70,15 @@ impl PlanWalk {
             pending: Vec::new(alloc),
             ends: 0,
         };
-        walk.begin(frame)?;
+        walk.begin()?;
         Ok(walk)
     }
 
-    /// Begins again.
-    pub fn begin<F: PlanFrame>(&mut self, _frame: &F) -> Result<(), Memory>
-        requires { AreFirst (F.table _frame.now) (F.frame _frame.now) 0 self.old.first.items }
-        ensures walk { OnOk result (IsWalk (F.table _frame.now) (F.frame _frame.now) self.new) }
-        ensures left { OnOk result (left (F.table _frame.now) (F.frame _frame.now) self.new
-            ≡ plan_steps (F.table _frame.now) (F.frame _frame.now)) }
+    /// Begins again, for the same frame: the goals of first places that were formed are kept.
+    pub fn begin(&mut self) -> Result<(), Memory>
+        ensures walk { OnOk result ((T : List Position) (frame : Frame) → AreFirst T frame 0 self.old.first.items
+            → IsWalk T frame self.new) }
+        ensures left { OnOk result ((T : List Position) (frame : Frame) → left T frame self.new ≡ plan_steps T frame) }
         ensures ends { OnOk result (self.new.ends ≡ 0) }
     {
         self.path.clear();

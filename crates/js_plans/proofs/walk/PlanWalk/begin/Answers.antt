@@ -7,9 +7,7 @@ use Rattle.js_plans.proofs.walk.PlanWalk.begin.Goals as goal
 
 pub returns-clause-left : goal.returns-clause-left
 unfolding plan_steps
-returns-clause-left g c =
-    let T = g.F.PlanFrame.table c.args._frame.now in
-    let frame = g.F.PlanFrame.frame c.args._frame.now in
+returns-clause-left c = λ T frame.
     ap₂ (λ es ps. steps_left T frame (servers_of es) (reverse ps)) c.clear.ensures.items
     (c.in_ok-push.ensures.items ∙ ap (λ ps. ps ++ _ ∷ []) c.clear-2.ensures.items)
     ∙ append-nil (plan_steps T frame)
