@@ -123,29 +123,29 @@ same_members ms ns a b h k = go ms ns (rises_from ms a) (rises_from ns b) h k wh
   go (a ∷ ms) [] r s h k = absurd (h a (inl refl))
   go (a ∷ ms) (b ∷ ns) r s h k = ap₂ (λ x xs. x ∷ xs) first_same
       (go ms ns r.1 s.1 (λ m i. rest m (h m (inr i)) i) (λ m i. back m (k m (inr i)) i)) where
-    to : (m x : List ℕ × ℕ) (ms : List (List ℕ × ℕ)) → every (λ y. comes_before x.0 y.0) ms ≡ true
-        → (m ≡ x) ⊎ IsIn m ms → (m ≡ x) ⊎ (comes_before x.0 m.0 ≡ true)
-    to m x ms e (inl s) = inl s
-    to m x ms e (inr i) = inr (behind x.0 ms e m i)
+        to : (m x : List ℕ × ℕ) (ms : List (List ℕ × ℕ)) → every (λ y. comes_before x.0 y.0) ms ≡ true
+            → (m ≡ x) ⊎ IsIn m ms → (m ≡ x) ⊎ (comes_before x.0 m.0 ≡ true)
+        to m x ms e (inl s) = inl s
+        to m x ms e (inr i) = inr (behind x.0 ms e m i)
 
-    first_same : a ≡ b
-    first_same = head a b (to a b ns s.0 (h a (inl refl))) (to b a ms r.0 (k b (inl refl)))
+        first_same : a ≡ b
+        first_same = head a b (to a b ns s.0 (h a (inl refl))) (to b a ms r.0 (k b (inl refl)))
 
-    no_head : (m : List ℕ × ℕ) → m ≡ a → IsIn m ms → ⊥
-    no_head m e i =
-        true≢false (sym (behind a.0 ms r.0 m i) ∙ ap (λ z. comes_before a.0 z.0) e ∙ comes_before-same a.0)
+        no_head : (m : List ℕ × ℕ) → m ≡ a → IsIn m ms → ⊥
+        no_head m e i =
+            true≢false (sym (behind a.0 ms r.0 m i) ∙ ap (λ z. comes_before a.0 z.0) e ∙ comes_before-same a.0)
 
-    no_other : (m : List ℕ × ℕ) → m ≡ b → IsIn m ns → ⊥
-    no_other m e i =
-        true≢false (sym (behind b.0 ns s.0 m i) ∙ ap (λ z. comes_before b.0 z.0) e ∙ comes_before-same b.0)
+        no_other : (m : List ℕ × ℕ) → m ≡ b → IsIn m ns → ⊥
+        no_other m e i =
+            true≢false (sym (behind b.0 ns s.0 m i) ∙ ap (λ z. comes_before b.0 z.0) e ∙ comes_before-same b.0)
 
-    rest : (m : List ℕ × ℕ) → (m ≡ b) ⊎ IsIn m ns → IsIn m ms → IsIn m ns
-    rest m (inl e) i = absurd (no_head m (e ∙ sym first_same) i)
-    rest m (inr j) i = j
+        rest : (m : List ℕ × ℕ) → (m ≡ b) ⊎ IsIn m ns → IsIn m ms → IsIn m ns
+        rest m (inl e) i = absurd (no_head m (e ∙ sym first_same) i)
+        rest m (inr j) i = j
 
-    back : (m : List ℕ × ℕ) → (m ≡ a) ⊎ IsIn m ms → IsIn m ns → IsIn m ms
-    back m (inl e) i = absurd (no_other m (e ∙ first_same) i)
-    back m (inr j) i = j
+        back : (m : List ℕ × ℕ) → (m ≡ a) ⊎ IsIn m ms → IsIn m ns → IsIn m ms
+        back m (inl e) i = absurd (no_other m (e ∙ first_same) i)
+        back m (inr j) i = j
 
 -- the definition's list
 

@@ -135,7 +135,12 @@ fn name(alloc: Global, lists: &[StrList], slot: Slot, behind: u32) -> Result<Str
     match slot {
         Slot::Index(_) => Str::from_text(alloc, ""),
         Slot::Name(cell, first) => {
-            word(alloc, lists, cell as usize, first as usize + behind as usize)
+            word(
+                alloc,
+                lists,
+                cell as usize,
+                first as usize + behind as usize,
+            )
         }
     }
 }
@@ -150,7 +155,7 @@ fn add_members(
 ) -> Result<(), Memory>
     ensures { OnOk result (map member_view members.new.items ≡ map member_view members.old.items
         ++ map (W.named (word_at lists.now) (place_at places.now))
-            (repeated (slot_view run.now.slot) run.now.count run.now.goal)) }
+        (repeated (slot_view run.now.slot) run.now.count run.now.goal)) }
 {
     let part = PartId(place_of(places, run.goal));
     for behind in 0..run.count {

@@ -164,7 +164,14 @@ impl Rounds {
         let mut parts = Parts::new(alloc);
         let mut last = PartId(0);
         for place in 0..goals.len() {
-            last = self.add_part(alloc, explored, expander, goals[place], &mut places, &mut parts)?;
+            last = self.add_part(
+                alloc,
+                explored,
+                expander,
+                goals[place],
+                &mut places,
+                &mut parts,
+            )?;
         }
         Ok((parts, last))
     }

@@ -104,11 +104,11 @@ impl Small {
     {
         let members = vec![in alloc;
             placed(Slot::Name(1, 0), &self.third)?,
-            placed(Slot::Name(0, 0), &self.fourth)?
+            placed(Slot::Name(0, 0), &self.fourth)?,
         ]?;
         let fillers = vec![in alloc;
             filler(Slot::Name(0, 1), &self.second)?,
-            filler(Slot::Name(0, 2), &self.third)?
+            filler(Slot::Name(0, 2), &self.third)?,
         ]?;
         let object = only(JsonKind::Object, Shape::Members, members, 1, fillers);
         let array = array(alloc, &self.second, false)?;
@@ -119,9 +119,7 @@ impl Small {
         ensures { IfOk result (λ e. expansion_view e
             ≡ small false true true self.now.root self.now.second self.now.third self.now.fourth) }
     {
-        Ok(expansion(
-            vec![in alloc; array(alloc, &self.second, false)?]?,
-        ))
+        Ok(expansion(vec![in alloc; array(alloc, &self.second, false)?]?))
     }
 
     fn of_third(&self, alloc: Global) -> Result<Expansion, Memory>
@@ -142,9 +140,7 @@ impl Small {
         ensures { IfOk result (λ e. expansion_view e
             ≡ small false false false self.now.root self.now.second self.now.third self.now.fourth) }
     {
-        Ok(expansion(
-            vec![in alloc; array(alloc, &self.third, true)?]?,
-        ))
+        Ok(expansion(vec![in alloc; array(alloc, &self.third, true)?]?))
     }
 }
 
@@ -214,7 +210,12 @@ impl Expander for Small {
 
 /// Four goals, each of one position.
 fn expander(alloc: Global) -> Result<Small, Fail> {
-    let nodes = vec![in alloc; Node::BoolIs(true), Node::BoolIs(true), Node::BoolIs(true), Node::BoolIs(true)]?;
+    let nodes = vec![in alloc;
+        Node::BoolIs(true),
+        Node::BoolIs(true),
+        Node::BoolIs(true),
+        Node::BoolIs(true),
+    ]?;
     let ranks = vec![in alloc; 0, 1, 2, 3]?;
     let core = Core::make(NodeList::from_vec(nodes), RankList::from_vec(ranks));
     Ok(Small {

@@ -134,8 +134,13 @@ loop-place-preserved g c =
           c.add_part.new.places c.index.result.now l at (omega (arith, small, v.room)) (v.made r)
           (c.in_ok-last.ensures.parts ∙ ap (λ z. c.loop-place.parts ++ W.part words X f (place_at z) c.index.result.now ∷ []) shown)
           (c.in_ok-last.ensures.places ∙ ap₂ (λ z k. set z c.index.result.now k) shown v.count));
-      count = omega (arith, v.count, grown, length-append c.loop-place.parts (W.part words X f
-          (place_at c.deref_mut.result.now) c.index.result.now ∷ []));
+      count = omega (
+        arith,
+        v.count,
+        grown,
+        length-append c.loop-place.parts (W.part words X f
+            (place_at c.deref_mut.result.now) c.index.result.now ∷ []),
+      );
       room = ap length all ∙ long ∙ v.room;
       last = λ k. omega (arith, c.in_ok-last.ensures.number, v.count);
     }
