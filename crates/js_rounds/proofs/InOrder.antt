@@ -215,7 +215,8 @@ pub sorted_rises : (ms : List (List ℕ × ℕ)) → are_different same_word (ma
     → members_rise (sorted ms) ≡ true
 sorted_rises [] e = refl
 sorted_rises (x ∷ ms) e =
-    let (a, b) = and_parts (not (some (same_word x.0) (map (λ m. m.0) ms))) (are_different same_word (map (λ m. m.0) ms)) e in
+    let (a, b) = and_parts (not (some (same_word x.0) (map (λ m. m.0) ms))) (are_different same_word (map (λ m.
+    m.0) ms)) e in
     put_rises x.0 x.1 (sorted ms) (λ m i. other ms a m (sorted_in ms m i)) (sorted_rises ms b) where
       other : (ms : List (List ℕ × ℕ)) → not (some (same_word x.0) (map (λ m. m.0) ms)) ≡ true
           → (m : List ℕ × ℕ) → IsIn m ms → same_word x.0 m.0 ≡ false
@@ -276,7 +277,8 @@ module _ {A : Type 0} (name : A → List ℕ) (part : A → ℕ) where
           → comes_before (name (get_or (x ∷ y ∷ ys) (suc k + 1) e)) (name (get_or (x ∷ y ∷ ys) (suc k) e)) ≡ false
           → comes_before (name (get_or (y ∷ ys) (k + 1) e)) (name (get_or (y ∷ ys) k e)) ≡ false
       next k e q =
-          subst (λ z. comes_before (name (get_or (x ∷ y ∷ ys) z e)) (name (get_or (y ∷ ys) k e)) ≡ false) (plus k) q where
+          subst (λ z. comes_before (name (get_or (x ∷ y ∷ ys) z e)) (name (get_or (y ∷ ys) k e)) ≡ false) (plus k)
+          q where
             plus : (k : ℕ) → suc k + 1 ≡ suc (k + 1)
             plus k = omega arith
 
@@ -300,7 +302,8 @@ module _ {A : Type 0} (name : A → List ℕ) (part : A → ℕ) where
       → IsSortedBy (λ x y. comes_before (name x) (name y)) ys
       → are_different same_word (map (λ m. m.0) (map View xs)) ≡ true → members_rise (map View ys) ≡ true
   sort_rises xs ys p h d =
-      rising ys (IsDistinct-IsPermutation (λ x y. same_word (name x) (name y)) (λ x y. same_word_flip (name x) (name y)) xs ys p
+      rising ys (IsDistinct-IsPermutation (λ x y. same_word (name x) (name y)) (λ x y. same_word_flip (name x)
+      (name y)) xs ys p
       (distinct xs d)) (λ k e l. h k e (omega arith) l)
 
   pub sort_same : (xs ys : List A) → IsPermutation xs ys

@@ -43,7 +43,8 @@ module _ (expansion : List Signed → Expansion) (f : Found) where
       chosen_same g =
           ap₂ chosen_in (x.alternatives g ∙ ap (λ z. alternatives_of expansion z g) same) (h.answers g)
 
-      pub contents_same : (g : ℕ) → round expansion f (length f.goals) g ≡ true → contents_at e r g ≡ contents expansion f g
+      pub contents_same : (g : ℕ) → round expansion f (length f.goals) g ≡ true → contents_at e r g ≡ contents
+          expansion f g
       contents_same g reached =
           let n : Entered expansion f g = entered expansion f (length f.goals) g reached in
           let few = n.few in

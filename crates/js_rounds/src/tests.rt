@@ -195,17 +195,23 @@ impl Expander for Small {
         Ok(StrList::from_vec(words))
     }
 
-    ghost named_taken = { λ x g h. takes_named x.root x.second x.third x.fourth (same_goal g x.root) (same_goal g x.second) (same_goal g x.third) };
+    ghost named_taken = { λ x g h. takes_named x.root x.second x.third x.fourth
+        (same_goal g x.root) (same_goal g x.second) (same_goal g x.third) };
 
-    ghost of_branches = { λ x g h. in_branches x.root x.second x.third x.fourth (same_goal g x.root) (same_goal g x.second) (same_goal g x.third) };
+    ghost of_branches = { λ x g h. in_branches x.root x.second x.third x.fourth
+        (same_goal g x.root) (same_goal g x.second) (same_goal g x.third) };
 
-    ghost words_named = { λ x g h. words_found x.root x.second x.third x.fourth (same_goal g x.root) (same_goal g x.second) (same_goal g x.third) };
+    ghost words_named = { λ x g h. words_found x.root x.second x.third x.fourth
+        (same_goal g x.root) (same_goal g x.second) (same_goal g x.third) };
 
-    ghost slots_fit = { λ x g h. fitting_slots x.root x.second x.third x.fourth (same_goal g x.root) (same_goal g x.second) (same_goal g x.third) };
+    ghost slots_fit = { λ x g h. fitting_slots x.root x.second x.third x.fourth
+        (same_goal g x.root) (same_goal g x.second) (same_goal g x.third) };
 
-    ghost slots_differ = { λ x g h. different_slots x.root x.second x.third x.fourth (same_goal g x.root) (same_goal g x.second) (same_goal g x.third) };
+    ghost slots_differ = { λ x g h. different_slots x.root x.second x.third x.fourth
+        (same_goal g x.root) (same_goal g x.second) (same_goal g x.third) };
 
-    ghost words_differ = { λ x g h. different_words x.root x.second x.third x.fourth (same_goal g x.root) (same_goal g x.second) (same_goal g x.third) };
+    ghost words_differ = { λ x g h. different_words x.root x.second x.third x.fourth
+        (same_goal g x.root) (same_goal g x.second) (same_goal g x.third) };
 }
 
 /// Four goals, each of one position.

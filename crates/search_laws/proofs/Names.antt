@@ -58,7 +58,8 @@ different_sub same _ _ none e = refl
 different_sub same _ _ (keep x xs ys s) e =
     let (a, b) = and_parts (not (some (same x) ys)) (are_different same ys) e in
     and_from (not (some (same x) xs)) (are_different same xs)
-    (not_from (some (same x) xs) (some_sub (same x) xs ys s (not_true (some (same x) ys) a))) (different_sub same xs ys s b)
+    (not_from (some (same x) xs) (some_sub (same x) xs ys s (not_true (some (same x) ys) a))) (different_sub same
+    xs ys s b)
 different_sub same _ _ (skip y xs ys s) e =
     let (a, b) = and_parts (not (some (same y) ys)) (are_different same ys) e in different_sub same xs ys s b
 
@@ -190,9 +191,11 @@ module _ (cells : List (List (List ℕ))) where
       let (x, fs) = and_parts (has_text cells a.shape && every (λ m. has_room cells m.slot 1) a.members)
       (every (λ f. has_room cells f.slot f.room) a.fillers) e in
       let (t, ms) = and_parts (has_text cells a.shape) (every (λ m. has_room cells m.slot 1) a.members) x in
-      every_append (λ s. has_room cells s 1) (map (λ m. m.slot) a.members) (flat_map (λ f. slots_from f.slot f.room) a.fillers)
+      every_append (λ s. has_room cells s 1) (map (λ m. m.slot) a.members) (flat_map (λ f. slots_from f.slot
+      f.room) a.fillers)
       (every_map (λ s. has_room cells s 1) (λ (m : Placed). m.slot) a.members ∙ ms)
-      (every_flat (λ s. has_room cells s 1) (λ f. slots_from f.slot f.room) (λ f. has_room cells f.slot f.room) a.fillers
+      (every_flat (λ s. has_room cells s 1) (λ f. slots_from f.slot f.room) (λ f. has_room cells f.slot f.room)
+      a.fillers
       (λ f h. slots_room f.slot f.room h) fs)
 
 -- words at different places differ
@@ -408,7 +411,8 @@ module _ (gs : List (List Signed)) (bs : List Alternative) (a : Numbered) (h : I
       subst (λ z. Sub (map (λ p. p.slot) (contents_of has z)) (slots_of h.alternative)) (sym h.is)
       (contents_slots gs has h.alternative h.members h.numbers)
 
-  pub contents_room : has_words cells h.alternative ≡ true → every (λ p. has_room cells p.slot 1) (contents_of has a) ≡ true
+  pub contents_room : has_words cells h.alternative ≡ true → every (λ p. has_room cells p.slot 1) (contents_of has
+      a) ≡ true
   contents_room e =
       sym (every_map (λ s. has_room cells s 1) (λ (p : NumberedPlaced). p.slot) (contents_of has a))
       ∙ every_sub (λ s. has_room cells s 1) (map (λ p. p.slot) (contents_of has a)) (slots_of h.alternative) slots_are
@@ -428,8 +432,10 @@ module _ (gs : List (List Signed)) (bs : List Alternative) (a : Numbered) (h : I
   -- a text has its word
   pub text_room : a.shape ≡ Text → has_words cells h.alternative ≡ true → 0 < capacity (cell_at cells 0)
   text_room shape e =
-      let (x, fs) = and_parts (has_text cells h.alternative.shape && every (λ m. has_room cells m.slot 1) h.alternative.members)
+      let (x, fs) = and_parts (has_text cells h.alternative.shape && every (λ m. has_room cells m.slot 1)
+      h.alternative.members)
       (every (λ f. has_room cells f.slot f.room) h.alternative.fillers) e in
-      let (t, ms) = and_parts (has_text cells h.alternative.shape) (every (λ m. has_room cells m.slot 1) h.alternative.members) x in
+      let (t, ms) = and_parts (has_text cells h.alternative.shape) (every (λ m. has_room cells m.slot 1)
+      h.alternative.members) x in
       ltb-true 0 (capacity (cell_at cells 0))
       (subst (λ z. has_text cells z ≡ true) (sym (ap (λ z. z.shape) h.is) ∙ shape) t)

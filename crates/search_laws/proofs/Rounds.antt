@@ -143,7 +143,8 @@ module _ (T : List Position) (ok : IsTable T) (words : Kind → List Signed → 
           (sym (numbered_met (round (expansion T leaves) f r) f.goals (expansion T leaves g).alternatives) ∙ h) in (
             g,
             at,
-            subst (λ o. IsMade T (suc r) g (of_alternative (by_branch T words) (expansion T leaves) f Can' Child g o)) (sym p)
+            subst (λ o. IsMade T (suc r) g (of_alternative (by_branch T words) (expansion T leaves) f Can' Child g
+                o)) (sym p)
                 (expansion_made T ok words leaves right g r Can' Child children a i u),
           )
 

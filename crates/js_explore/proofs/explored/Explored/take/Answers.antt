@@ -15,5 +15,17 @@ invariant_of-push c =
     let few = few_numbered c.mention_all.new.self.goals.keys
     (map alternative_view c.as_slice-alternatives.result.now) in
     let shown = ap places c.as_slice-alternatives.ensures in
-    record { few = omega (arith, same, all, few, shown, c.places-places.ensures, c.if-from-places.false, c.from.ensures,
-    c.from-2.ensures, c.ranges.most_total.fits); }
+    record {
+      few = omega (
+        arith,
+        same,
+        all,
+        few,
+        shown,
+        c.places-places.ensures,
+        c.if-from-places.false,
+        c.from.ensures,
+        c.from-2.ensures,
+        c.ranges.most_total.fits,
+      );
+    }
