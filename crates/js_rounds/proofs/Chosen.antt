@@ -92,19 +92,23 @@ module _ (X : List Signed → Expansion) (takes : List Signed → Bool)
       (eq-eqb number.alternative.branch number.alternative.branch refl)))
 
   pub text : a.shape ≡ Text → 0 < capacity (cell_at (cells g a.kind a.branch) 0)
-  text s = text_room e.found.goals (X g).alternatives a number (round X e.found found.q) (cells g a.kind a.branch) s words
+  text s = text_room e.found.goals (X g).alternatives a number (round X e.found found.q) (cells g a.kind a.branch)
+      s words
 
   pub room : every (λ p. has_room (cells g a.kind a.branch) p.slot 1) (spread runs) ≡ true
   room =
       subst (λ ps. every (λ p. has_room (cells g a.kind a.branch) p.slot 1) ps ≡ true) (sym inside)
-      (contents_room e.found.goals (X g).alternatives a number (round X e.found found.q) (cells g a.kind a.branch) words)
+      (contents_room e.found.goals (X g).alternatives a number (round X e.found found.q) (cells g a.kind a.branch)
+      words)
 
   pub differ : (place : ℕ → ℕ) → a.shape ≡ Members
-      → are_different same_word (map (λ m. m.0) (map (named (word_at (cells g a.kind a.branch)) place) (spread runs))) ≡ true
+      → are_different same_word (map (λ m. m.0) (map (named (word_at (cells g a.kind a.branch)) place) (spread
+      runs))) ≡ true
   differ place s =
       subst (λ ps. are_different same_word (map (λ m. m.0)
       (map (named (word_at (cells g a.kind a.branch)) place) ps)) ≡ true) (sym inside)
-      (contents_apart e.found.goals (X g).alternatives a number (round X e.found found.q) (cells g a.kind a.branch) s words
+      (contents_apart e.found.goals (X g).alternatives a number (round X e.found found.q) (cells g a.kind a.branch)
+      s words
       (every_at has_fitting_slots number.alternative (X g).alternatives (slots_fit g taken) number.is_in)
       (every_at has_different_slots number.alternative (X g).alternatives (slots_differ g taken) number.is_in)
       (of_branch (λ c. has_different_words c ≡ true)

@@ -2,7 +2,7 @@
 use Rattle.std.proofs.Common.{◌≡◌, ℕ, zero, suc, ◌+◌, ◌≤◌, ◌<◌, ◌⊎◌, inl, inr, List, [], ◌∷◌, map, length, get_or, Bool, true, false, not, ◌&&◌, ◌||◌, cond, nat_eq, nat_lt, Ordering, Less, Equal, Greater, nat_cmp, refl, ap, ap₂, sym, ◌∙◌, subst, arith, true≢false, eqb-true, eq-eqb}
 use Rattle.std.specs.Ordering.{is_lt}
 use Rattle.std.specs.Cmp.{IsStrictWeakOrder}
-use Rattle.std.proofs.lemmas.Bool.{and_parts, and_from, cases_order}
+use Rattle.std.proofs.lemmas.Bool.{and_parts, and_from, cases_order, not-true}
 use Rattle.documents.specs.Tests.{every, some, same_word, comes_before}
 use Rattle.documents.proofs.NameOrder.{comes_before-same, comes_before-trans, smaller_first, same_first}
 use Rattle.alternatives.specs.Slots.{are_different}
@@ -17,7 +17,7 @@ use Rattle.std.specs.Cmp.Lexicographic.{slice_cmp}
 use Rattle.std.proofs.lemmas.List.Sorted.{Contains-permutation, IsPermutation-sym}
 use Rattle.std.proofs.lemmas.Map.Keys.{IsDistinct-IsPermutation}
 use Rattle.js_doc.proofs.WordOrder.{comes_before-chars, comes_after-chars, same_text}
-use Rattle.list_laws.proofs.Tests.{none_at, not_true}
+use Rattle.list_laws.proofs.Tests.{none_at}
 
 -- names
 
@@ -123,29 +123,29 @@ same_members ms ns a b h k = go ms ns (rises_from ms a) (rises_from ns b) h k wh
   go (a ∷ ms) [] r s h k = absurd (h a (inl refl))
   go (a ∷ ms) (b ∷ ns) r s h k = ap₂ (λ x xs. x ∷ xs) first_same
       (go ms ns r.1 s.1 (λ m i. rest m (h m (inr i)) i) (λ m i. back m (k m (inr i)) i)) where
-    to : (m x : List ℕ × ℕ) (ms : List (List ℕ × ℕ)) → every (λ y. comes_before x.0 y.0) ms ≡ true
-        → (m ≡ x) ⊎ IsIn m ms → (m ≡ x) ⊎ (comes_before x.0 m.0 ≡ true)
-    to m x ms e (inl s) = inl s
-    to m x ms e (inr i) = inr (behind x.0 ms e m i)
+        to : (m x : List ℕ × ℕ) (ms : List (List ℕ × ℕ)) → every (λ y. comes_before x.0 y.0) ms ≡ true
+            → (m ≡ x) ⊎ IsIn m ms → (m ≡ x) ⊎ (comes_before x.0 m.0 ≡ true)
+        to m x ms e (inl s) = inl s
+        to m x ms e (inr i) = inr (behind x.0 ms e m i)
 
-    first_same : a ≡ b
-    first_same = head a b (to a b ns s.0 (h a (inl refl))) (to b a ms r.0 (k b (inl refl)))
+        first_same : a ≡ b
+        first_same = head a b (to a b ns s.0 (h a (inl refl))) (to b a ms r.0 (k b (inl refl)))
 
-    no_head : (m : List ℕ × ℕ) → m ≡ a → IsIn m ms → ⊥
-    no_head m e i =
-        true≢false (sym (behind a.0 ms r.0 m i) ∙ ap (λ z. comes_before a.0 z.0) e ∙ comes_before-same a.0)
+        no_head : (m : List ℕ × ℕ) → m ≡ a → IsIn m ms → ⊥
+        no_head m e i =
+            true≢false (sym (behind a.0 ms r.0 m i) ∙ ap (λ z. comes_before a.0 z.0) e ∙ comes_before-same a.0)
 
-    no_other : (m : List ℕ × ℕ) → m ≡ b → IsIn m ns → ⊥
-    no_other m e i =
-        true≢false (sym (behind b.0 ns s.0 m i) ∙ ap (λ z. comes_before b.0 z.0) e ∙ comes_before-same b.0)
+        no_other : (m : List ℕ × ℕ) → m ≡ b → IsIn m ns → ⊥
+        no_other m e i =
+            true≢false (sym (behind b.0 ns s.0 m i) ∙ ap (λ z. comes_before b.0 z.0) e ∙ comes_before-same b.0)
 
-    rest : (m : List ℕ × ℕ) → (m ≡ b) ⊎ IsIn m ns → IsIn m ms → IsIn m ns
-    rest m (inl e) i = absurd (no_head m (e ∙ sym first_same) i)
-    rest m (inr j) i = j
+        rest : (m : List ℕ × ℕ) → (m ≡ b) ⊎ IsIn m ns → IsIn m ms → IsIn m ns
+        rest m (inl e) i = absurd (no_head m (e ∙ sym first_same) i)
+        rest m (inr j) i = j
 
-    back : (m : List ℕ × ℕ) → (m ≡ a) ⊎ IsIn m ms → IsIn m ns → IsIn m ms
-    back m (inl e) i = absurd (no_other m (e ∙ first_same) i)
-    back m (inr j) i = j
+        back : (m : List ℕ × ℕ) → (m ≡ a) ⊎ IsIn m ms → IsIn m ns → IsIn m ms
+        back m (inl e) i = absurd (no_other m (e ∙ first_same) i)
+        back m (inr j) i = j
 
 -- the definition's list
 
@@ -215,12 +215,13 @@ pub sorted_rises : (ms : List (List ℕ × ℕ)) → are_different same_word (ma
     → members_rise (sorted ms) ≡ true
 sorted_rises [] e = refl
 sorted_rises (x ∷ ms) e =
-    let (a, b) = and_parts (not (some (same_word x.0) (map (λ m. m.0) ms))) (are_different same_word (map (λ m. m.0) ms)) e in
+    let (a, b) = and_parts (not (some (same_word x.0) (map (λ m. m.0) ms))) (are_different same_word (map (λ m.
+    m.0) ms)) e in
     put_rises x.0 x.1 (sorted ms) (λ m i. other ms a m (sorted_in ms m i)) (sorted_rises ms b) where
       other : (ms : List (List ℕ × ℕ)) → not (some (same_word x.0) (map (λ m. m.0) ms)) ≡ true
           → (m : List ℕ × ℕ) → IsIn m ms → same_word x.0 m.0 ≡ false
       other ms a m i =
-          none_at (same_word x.0) m.0 (map (λ m. m.0) ms) (not_true (some (same_word x.0) (map (λ m. m.0) ms)) a)
+          none_at (same_word x.0) m.0 (map (λ m. m.0) ms) (not-true (some (same_word x.0) (map (λ m. m.0) ms)) a)
           (in_map (λ (m : List ℕ × ℕ). m.0) m ms i)
 
 -- what the program's sort leaves
@@ -251,7 +252,7 @@ module _ {A : Type 0} (name : A → List ℕ) (part : A → ℕ) where
   distinct (x ∷ xs) e =
       let (a, b) = and_parts (not (some (same_word (name x)) (map (λ m. m.0) (map View xs))))
       (are_different same_word (map (λ m. m.0) (map View xs))) e in
-      (none_same x xs (not_true (some (same_word (name x)) (map (λ m. m.0) (map View xs))) a), distinct xs b)
+      (none_same x xs (not-true (some (same_word (name x)) (map (λ m. m.0) (map View xs))) a), distinct xs b)
 
   rising : (ys : List A) → IsDistinct (λ x y. same_word (name x) (name y)) ys
       → ((k : ℕ) (d : A) → k + 1 < length ys
@@ -276,7 +277,8 @@ module _ {A : Type 0} (name : A → List ℕ) (part : A → ℕ) where
           → comes_before (name (get_or (x ∷ y ∷ ys) (suc k + 1) e)) (name (get_or (x ∷ y ∷ ys) (suc k) e)) ≡ false
           → comes_before (name (get_or (y ∷ ys) (k + 1) e)) (name (get_or (y ∷ ys) k e)) ≡ false
       next k e q =
-          subst (λ z. comes_before (name (get_or (x ∷ y ∷ ys) z e)) (name (get_or (y ∷ ys) k e)) ≡ false) (plus k) q where
+          subst (λ z. comes_before (name (get_or (x ∷ y ∷ ys) z e)) (name (get_or (y ∷ ys) k e)) ≡ false) (plus k)
+          q where
             plus : (k : ℕ) → suc k + 1 ≡ suc (k + 1)
             plus k = omega arith
 
@@ -300,7 +302,8 @@ module _ {A : Type 0} (name : A → List ℕ) (part : A → ℕ) where
       → IsSortedBy (λ x y. comes_before (name x) (name y)) ys
       → are_different same_word (map (λ m. m.0) (map View xs)) ≡ true → members_rise (map View ys) ≡ true
   sort_rises xs ys p h d =
-      rising ys (IsDistinct-IsPermutation (λ x y. same_word (name x) (name y)) (λ x y. same_word_flip (name x) (name y)) xs ys p
+      rising ys (IsDistinct-IsPermutation (λ x y. same_word (name x) (name y)) (λ x y. same_word_flip (name x)
+      (name y)) xs ys p
       (distinct xs d)) (λ k e l. h k e (omega arith) l)
 
   pub sort_same : (xs ys : List A) → IsPermutation xs ys

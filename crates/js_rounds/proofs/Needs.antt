@@ -143,7 +143,8 @@ module _ (cells : List (List (List ℕ))) where
       → wanted_by runs c ≤ capacity (cell_at cells c)
   wanted_room [] c e = omega arith
   wanted_room (r ∷ rs) c e =
-      let (a, b) = every_split (λ p. has_room cells p.slot 1) (repeated (slot_view r.slot) r.count r.goal) (spread rs) e in
+      let (a, b) = every_split (λ p. has_room cells p.slot 1) (repeated (slot_view r.slot) r.count r.goal) (spread
+      rs) e in
       let l = by (slot_view r.slot) r.count a in
       let m = wanted_room rs c b in
       omega (arith, l, m)

@@ -161,7 +161,8 @@ module _ (expansion : List Signed → Expansion) (f : Found) where
               (filter (is_added expansion f r) (j ∷ []))
               ∙ ap (λ l. in_order expansion f r ++ l)
               (sym (filter-append (is_added expansion f r) (range_with_len 0 j) (j ∷ []))
-              ∙ ap (filter (is_added expansion f r)) (ap (λ z. range_with_len 0 j ++ z ∷ []) (plus j) ∙ sym (range_more 0 j)));
+              ∙ ap (filter (is_added expansion f r)) (ap (λ z. range_with_len 0 j ++ z ∷ []) (plus j) ∙ sym
+              (range_more 0 j)));
         }
       where
         plus : (j : ℕ) → j ≡ 0 + j
@@ -199,7 +200,8 @@ module _ (expansion : List Signed → Expansion) (f : Found) where
         let b = length_take s.count s.order.items l in
         let c = ap length k.order in
         let d = length_take t.count t.order.items m in
-        let e = length-append (in_order expansion f r) (filter (is_added expansion f r) (range_with_len 0 (length f.goals))) in
+        let e = length-append (in_order expansion f r) (filter (is_added expansion f r) (range_with_len 0 (length
+        f.goals))) in
         ap (nat_lt s.count) (plus s.count t.count a b c d e)
         ∙ lt_plus s.count (length (filter (is_added expansion f r) (numbers expansion f)))
         ∙ sym (some_filter (is_added expansion f r) (numbers expansion f))
@@ -210,6 +212,7 @@ module _ (expansion : List Signed → Expansion) (f : Found) where
             ≡ length (in_order expansion f r ++ filter (is_added expansion f r) (range_with_len 0 (length f.goals)))
             → length (take t.count t.order.items) ≡ n
             → length (in_order expansion f r ++ filter (is_added expansion f r) (range_with_len 0 (length f.goals)))
-            ≡ length (in_order expansion f r) + length (filter (is_added expansion f r) (range_with_len 0 (length f.goals)))
+            ≡ length (in_order expansion f r) + length (filter (is_added expansion f r) (range_with_len 0 (length
+            f.goals)))
             → n ≡ m + length (filter (is_added expansion f r) (numbers expansion f))
         plus m n a b c d e = omega (arith, a, b, c, d, e)

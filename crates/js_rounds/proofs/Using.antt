@@ -34,28 +34,29 @@ get_take (suc k) (x ∷ xs) (suc j) d l = get_take k xs j d (omega (arith, l))
 module _ (expansion : List Signed → Expansion) (f : Found) where
   -- what the program looks at is what the definitions say
   module _ (e : Exploration) (x : Explores expansion e) (same : e.found ≡ f) (r : Rounds) (h : AreRounds expansion f r)
-      where
-    pub seen_all : (q g : ℕ) → q ≤ length f.goals → seen r.known.items q g ≡ round expansion f q g
-    seen_all q g l =
-        ap (λ o. is_by q o) (h.answers g) ∙ seen_by expansion f q (length f.goals) g l
+    where
+      pub seen_all : (q g : ℕ) → q ≤ length f.goals → seen r.known.items q g ≡ round expansion f q g
+      seen_all q g l =
+          ap (λ o. is_by q o) (h.answers g) ∙ seen_by expansion f q (length f.goals) g l
 
-    pub chosen_same : (g : ℕ) → chosen_in (alternatives_at e g) (answer_to r g) ≡ U.chosen expansion f g
-    chosen_same g =
-        ap₂ chosen_in (x.alternatives g ∙ ap (λ z. alternatives_of expansion z g) same) (h.answers g)
+      pub chosen_same : (g : ℕ) → chosen_in (alternatives_at e g) (answer_to r g) ≡ U.chosen expansion f g
+      chosen_same g =
+          ap₂ chosen_in (x.alternatives g ∙ ap (λ z. alternatives_of expansion z g) same) (h.answers g)
 
-    pub contents_same : (g : ℕ) → round expansion f (length f.goals) g ≡ true → contents_at e r g ≡ contents expansion f g
-    contents_same g reached =
-        let n : Entered expansion f g = entered expansion f (length f.goals) g reached in
-        let few = n.few in
-        ap₂ (λ b o. contents_seen (seen r.known.items b) o) (ap round_before (h.answers g ∙ n.is)) (chosen_same g)
-        ∙ ap (λ p. contents_seen p (U.chosen expansion f g)) (λ i m. seen_all n.q m (omega (arith, few)) i)
-        ∙ go n.q (U.chosen expansion f g)
-        ∙ ap (λ b. contents_in expansion f (round_before b) (U.chosen expansion f g)) (sym n.is)
-      where
-        go : (q : ℕ) (o : Option Numbered)
-            → contents_seen (round expansion f q) o ≡ contents_in expansion f q o
-        go q None = refl
-        go q (Some a) = refl
+      pub contents_same : (g : ℕ) → round expansion f (length f.goals) g ≡ true → contents_at e r g ≡ contents
+          expansion f g
+      contents_same g reached =
+          let n : Entered expansion f g = entered expansion f (length f.goals) g reached in
+          let few = n.few in
+          ap₂ (λ b o. contents_seen (seen r.known.items b) o) (ap round_before (h.answers g ∙ n.is)) (chosen_same g)
+          ∙ ap (λ p. contents_seen p (U.chosen expansion f g)) (λ i m. seen_all n.q m (omega (arith, few)) i)
+          ∙ go n.q (U.chosen expansion f g)
+          ∙ ap (λ b. contents_in expansion f (round_before b) (U.chosen expansion f g)) (sym n.is)
+        where
+          go : (q : ℕ) (o : Option Numbered)
+              → contents_seen (round expansion f q) o ≡ contents_in expansion f q o
+          go q None = refl
+          go q (Some a) = refl
 
   module _ (n : ℕ) (reached : round expansion f (length f.goals) n ≡ true) where
     abbrev Order : List ℕ

@@ -1,4 +1,5 @@
--- What a reader must believe: what rounds hold before they are run and after, and what an answer says; the words by which
+-- What a reader must believe: what rounds hold before they are run and after, and what an answer says; the words
+-- by which
 -- a document is built.
 pub mod State
 pub mod Slots

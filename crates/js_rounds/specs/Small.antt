@@ -22,7 +22,8 @@ abbrev pub alternative : Kind → Shape → List Placed → ℕ → List Filler 
 alternative t s members need fillers =
     record { kind = t; branch = 0; shape = s; members = members; need = need; fillers = fillers }
 
--- the root: an array of the second goal; or an object of the third and the fourth, and of one more. The second: an array
+-- the root: an array of the second goal; or an object of the third and the fourth, and of one more. The second: an
+-- array
 -- of itself. The third: null. Every other: an array of the third, twice
 abbrev pub small : Bool → Bool → Bool → List Signed → List Signed → List Signed → List Signed → Expansion
 small true _ _ a b c d = expansion_of (alternative K.Array Elements (at (Index 0) b ∷ []) 0 []

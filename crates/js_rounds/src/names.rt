@@ -82,7 +82,8 @@ fn cell_words<E: Expander>(
     requires taken { E.takes expander.now goal.now ≡ true }
     requires branch { names_branch (E.expansion expander.now goal.now) (kind_view branch.kind) branch.number ≡ true }
     requires cell { cell < 2 ^ 32 }
-    requires need { need ≤ capacity (cell_at (E.cells expander.now goal.now (kind_view branch.kind) branch.number) cell) }
+    requires need { need
+        ≤ capacity (cell_at (E.cells expander.now goal.now (kind_view branch.kind) branch.number) cell) }
     ensures { IfOk result (λ l. l
         ≡ take need (cell_at (E.cells expander.now goal.now (kind_view branch.kind) branch.number) cell)) }
 {
@@ -135,7 +136,12 @@ fn name(alloc: Global, lists: &[StrList], slot: Slot, behind: u32) -> Result<Str
     match slot {
         Slot::Index(_) => Str::from_text(alloc, ""),
         Slot::Name(cell, first) => {
-            word(alloc, lists, cell as usize, first as usize + behind as usize)
+            word(
+                alloc,
+                lists,
+                cell as usize,
+                first as usize + behind as usize,
+            )
         }
     }
 }
@@ -150,7 +156,7 @@ fn add_members(
 ) -> Result<(), Memory>
     ensures { OnOk result (map member_view members.new.items ≡ map member_view members.old.items
         ++ map (W.named (word_at lists.now) (place_at places.now))
-            (repeated (slot_view run.now.slot) run.now.count run.now.goal)) }
+        (repeated (slot_view run.now.slot) run.now.count run.now.goal)) }
 {
     let part = PartId(place_of(places, run.goal));
     for behind in 0..run.count {
@@ -208,10 +214,12 @@ pub(crate) fn members<E: Expander>(
     requires room { every (λ p. has_room (E.cells expander.now goal.now (kind_view branch.kind) branch.number) p.slot 1)
         (spread runs.now) ≡ true }
     requires differ { are_different same_word (map (λ m. m.0)
-        (map (W.named (word_at (E.cells expander.now goal.now (kind_view branch.kind) branch.number)) (place_at places.now))
+        (map (W.named (word_at (E.cells expander.now goal.now (kind_view branch.kind) branch.number))
+        (place_at places.now))
         (spread runs.now))) ≡ true }
     ensures { IfOk result (λ m. m ≡ W.sorted
-        (map (W.named (word_at (E.cells expander.now goal.now (kind_view branch.kind) branch.number)) (place_at places.now))
+        (map (W.named (word_at (E.cells expander.now goal.now (kind_view branch.kind) branch.number))
+        (place_at places.now))
         (spread runs.now))) }
 {
     let lists = words_of(alloc, expander, goal, branch, runs)?;

@@ -80,7 +80,8 @@ impl Rounds {
         requires explores { Explores (E.expansion expander.now) (explored_view explored.now) }
         requires rounds { AreRounds (E.expansion expander.now) (explored_view explored.now).found self.now }
         requires taken { every (E.takes expander.now) (explored_view explored.now).found.goals ≡ true }
-        requires satisfied { is_some (U.satisfied (E.expansion expander.now) (explored_view explored.now).found goal) ≡ true }
+        requires satisfied { is_some (U.satisfied (E.expansion expander.now) (explored_view explored.now).found goal)
+            ≡ true }
         ensures { IfOk result (λ p. part_view p ≡ W.part (words_by (E.cells expander.now)) (E.expansion expander.now)
             (explored_view explored.now).found (place_at places.now) goal) }
     {
@@ -111,7 +112,8 @@ impl Rounds {
         requires explores { Explores (E.expansion expander.now) (explored_view explored.now) }
         requires rounds { AreRounds (E.expansion expander.now) (explored_view explored.now).found self.now }
         requires taken { every (E.takes expander.now) (explored_view explored.now).found.goals ≡ true }
-        requires satisfied { is_some (U.satisfied (E.expansion expander.now) (explored_view explored.now).found goal) ≡ true }
+        requires satisfied { is_some (U.satisfied (E.expansion expander.now) (explored_view explored.now).found goal)
+            ≡ true }
         requires place { goal < length places.old }
         requires few { length parts.old < 4294967295 }
         requires below { first_forward (length parts.old) (W.part (words_by (E.cells expander.now))
@@ -134,7 +136,7 @@ impl Rounds {
     }
 
     /// The document of a goal that has an answer, in parts: one for the goal and one for each goal that its document
-    /// uses, directly or through others. They stand in order of least round, then number, so the goal's own is the last.
+    /// uses, directly or through others. They stand in order of least round, then number, so the goal's own is last.
     ///
     /// It costs what the used goals contain, a step for each goal that has an answer, and the sorting of each object's
     /// members by name; each cell of a used goal's branch is asked for once, with as many words as are needed.
@@ -150,7 +152,8 @@ impl Rounds {
         requires explores { Explores (E.expansion expander.now) (explored_view explored.now) }
         requires rounds { AreRounds (E.expansion expander.now) (explored_view explored.now).found self.now }
         requires taken { every (E.takes expander.now) (explored_view explored.now).found.goals ≡ true }
-        requires satisfied { is_some (U.satisfied (E.expansion expander.now) (explored_view explored.now).found goal) ≡ true }
+        requires satisfied { is_some (U.satisfied (E.expansion expander.now) (explored_view explored.now).found goal)
+            ≡ true }
         ensures parts { IfOk result (λ w. w.0 ≡ W.parts (words_by (E.cells expander.now)) (E.expansion expander.now)
             (explored_view explored.now).found goal) }
         ensures last { IfOk result (λ w. w.1.0 + 1 ≡ length w.0) }
@@ -164,7 +167,14 @@ impl Rounds {
         let mut parts = Parts::new(alloc);
         let mut last = PartId(0);
         for place in 0..goals.len() {
-            last = self.add_part(alloc, explored, expander, goals[place], &mut places, &mut parts)?;
+            last = self.add_part(
+                alloc,
+                explored,
+                expander,
+                goals[place],
+                &mut places,
+                &mut parts,
+            )?;
         }
         Ok((parts, last))
     }

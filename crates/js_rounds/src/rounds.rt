@@ -79,7 +79,7 @@ impl Rounds {
         ensures added { (expansion : List Signed → X.Expansion) → Explores expansion (explored_view explored.now)
             → IsAt expansion (explored_view explored.now).found round self.old
             → result ≡ some (U.is_added expansion (explored_view explored.now).found round)
-                (U.numbers expansion (explored_view explored.now).found) }
+            (U.numbers expansion (explored_view explored.now).found) }
         ensures roomy { IsRoomy (length (explored_view explored.now).found.goals) self.new }
         ensures last { self.new.last ≡ self.old.last }
         ensures has_run { self.new.has_run ≡ self.old.has_run }

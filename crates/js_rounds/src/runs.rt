@@ -32,7 +32,7 @@ fn add_filler(
 ) -> Result<u32, Memory>
     ensures found { OnOk result (spread found.new.items ≡ spread found.old.items
         ++ cond (seen known.now round filler.now.goal)
-            (U.repeated (slot_view filler.now.slot) (min need filler.now.room) filler.now.goal) []) }
+        (U.repeated (slot_view filler.now.slot) (min need filler.now.room) filler.now.goal) []) }
     ensures left { IfOk result (λ n. n ≡ cond (seen known.now round filler.now.goal) (need - filler.now.room) need) }
 {
     if !has(known, filler.goal, round) {

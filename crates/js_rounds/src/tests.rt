@@ -104,11 +104,11 @@ impl Small {
     {
         let members = vec![in alloc;
             placed(Slot::Name(1, 0), &self.third)?,
-            placed(Slot::Name(0, 0), &self.fourth)?
+            placed(Slot::Name(0, 0), &self.fourth)?,
         ]?;
         let fillers = vec![in alloc;
             filler(Slot::Name(0, 1), &self.second)?,
-            filler(Slot::Name(0, 2), &self.third)?
+            filler(Slot::Name(0, 2), &self.third)?,
         ]?;
         let object = only(JsonKind::Object, Shape::Members, members, 1, fillers);
         let array = array(alloc, &self.second, false)?;
@@ -119,9 +119,7 @@ impl Small {
         ensures { IfOk result (λ e. expansion_view e
             ≡ small false true true self.now.root self.now.second self.now.third self.now.fourth) }
     {
-        Ok(expansion(
-            vec![in alloc; array(alloc, &self.second, false)?]?,
-        ))
+        Ok(expansion(vec![in alloc; array(alloc, &self.second, false)?]?))
     }
 
     fn of_third(&self, alloc: Global) -> Result<Expansion, Memory>
@@ -142,9 +140,7 @@ impl Small {
         ensures { IfOk result (λ e. expansion_view e
             ≡ small false false false self.now.root self.now.second self.now.third self.now.fourth) }
     {
-        Ok(expansion(
-            vec![in alloc; array(alloc, &self.third, true)?]?,
-        ))
+        Ok(expansion(vec![in alloc; array(alloc, &self.third, true)?]?))
     }
 }
 
@@ -199,22 +195,33 @@ impl Expander for Small {
         Ok(StrList::from_vec(words))
     }
 
-    ghost named_taken = { λ x g h. takes_named x.root x.second x.third x.fourth (same_goal g x.root) (same_goal g x.second) (same_goal g x.third) };
+    ghost named_taken = { λ x g h. takes_named x.root x.second x.third x.fourth
+        (same_goal g x.root) (same_goal g x.second) (same_goal g x.third) };
 
-    ghost of_branches = { λ x g h. in_branches x.root x.second x.third x.fourth (same_goal g x.root) (same_goal g x.second) (same_goal g x.third) };
+    ghost of_branches = { λ x g h. in_branches x.root x.second x.third x.fourth
+        (same_goal g x.root) (same_goal g x.second) (same_goal g x.third) };
 
-    ghost words_named = { λ x g h. words_found x.root x.second x.third x.fourth (same_goal g x.root) (same_goal g x.second) (same_goal g x.third) };
+    ghost words_named = { λ x g h. words_found x.root x.second x.third x.fourth
+        (same_goal g x.root) (same_goal g x.second) (same_goal g x.third) };
 
-    ghost slots_fit = { λ x g h. fitting_slots x.root x.second x.third x.fourth (same_goal g x.root) (same_goal g x.second) (same_goal g x.third) };
+    ghost slots_fit = { λ x g h. fitting_slots x.root x.second x.third x.fourth
+        (same_goal g x.root) (same_goal g x.second) (same_goal g x.third) };
 
-    ghost slots_differ = { λ x g h. different_slots x.root x.second x.third x.fourth (same_goal g x.root) (same_goal g x.second) (same_goal g x.third) };
+    ghost slots_differ = { λ x g h. different_slots x.root x.second x.third x.fourth
+        (same_goal g x.root) (same_goal g x.second) (same_goal g x.third) };
 
-    ghost words_differ = { λ x g h. different_words x.root x.second x.third x.fourth (same_goal g x.root) (same_goal g x.second) (same_goal g x.third) };
+    ghost words_differ = { λ x g h. different_words x.root x.second x.third x.fourth
+        (same_goal g x.root) (same_goal g x.second) (same_goal g x.third) };
 }
 
 /// Four goals, each of one position.
 fn expander(alloc: Global) -> Result<Small, Fail> {
-    let nodes = vec![in alloc; Node::BoolIs(true), Node::BoolIs(true), Node::BoolIs(true), Node::BoolIs(true)]?;
+    let nodes = vec![in alloc;
+        Node::BoolIs(true),
+        Node::BoolIs(true),
+        Node::BoolIs(true),
+        Node::BoolIs(true),
+    ]?;
     let ranks = vec![in alloc; 0, 1, 2, 3]?;
     let core = Core::make(NodeList::from_vec(nodes), RankList::from_vec(ranks));
     Ok(Small {

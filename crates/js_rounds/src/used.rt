@@ -30,7 +30,7 @@ fn mark_run(marks: &mut [bool], run: &Run)
     ensures length { length marks.new ≡ length marks.old }
     ensures marks { (m : ℕ) → m < length marks.old → get_or marks.new m false
         ≡ (get_or marks.old m false
-            || some (λ p. nat_eq p.goal m) (U.repeated (slot_view run.now.slot) run.now.count run.now.goal)) }
+        || some (λ p. nat_eq p.goal m) (U.repeated (slot_view run.now.slot) run.now.count run.now.goal)) }
 {
     let goal = run.goal as usize;
     if run.count > 0 && goal < marks.len() {
@@ -104,7 +104,7 @@ impl Rounds {
         ensures length { length marks.new ≡ length marks.old }
         ensures marks { OnOk result ((m : ℕ) → m < length marks.old → get_or marks.new m false
             ≡ (get_or marks.old m false || (get_or marks.old goal false
-                && some (λ p. nat_eq p.goal m) (contents_at (explored_view explored.now) self.now goal)))) }
+            && some (λ p. nat_eq p.goal m) (contents_at (explored_view explored.now) self.now goal)))) }
         ensures found { OnOk result (found.new.items
             ≡ found.old.items ++ cond (get_or marks.old goal false) (goal ∷ []) []) }
     {

@@ -29,7 +29,8 @@ module _ (expansion : List Signed → Expansion) (f : Found) where
 
   first_same : (r n : ℕ)
       → first_place (is_met (λ m. is_some (answer expansion f r m))) (alternatives_of expansion f n) ≡ First r n
-  first_same r n = ap (λ p. first_place (is_met p) (alternatives_of expansion f n)) (λ i m. answer_round expansion f r m i)
+  first_same r n = ap (λ p. first_place (is_met p) (alternatives_of expansion f n)) (λ i m. answer_round expansion
+      f r m i)
 
   -- a goal enters in round q + 1, by the first alternative that round q meets
   pub record Enters (n q i : ℕ) : Type 0 where

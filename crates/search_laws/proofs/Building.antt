@@ -141,7 +141,8 @@ module _ (words : List Signed → Kind → ℕ → ℕ → ℕ → List ℕ) (ex
       parts = e
           ∙ ap₂ (λ a b. a ++ b ∷ []) h.parts
           (ap (part words expansion f (λ m. get_or places m 0)) at ∙ same_part i made places l h)
-          ∙ sym (map-append (part words expansion f (place_in (used_goals expansion f n))) (take i Used) (get_or Used i 0 ∷ []))
+          ∙ sym (map-append (part words expansion f (place_in (used_goals expansion f n))) (take i Used) (get_or
+          Used i 0 ∷ []))
           ∙ ap (map (part words expansion f (place_in (used_goals expansion f n)))) (sym (take_more Used i 0 l));
       numbers = λ m j.
           ap (λ z. get_or z m 0) k
@@ -171,8 +172,10 @@ module _ (words : List Signed → Kind → ℕ → ℕ → ℕ → List ℕ) (ex
     pub next_below : (i : ℕ) (made : List Part) (places : List ℕ) (o : ℕ) → i < length Used → o ≡ get_or Used i 0
         → Made i made places → first_forward i (part words expansion f (λ m. get_or places m 0) o) ≡ None
     next_below i made places o l at h =
-        ap (λ z. first_forward i z) (ap (part words expansion f (λ m. get_or places m 0)) at ∙ same_part i made places l h)
+        ap (λ z. first_forward i z) (ap (part words expansion f (λ m. get_or places m 0)) at ∙ same_part i made
+        places l h)
         ∙ none_forward i (P.named (part words expansion f (place_in (used_goals expansion f n)) (get_or Used i 0)))
-        (subst (λ z. names_below z (part words expansion f (place_in (used_goals expansion f n)) (get_or Used i 0)) ≡ true)
+        (subst (λ z. names_below z (part words expansion f (place_in (used_goals expansion f n)) (get_or Used i 0))
+        ≡ true)
         (place_at_index Used i (used_distinct expansion f n) l)
         (part_below words expansion f n reached (get_or Used i 0) (in_at Used i 0 l)))

@@ -147,7 +147,8 @@ module _ (p : ℕ → Bool) (gs : List (List Signed)) where
       or_false false = refl
 
       met : E.is_met (λ g. by_number false p gs g) a ≡ is_met p (number_as gs a ns)
-      met = sym (one_met p gs a) ∙ ap (λ o. some (is_met p) (with_members gs a o)) q ∙ or_false (is_met p (number_as gs a ns))
+      met = sym (one_met p gs a) ∙ ap (λ o. some (is_met p) (with_members gs a o)) q ∙ or_false (is_met p
+          (number_as gs a ns))
 
       by : (b : Bool) → is_met p (number_as gs a ns) ≡ b
           → ((j : ℕ) → first_place (is_met p) (numbered gs bs) ≡ Some j → IsFirst bs j)
@@ -172,7 +173,8 @@ module _ (p : ℕ → Bool) (gs : List (List Signed)) where
             record {
               alternative = k.alternative;
               members = k.members;
-              is_first = ap (λ b. cond b (Some a) (first (E.is_met (λ g. by_number false p gs g)) bs)) (met ∙ h) ∙ k.is_first;
+              is_first = ap (λ b. cond b (Some a) (first (E.is_met (λ g. by_number false p gs g)) bs)) (met ∙ h) ∙
+                  k.is_first;
               numbers = k.numbers;
               at = ap (λ o. slice_get (with_members gs a o ++ numbered gs bs) i) q
                   ∙ subst (λ z. slice_get (number_as gs a ns ∷ numbered gs bs) z
@@ -247,7 +249,8 @@ module _ (words : List Signed → Kind → ℕ → ℕ → ℕ → List ℕ) (ex
           same = ap (of_alternative words expansion f (by_number false (round expansion f q) f.goals)
               (λ g. of_number (document words expansion f q) (number_in f.goals g)) g) h.is_first
               ∙ ap (by_shape (words g h.alternative.kind h.alternative.branch) h.alternative.shape)
-              (parts_same (round expansion f q) f.goals (document words expansion f q) h.alternative h.members h.numbers);
+              (parts_same (round expansion f q) f.goals (document words expansion f q) h.alternative h.members
+              h.numbers);
         }
 
   -- the alternative of an answer is the one by which the document is built

@@ -142,7 +142,8 @@ module _ (expansion : List Signed → Expansion) (f : Found) (n : ℕ)
               let (u, c) =
               and_parts (uses expansion f Count n h) (some (λ p. nat_eq p.goal o) (contents expansion f h)) b in
               let (p, k, s) = some_find (λ p. nat_eq p.goal o) (contents expansion f h) c in
-              subst (λ z. uses expansion f Count n z ≡ true) (eqb-true p.goal o s) (used_on expansion f n h p reached u k)
+              subst (λ z. uses expansion f Count n z ≡ true) (eqb-true p.goal o s) (used_on expansion f n h p
+              reached u k)
 
     back : uses expansion f Count n o ≡ true → marked (drop (suc j) Order) o ≡ true
     back e = go (inside Count n o e) where

@@ -1,13 +1,13 @@
 -- What the document of an alternative names: words of the cells of its branch, each once.
 use Rattle.std.proofs.Common.{◌≡◌, ◌≢◌, ℕ, zero, suc, ◌+◌, ◌-◌, ◌≤◌, ◌<◌, ◌⊎◌, inl, inr, min, List, [], ◌∷◌, ◌++◌, map, flat_map, length, get_or, Bool, true, false, not, ◌&&◌, ◌||◌, cond, nat_eq, nat_le, nat_lt, Option, Some, None, slice_get, refl, ap, ap₂, sym, ◌∙◌, subst, arith, true≢false, eqb-true, eq-eqb}
-use Rattle.std.proofs.lemmas.Bool.{and_parts, and_from, or_cases, or_left, or_right, leb-true, le-leb, ltb-true, lt-ltb, cases_lt}
+use Rattle.std.proofs.lemmas.Bool.{and_parts, and_from, or_cases, or_left, or_right, leb-true, le-leb, ltb-true, lt-ltb, cases_lt, not-true}
 use Rattle.std.proofs.lemmas.Bool.Decides.{eqb_tells}
 use Rattle.std.proofs.lemmas.List.{map-append}
 use Rattle.documents.specs.Tests.{every, some, same_word}
 use Rattle.goals.specs.Signed.{Signed}
 use Rattle.list_laws.specs.In.{IsIn}
 use Rattle.list_laws.proofs.Lists.{in_left, in_right, from_flat_map}
-use Rattle.list_laws.proofs.Tests.{not_true, some_none, none_at}
+use Rattle.list_laws.proofs.Tests.{some_none, none_at}
 use Rattle.alternatives.specs.Alternative.{Slot, Index, Name, Shape, Null, Truth, Number, Text, Elements, Members, Placed, Filler, Alternative}
 use Rattle.alternatives.specs.Slots.{capacity, cell_at, word_at, has_room, has_text, has_words, next_slot, slots_from, slots_of, same_slot, are_different, has_different_slots, has_different_words, fits_slot, has_fitting_slots}
 use Rattle.alternatives.specs.Expansion.{Expansion}
@@ -58,7 +58,8 @@ different_sub same _ _ none e = refl
 different_sub same _ _ (keep x xs ys s) e =
     let (a, b) = and_parts (not (some (same x) ys)) (are_different same ys) e in
     and_from (not (some (same x) xs)) (are_different same xs)
-    (not_from (some (same x) xs) (some_sub (same x) xs ys s (not_true (some (same x) ys) a))) (different_sub same xs ys s b)
+    (not_from (some (same x) xs) (some_sub (same x) xs ys s (not-true (some (same x) ys) a))) (different_sub same
+    xs ys s b)
 different_sub same _ _ (skip y xs ys s) e =
     let (a, b) = and_parts (not (some (same y) ys)) (are_different same ys) e in different_sub same xs ys s b
 
@@ -190,9 +191,11 @@ module _ (cells : List (List (List ℕ))) where
       let (x, fs) = and_parts (has_text cells a.shape && every (λ m. has_room cells m.slot 1) a.members)
       (every (λ f. has_room cells f.slot f.room) a.fillers) e in
       let (t, ms) = and_parts (has_text cells a.shape) (every (λ m. has_room cells m.slot 1) a.members) x in
-      every_append (λ s. has_room cells s 1) (map (λ m. m.slot) a.members) (flat_map (λ f. slots_from f.slot f.room) a.fillers)
+      every_append (λ s. has_room cells s 1) (map (λ m. m.slot) a.members) (flat_map (λ f. slots_from f.slot
+      f.room) a.fillers)
       (every_map (λ s. has_room cells s 1) (λ (m : Placed). m.slot) a.members ∙ ms)
-      (every_flat (λ s. has_room cells s 1) (λ f. slots_from f.slot f.room) (λ f. has_room cells f.slot f.room) a.fillers
+      (every_flat (λ s. has_room cells s 1) (λ f. slots_from f.slot f.room) (λ f. has_room cells f.slot f.room)
+      a.fillers
       (λ f h. slots_room f.slot f.room h) fs)
 
 -- words at different places differ
@@ -237,7 +240,7 @@ different_append : {A : Type 0} (same : A → A → Bool) (xs ys : List A) → a
 different_append same [] ys e = record { left = refl; right = e; across = λ x y i j. absurd i }
 different_append same (x ∷ xs) ys e =
     let (a, b) = and_parts (not (some (same x) (xs ++ ys))) (are_different same (xs ++ ys)) e in
-    let n = not_true (some (same x) (xs ++ ys)) a in
+    let n = not-true (some (same x) (xs ++ ys)) a in
     let more = different_append same xs ys b in
     record {
       left = and_from (not (some (same x) xs)) (are_different same xs)
@@ -258,11 +261,11 @@ different_at [] e k l p q o = absurd (omega (arith, p))
 different_at (w ∷ ws) e zero zero p q o = absurd (o refl)
 different_at (w ∷ ws) e zero (suc l) p q o =
     let (a, b) = and_parts (not (some (same_word w) ws)) (are_different same_word ws) e in
-    none_at (same_word w) (get_or ws l []) ws (not_true (some (same_word w) ws) a) (word_in l ws (omega (arith, q)))
+    none_at (same_word w) (get_or ws l []) ws (not-true (some (same_word w) ws) a) (word_in l ws (omega (arith, q)))
 different_at (w ∷ ws) e (suc k) zero p q o =
     let (a, b) = and_parts (not (some (same_word w) ws)) (are_different same_word ws) e in
     same_word_flip (get_or ws k []) w
-    ∙ none_at (same_word w) (get_or ws k []) ws (not_true (some (same_word w) ws) a) (word_in k ws (omega (arith, p)))
+    ∙ none_at (same_word w) (get_or ws k []) ws (not-true (some (same_word w) ws) a) (word_in k ws (omega (arith, p)))
 different_at (w ∷ ws) e (suc k) (suc l) p q o =
     let (a, b) = and_parts (not (some (same_word w) ws)) (are_different same_word ws) e in
     different_at ws b k l (omega (arith, p)) (omega (arith, q)) (λ z. o (ap suc z))
@@ -313,7 +316,7 @@ module _ (cells : List (List (List ℕ))) (apart : has_different_words cells ≡
       and_from (not (some (same_word (slot_name (word_at cells) p.slot))
       (map (λ m. m.0) (map (named (word_at cells) place) ps))))
       (are_different same_word (map (λ m. m.0) (map (named (word_at cells) place) ps)))
-      (not_from _ (others ps rs fs (not_true (some (same_slot p.slot) (map (λ p. p.slot) ps)) d0) r0 f0))
+      (not_from _ (others ps rs fs (not-true (some (same_slot p.slot) (map (λ p. p.slot) ps)) d0) r0 f0))
       (names_apart place ps rs fs ds)
     where
       others : (qs : List NumberedPlaced) → every (λ p. has_room cells p.slot 1) qs ≡ true
@@ -408,7 +411,8 @@ module _ (gs : List (List Signed)) (bs : List Alternative) (a : Numbered) (h : I
       subst (λ z. Sub (map (λ p. p.slot) (contents_of has z)) (slots_of h.alternative)) (sym h.is)
       (contents_slots gs has h.alternative h.members h.numbers)
 
-  pub contents_room : has_words cells h.alternative ≡ true → every (λ p. has_room cells p.slot 1) (contents_of has a) ≡ true
+  pub contents_room : has_words cells h.alternative ≡ true → every (λ p. has_room cells p.slot 1) (contents_of has
+      a) ≡ true
   contents_room e =
       sym (every_map (λ s. has_room cells s 1) (λ (p : NumberedPlaced). p.slot) (contents_of has a))
       ∙ every_sub (λ s. has_room cells s 1) (map (λ p. p.slot) (contents_of has a)) (slots_of h.alternative) slots_are
@@ -428,8 +432,10 @@ module _ (gs : List (List Signed)) (bs : List Alternative) (a : Numbered) (h : I
   -- a text has its word
   pub text_room : a.shape ≡ Text → has_words cells h.alternative ≡ true → 0 < capacity (cell_at cells 0)
   text_room shape e =
-      let (x, fs) = and_parts (has_text cells h.alternative.shape && every (λ m. has_room cells m.slot 1) h.alternative.members)
+      let (x, fs) = and_parts (has_text cells h.alternative.shape && every (λ m. has_room cells m.slot 1)
+      h.alternative.members)
       (every (λ f. has_room cells f.slot f.room) h.alternative.fillers) e in
-      let (t, ms) = and_parts (has_text cells h.alternative.shape) (every (λ m. has_room cells m.slot 1) h.alternative.members) x in
+      let (t, ms) = and_parts (has_text cells h.alternative.shape) (every (λ m. has_room cells m.slot 1)
+      h.alternative.members) x in
       ltb-true 0 (capacity (cell_at cells 0))
       (subst (λ z. has_text cells z ≡ true) (sym (ap (λ z. z.shape) h.is) ∙ shape) t)

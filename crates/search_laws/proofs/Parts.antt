@@ -178,10 +178,12 @@ module _ (words : List Signed → Kind → ℕ → ℕ → ℕ → List ℕ) (ex
       let low = filter (uses expansion f Count n) (in_order expansion f q) in
       let high = filter (uses expansion f Count n) b.rest in
       let split : used_goals expansion f n ≡ low ++ high =
-      ap (filter (uses expansion f Count n)) b.is ∙ filter-append (uses expansion f Count n) (in_order expansion f q) b.rest
+      ap (filter (uses expansion f Count n)) b.is ∙ filter-append (uses expansion f Count n) (in_order expansion f
+      q) b.rest
       in
       let left : place_in (low ++ high) c < length low =
-      place_left c low high (to_filter (uses expansion f Count n) c (in_order expansion f q) (order_has expansion f q c e) u)
+      place_left c low high (to_filter (uses expansion f Count n) c (in_order expansion f q) (order_has expansion f
+      q c e) u)
       in
       let right : length low ≤ place_in (low ++ high) m =
       place_right m low high (λ i. lacks (from_filter (uses expansion f Count n) m (in_order expansion f q) i))

@@ -142,7 +142,8 @@ module _ (expansion : List Signed → Expansion) (f : Found) where
     go (inr l) = let b = e.enters in absurd (true≢false (sym (rise_to expansion f r e.q n l h) ∙ b.before))
 
   -- the round before has all that the goal contains
-  contents_all : (r n : ℕ) → Round r n ≡ true → (e : Entered n) → every (λ p. Round e.q p.goal) (contents expansion f n) ≡ true
+  contents_all : (r n : ℕ) → Round r n ≡ true → (e : Entered n) → every (λ p. Round e.q p.goal) (contents expansion
+      f n) ≡ true
   contents_all r n h e =
       ap (λ o. every (λ p. Round e.q p.goal) (contents_in expansion f (round_before o)
       (chosen_in (alternatives_of expansion f n) o))) e.is
@@ -177,7 +178,8 @@ module _ (expansion : List Signed → Expansion) (f : Found) where
       (λ x. uses_more k x m) where
         go : (nat_eq n m ≡ true) ⊎ (some (λ p. uses expansion f k p.goal m) (contents expansion f n) ≡ true)
             → ((x : ℕ) → Uses k x m ≡ true → Uses (suc k) x m ≡ true) → Uses (suc (suc k)) n m ≡ true
-        go (inl a) more = or_left (nat_eq n m) (some (λ p. uses expansion f (suc k) p.goal m) (contents expansion f n)) a
+        go (inl a) more = or_left (nat_eq n m) (some (λ p. uses expansion f (suc k) p.goal m) (contents expansion f
+            n)) a
         go (inr a) more =
             let (p, i, u) = some_find (λ p. uses expansion f k p.goal m) (contents expansion f n) a in
             or_right (nat_eq n m) (some (λ p. uses expansion f (suc k) p.goal m) (contents expansion f n))
@@ -202,7 +204,8 @@ module _ (expansion : List Signed → Expansion) (f : Found) where
         go : (nat_eq n h ≡ true) ⊎ (some (λ x. uses expansion f k x.goal h) (contents expansion f n) ≡ true)
             → ((x : ℕ) → Uses k x h ≡ true → Uses (suc k) x p.goal ≡ true) → Uses (suc (suc k)) n p.goal ≡ true
         go (inl a) more =
-            with_first p (subst (λ z. IsIn p (contents expansion f z)) (sym (eqb-true n h a)) i) (uses_itself (suc k) p.goal)
+            with_first p (subst (λ z. IsIn p (contents expansion f z)) (sym (eqb-true n h a)) i) (uses_itself (suc
+            k) p.goal)
         go (inr a) more =
             let (x, j, u) = some_find (λ x. uses expansion f k x.goal h) (contents expansion f n) a in
             with_first x j (more x.goal u)
@@ -323,7 +326,8 @@ module _ (expansion : List Signed → Expansion) (f : Found) where
       let b = beyond k q in
       record {
         rest = b.rest ++ Added (k + q);
-        is = ap (λ z. Order z) (plus k q) ∙ ap (λ l. l ++ Added (k + q)) b.is ∙ append_assoc (Order q) b.rest (Added (k + q));
+        is = ap (λ z. Order z) (plus k q) ∙ ap (λ l. l ++ Added (k + q)) b.is ∙ append_assoc (Order q) b.rest
+            (Added (k + q));
         later = λ m i. go b.rest m (in_append m b.rest (Added (k + q)) i) b.later;
       }
     where

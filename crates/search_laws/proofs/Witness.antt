@@ -59,5 +59,6 @@ module _ (F : Finders) (T : List Position) (ok : IsTable T)
         made = subst (λ J. IsMade T k g J)
             (sym (parts_stand (by_branch T (words_of F)) (expansion T (leaf F T)) f n reached n
             (used_own (by_branch T (words_of F)) (expansion T (leaf F T)) f n reached)
-            ∙ document_stays (by_branch T (words_of F)) (expansion T (leaf F T)) f k (length f.goals) n l.within has)) made;
+            ∙ document_stays (by_branch T (words_of F)) (expansion T (leaf F T)) f k (length f.goals) n l.within
+            has)) made;
       }

@@ -29,7 +29,8 @@ alternative t s members need fillers =
 abbrev of_root : List Alternative
 of_root = alternative K.Array Elements (at (Index 0) 1 ∷ []) 0 []
     ∷ alternative K.Object Members (at (Name 1 0) 2 ∷ at (Name 0 0) 3 ∷ []) 1
-    (record { slot = Name 0 1; goal = goal 1; room = 9 } ∷ record { slot = Name 0 1; goal = goal 2; room = 2 } ∷ []) ∷ []
+    (record { slot = Name 0 1; goal = goal 1; room = 9 } ∷ record { slot = Name 0 1; goal = goal 2; room = 2 } ∷
+    []) ∷ []
 
 -- an array of itself
 abbrev of_first : List Alternative

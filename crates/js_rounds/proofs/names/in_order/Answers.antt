@@ -12,7 +12,10 @@ returns-clause-sorted c =
     sort_same (λ (m : PartMember). m.name) (λ m. m.part.0) c.args.members.items c.sort_unstable_by.new.self.items
     c.sort_unstable_by.ensures.permutation
     (c.sort_unstable_by.ensures.sorted (λ x y. comes_before x.name y.name) (names_ranked (λ (m : PartMember). m.name))
-    (always_returns_same _ (λ a r. is_lt r ≡ comes_before a.0.now.name a.1.0.now.name) _ (λ a r f h. search (rules, h))))
+    (always_returns_same _ (λ a r. is_lt r ≡ comes_before a.0.now.name a.1.0.now.name) _ (λ a r f h. search (
+      rules,
+      h,
+    ))))
     c.requires
 
 pub returns-clause-rising : goal.returns-clause-rising
@@ -20,5 +23,8 @@ returns-clause-rising c =
     sort_rises (λ (m : PartMember). m.name) (λ m. m.part.0) c.args.members.items c.sort_unstable_by.new.self.items
     c.sort_unstable_by.ensures.permutation
     (c.sort_unstable_by.ensures.sorted (λ x y. comes_before x.name y.name) (names_ranked (λ (m : PartMember). m.name))
-    (always_returns_same _ (λ a r. is_lt r ≡ comes_before a.0.now.name a.1.0.now.name) _ (λ a r f h. search (rules, h))))
+    (always_returns_same _ (λ a r. is_lt r ≡ comes_before a.0.now.name a.1.0.now.name) _ (λ a r f h. search (
+      rules,
+      h,
+    ))))
     c.requires

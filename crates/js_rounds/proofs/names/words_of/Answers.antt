@@ -13,5 +13,9 @@ cell_words-requires-clause-need g c =
     let w = wanted_room cells c.args.runs.now i c.requires.room in
     let n = c.in_ok-needs.ensures.needs i in
     let l = c.loop-cell-test.true in
-    let a = c.index.ensures ∙ get_any c.in_ok-needs.needs.items i c.index.result.now 0 (grind (arith, l, c.len.ensures)) in
+    let a = c.index.ensures ∙ get_any c.in_ok-needs.needs.items i c.index.result.now 0 (grind (
+      arith,
+      l,
+      c.len.ensures,
+    )) in
     omega (arith, a, n, w)

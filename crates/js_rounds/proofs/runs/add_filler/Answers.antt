@@ -13,4 +13,5 @@ returns-clause-found c =
     let f = c.args.filler.now in
     ap spread c.in_ok-push.ensures.items
     ∙ spread_push c.args.found.now.items (record { slot = f.slot; goal = f.goal; count = c.min.result })
-    ∙ ap₂ (λ n b. spread c.args.found.now.items ++ cond b (repeated (slot_view f.slot) n f.goal) []) c.min.ensures (sym has)
+    ∙ ap₂ (λ n b. spread c.args.found.now.items ++ cond b (repeated (slot_view f.slot) n f.goal) []) c.min.ensures
+    (sym has)

@@ -14,9 +14,9 @@ pub returns-else-run-gt0-clause-marks : goal.returns-else-run-gt0-clause-marks
 returns-else-run-gt0-clause-marks c m l =
     let r = c.args.run.now in
     elim c.else-run-gt0.branch [
-      else-run-gt0-via-then-run-gt0+else-goal-marks w ↦
+      | else-run-gt0-via-then-run-gt0+else-goal-marks w ↦
           run_unmarked c.args.marks.now (slot_view r.slot) r.count r.goal m (inr w.if-goal-marks.false) l
-    | else-run-gt0-via-else-run-gt0 w ↦
-        let none : r.count ≡ 0 = omega (arith, w.if-run-gt0.false) in
-        run_unmarked c.args.marks.now (slot_view r.slot) r.count r.goal m (inl none) l
+      | else-run-gt0-via-else-run-gt0 w ↦
+          let none : r.count ≡ 0 = omega (arith, w.if-run-gt0.false) in
+          run_unmarked c.args.marks.now (slot_view r.slot) r.count r.goal m (inl none) l
     ]

@@ -18,7 +18,8 @@ use Rattle.js_rounds.proofs.rounds.Rounds.part.Goals as goal
 pub part_of-requires-clause-taken : goal.part_of-requires-clause-taken
 part_of-requires-clause-taken g c =
     every_at (g.E.Expander.takes c.args.expander.now) c.goal.result.now (explored_view c.args.explored.now).found.goals
-    c.requires.taken (get_in (explored_view c.args.explored.now).found.goals c.args.goal c.goal.result.now c.goal.ensures)
+    c.requires.taken (get_in (explored_view c.args.explored.now).found.goals c.args.goal c.goal.result.now
+    c.goal.ensures)
 
 pub part_of-requires-clause-branch : goal.part_of-requires-clause-branch
 part_of-requires-clause-branch g c =
@@ -27,7 +28,8 @@ part_of-requires-clause-branch g c =
     let E = g.E.Expander in
     let taken = every_at (E.takes x) c.goal.result.now e.found.goals c.requires.taken
     (get_in e.found.goals c.args.goal c.goal.result.now c.goal.ensures) in
-    chosen.branch (E.expansion x) (E.takes x) (E.cells x) (g.met.E.Expander.words_named x) (g.met.E.Expander.slots_fit x)
+    chosen.branch (E.expansion x) (E.takes x) (E.cells x) (g.met.E.Expander.words_named x)
+    (g.met.E.Expander.slots_fit x)
     (g.met.E.Expander.slots_differ x) (g.met.E.Expander.words_differ x) e c.requires.explores c.args.self.now
     c.requires.rounds c.args.goal c.requires.satisfied c.goal.result.now c.goal.ensures taken
     (numbered_view c.in-Some.choice.alternative.now) (sym c.in-Some.ensures.chosen) c.in_ok-runs.runs.items
@@ -55,7 +57,8 @@ part_of-requires-clause-room g c =
     let taken = every_at (E.takes x) c.goal.result.now e.found.goals c.requires.taken
     (get_in e.found.goals c.args.goal c.goal.result.now c.goal.ensures) in
     subst (λ rs. every (λ p. has_room (E.cells x c.goal.result.now a.kind a.branch) p.slot 1) (spread rs) ≡ true)
-    (sym c.deref.ensures.value) (chosen.room (E.expansion x) (E.takes x) (E.cells x) (g.met.E.Expander.words_named x) (g.met.E.Expander.slots_fit x)
+    (sym c.deref.ensures.value) (chosen.room (E.expansion x) (E.takes x) (E.cells x) (g.met.E.Expander.words_named
+    x) (g.met.E.Expander.slots_fit x)
     (g.met.E.Expander.slots_differ x) (g.met.E.Expander.words_differ x) e c.requires.explores c.args.self.now
     c.requires.rounds c.args.goal c.requires.satisfied c.goal.result.now c.goal.ensures taken
     a (sym c.in-Some.ensures.chosen) c.in_ok-runs.runs.items
@@ -70,8 +73,10 @@ part_of-requires-clause-differ g c =
     let taken = every_at (E.takes x) c.goal.result.now e.found.goals c.requires.taken
     (get_in e.found.goals c.args.goal c.goal.result.now c.goal.ensures) in
     subst (λ rs. a.shape ≡ Members → are_different same_word (map (λ m. m.0)
-    (map (named (word_at (E.cells x c.goal.result.now a.kind a.branch)) (place_at c.args.places.now)) (spread rs))) ≡ true)
-    (sym c.deref.ensures.value) (chosen.differ (E.expansion x) (E.takes x) (E.cells x) (g.met.E.Expander.words_named x) (g.met.E.Expander.slots_fit x)
+    (map (named (word_at (E.cells x c.goal.result.now a.kind a.branch)) (place_at c.args.places.now)) (spread rs)))
+    ≡ true)
+    (sym c.deref.ensures.value) (chosen.differ (E.expansion x) (E.takes x) (E.cells x)
+    (g.met.E.Expander.words_named x) (g.met.E.Expander.slots_fit x)
     (g.met.E.Expander.slots_differ x) (g.met.E.Expander.words_differ x) e c.requires.explores c.args.self.now
     c.requires.rounds c.args.goal c.requires.satisfied c.goal.result.now c.goal.ensures taken
     a (sym c.in-Some.ensures.chosen) c.in_ok-runs.runs.items
@@ -88,7 +93,8 @@ returns g c =
     (get_in e.found.goals c.args.goal c.goal.result.now c.goal.ensures) in
     if_ok c.part_of.result (λ p k. k
     ∙ ap (λ rs. by_shape (word_at (E.cells x c.goal.result.now a.kind a.branch)) (place_at c.args.places.now) a.shape
-    (spread rs)) c.deref.ensures.value ∙ chosen.same (E.expansion x) (E.takes x) (E.cells x) (g.met.E.Expander.words_named x) (g.met.E.Expander.slots_fit x)
+    (spread rs)) c.deref.ensures.value ∙ chosen.same (E.expansion x) (E.takes x) (E.cells x)
+    (g.met.E.Expander.words_named x) (g.met.E.Expander.slots_fit x)
     (g.met.E.Expander.slots_differ x) (g.met.E.Expander.words_differ x) e c.requires.explores c.args.self.now
     c.requires.rounds c.args.goal c.requires.satisfied c.goal.result.now c.goal.ensures taken
     a (sym c.in-Some.ensures.chosen) c.in_ok-runs.runs.items

@@ -43,4 +43,5 @@ returns-clause-added c X x at =
     let end : c.loop-goal.goal ≡ length e.found.goals = omega (arith, l, m, c.len-goal-end.ensures) in
     grown X e.found c.args.round c.args.self.now c.loop-goal.self at
     (subst (λ n. Sweeping X e.found c.args.round n c.loop-goal.self) end (i.round X x at))
-    (within (length e.found.goals) c.args.self.now c.requires.roomy) (within (length e.found.goals) c.loop-goal.self i.roomy)
+    (within (length e.found.goals) c.args.self.now c.requires.roomy) (within (length e.found.goals)
+    c.loop-goal.self i.roomy)

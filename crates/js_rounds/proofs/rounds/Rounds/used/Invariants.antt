@@ -14,7 +14,8 @@ invariant-loop-place l = record {
   same : length l.marks.items ≡ length l.self.known.items;
   back : (expansion : List Signed → Expansion) → Explores expansion (explored_view l.explored)
       → AreRounds expansion (explored_view l.explored).found l.self
-      → (reached : round expansion (explored_view l.explored).found (length (explored_view l.explored).found.goals) l.goal
+      → (reached : round expansion (explored_view l.explored).found (length (explored_view l.explored).found.goals)
+      l.goal
       ≡ true)
       → Back expansion (explored_view l.explored).found l.goal reached l.place l.marks.items l.found.items;
 }

@@ -132,10 +132,16 @@ loop-place-preserved g c =
       made = λ r. subst (λ z. Made words X f n r (i + 1) c.add_part.new.parts z) (sym all)
           (made_on words X f n r i c.loop-place.parts c.add_part.new.parts c.loop-place.places.items
           c.add_part.new.places c.index.result.now l at (omega (arith, small, v.room)) (v.made r)
-          (c.in_ok-last.ensures.parts ∙ ap (λ z. c.loop-place.parts ++ W.part words X f (place_at z) c.index.result.now ∷ []) shown)
+          (c.in_ok-last.ensures.parts ∙ ap (λ z. c.loop-place.parts ++ W.part words X f (place_at z)
+          c.index.result.now ∷ []) shown)
           (c.in_ok-last.ensures.places ∙ ap₂ (λ z k. set z c.index.result.now k) shown v.count));
-      count = omega (arith, v.count, grown, length-append c.loop-place.parts (W.part words X f
-          (place_at c.deref_mut.result.now) c.index.result.now ∷ []));
+      count = omega (
+        arith,
+        v.count,
+        grown,
+        length-append c.loop-place.parts (W.part words X f
+            (place_at c.deref_mut.result.now) c.index.result.now ∷ []),
+      );
       room = ap length all ∙ long ∙ v.room;
       last = λ k. omega (arith, c.in_ok-last.ensures.number, v.count);
     }
@@ -156,7 +162,8 @@ returns-clause-parts g c =
     let low : i ≡ length c.reverse.new.self.items = grind (arith, t, e, c.len.ensures) in
     let l : i ≡ length (U.used_goals X f n) = low ∙ ap length used in
     let v = c.loop-place.invariant in
-    let made = all_made words X f n reached i c.loop-place.parts c.loop-place.places.items (omega (arith, l)) (v.made reached) in
+    let made = all_made words X f n reached i c.loop-place.parts c.loop-place.places.items (omega (arith, l))
+    (v.made reached) in
     made
 
 pub returns-clause-last : goal.returns-clause-last
@@ -175,7 +182,8 @@ returns-clause-last g c =
     let low : i ≡ length c.reverse.new.self.items = grind (arith, t, e, c.len.ensures) in
     let l : i ≡ length (U.used_goals X f n) = low ∙ ap length used in
     let v = c.loop-place.invariant in
-    let made = all_made words X f n reached i c.loop-place.parts c.loop-place.places.items (omega (arith, l)) (v.made reached) in
+    let made = all_made words X f n reached i c.loop-place.parts c.loop-place.places.items (omega (arith, l))
+    (v.made reached) in
     let some = used_some words X f n reached in
     let k = v.last (omega (arith, some, l)) in
     k ∙ sym v.count
@@ -196,7 +204,8 @@ returns-clause-document g c =
     let low : i ≡ length c.reverse.new.self.items = grind (arith, t, e, c.len.ensures) in
     let l : i ≡ length (U.used_goals X f n) = low ∙ ap length used in
     let v = c.loop-place.invariant in
-    let made = all_made words X f n reached i c.loop-place.parts c.loop-place.places.items (omega (arith, l)) (v.made reached) in
+    let made = all_made words X f n reached i c.loop-place.parts c.loop-place.places.items (omega (arith, l))
+    (v.made reached) in
     let some = used_some words X f n reached in
     let k = v.last (omega (arith, some, l)) in
     last_stands words X f n reached c.loop-place.parts c.loop-place.last.0 made (k ∙ l)

@@ -11,7 +11,8 @@ abbrev pub invariant-loop-place : goal.invariant-loop-place
 invariant-loop-place g l = record {
   made : (reached : round (g.E.Expander.expansion l.expander) (explored_view l.explored).found
       (length (explored_view l.explored).found.goals) l.goal ≡ true)
-      → Made (words_by (g.E.Expander.cells l.expander)) (g.E.Expander.expansion l.expander) (explored_view l.explored).found
+      → Made (words_by (g.E.Expander.cells l.expander)) (g.E.Expander.expansion l.expander) (explored_view
+      l.explored).found
       l.goal reached l.place l.parts l.places.items;
   count : length l.parts ≡ l.place;
   room : length l.places.items ≡ length (explored_view l.explored).found.goals;
