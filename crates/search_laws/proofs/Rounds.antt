@@ -143,13 +143,8 @@ module _ (T : List Position) (ok : IsTable T) (words : Kind → List Signed → 
           (sym (numbered_met (round (expansion T leaves) f r) f.goals (expansion T leaves g).alternatives) ∙ h) in (
             g,
             at,
-<<<<<<< HEAD
             subst (λ o. IsMade T (suc r) g (of_alternative (by_branch T words) (expansion T leaves) f Can' Child g o))
                 (sym p)
-=======
-            subst (λ o. IsMade T (suc r) g (of_alternative (by_branch T words) (expansion T leaves) f Can' Child g
-                o)) (sym p)
->>>>>>> c34f3297f544c23bb99590b217396ae7d21068f7
                 (expansion_made T ok words leaves right g r Can' Child children a i u),
           )
 
