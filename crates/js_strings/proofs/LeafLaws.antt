@@ -1,14 +1,11 @@
 -- The leaf of a branch at strings, and what it means.
-use Rattle.std.proofs.Common.{◌≡◌, ℕ, suc, ◌<◌, ◌≤◌, inl, inr, Bool, true, false, ◌&&◌, cond, if◌then◌else◌, nat_eq, nat_lt, map, List, [], ◌∷◌, take, length, Option, Some, None, is_some, option_map, Result, Ok, Err, IfOk, refl, ap, ap₂, sym, ◌∙◌, subst, arith}
-use Rattle.std.specs.List.{list_all}
+use Rattle.std.proofs.Common.{◌≡◌, ℕ, ◌<◌, Bool, true, false, ◌&&◌, if◌then◌else◌, nat_eq, map, List, [], ◌∷◌, take, length, Option, Some, None, is_some, option_map, Result, Ok, Err, IfOk, refl, ap, sym, ◌∙◌, arith}
 use Rattle.std.proofs.lemmas.Bool.{and_parts, and_from, le-leb, ltb-true, true≢false}
 use Rattle.documents.specs.Tests.{every}
 use Rattle.documents.specs.Tests as D
 use Rattle.documents.specs.Kind as K
 use Rattle.documents.specs.Document.{string}
-use Rattle.patterns.specs.CharSet.{is_scalar}
 use Rattle.positions.specs.Position.{Position, is_table}
-use Rattle.positions.specs.Holds.{IsTable}
 use Rattle.position_laws.proofs.Tables.{is_table-IsTable}
 use Rattle.goals.specs.Signed.{Signed, position_of, meets}
 use Rattle.goal_laws.specs.Saturated.{IsSaturated}

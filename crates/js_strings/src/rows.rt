@@ -27,7 +27,7 @@ pub(crate) fn first_row(asked: &Asked, automaton: &Automaton) -> Option<u32>
     ensures { MatchOption result
         ((j : ℕ) → j < length (rows_of automaton.now) → asks asked.now (get_or (rows_of automaton.now) j []) ≡ false)
         (λ row. (row < length (rows_of automaton.now)) × (asks asked.now (get_or (rows_of automaton.now) row []) ≡ true)
-            × ((j : ℕ) → j < row → asks asked.now (get_or (rows_of automaton.now) j []) ≡ false)) }
+        × ((j : ℕ) → j < row → asks asked.now (get_or (rows_of automaton.now) j []) ≡ false)) }
 {
     for row in 0..automaton.rows() {
         if is_as_asked(asked, automaton, row) {
