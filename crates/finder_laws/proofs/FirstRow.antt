@@ -1,5 +1,5 @@
 -- The word of the first row whose word is wanted is the first word that is wanted, and none is where no row's word is.
-use Rattle.std.proofs.Common.{◌≡◌, ℕ, zero, suc, ◌<◌, ◌≤◌, ◌⊎◌, inl, inr, ⊎_elim, List, [], ◌∷◌, take, Bool, true, false, length, get_or, Option, Some, None, refl, ap, sym, ◌∙◌, subst, arith}
+use Rattle.std.proofs.Common.{◌≡◌, ℕ, zero, suc, ◌<◌, ◌≤◌, ◌⊎◌, inl, inr, ⊎_elim, List, [], ◌∷◌, take, true, false, length, get_or, Some, None, refl, ap, sym, ◌∙◌, subst, arith}
 use Rattle.list_laws.proofs.Lists.{in_get}
 use Rattle.std.specs.List.{list_all}
 use Rattle.std.proofs.lemmas.Bool.{true≢false}

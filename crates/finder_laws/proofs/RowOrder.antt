@@ -1,11 +1,10 @@
 -- Rows stand in the order of their words, and the word of a row is the first that leads there.
-use Rattle.std.proofs.Common.{◌≡◌, ℕ, zero, suc, ◌+◌, ◌<◌, ◌⊎◌, inl, inr, ⊎_elim, List, [], ◌∷◌, ◌++◌, Bool, true, map, flat_map, length, get_or, refl, ap, ap₂, sym, ◌∙◌, subst, append-nil, append_assoc, length-append, arith}
-use Rattle.std.specs.List.{list_all, list_any}
+use Rattle.std.proofs.Common.{◌≡◌, ℕ, suc, ◌<◌, ◌⊎◌, inl, inr, List, [], ◌∷◌, ◌++◌, true, map, flat_map, length, refl, ap, ap₂, sym, ◌∙◌, subst, append-nil, append_assoc, length-append, arith}
+use Rattle.std.specs.List.{list_all}
 use Rattle.std.proofs.lemmas.Bool.{and_parts}
 use Rattle.patterns.specs.CharSet.{is_scalar}
 use Rattle.word_states.specs.Atom.{Atom}
-use Rattle.word_states.specs.Classes.{are_alike, dividers, class_firsts}
-use Rattle.word_states.specs.Mention.{mention_all}
+use Rattle.word_states.specs.Classes.{dividers, class_firsts}
 use Rattle.word_states.specs.WordState.{have_same_state}
 use Rattle.word_states.specs.Rows.{AreRows}
 use Rattle.word_laws.proofs.Rows as R

@@ -1,5 +1,5 @@
 -- What is found by the automaton of a set is the word of the set.
-use Rattle.std.proofs.Common.{◌≡◌, ℕ, suc, ◌<◌, ◌≤◌, ◌⊎◌, inl, inr, Bool, true, false, cond, List, [], map, length, get_or, Option, Some, None, Result, Ok, Err, IfErr, refl, ap, ap₂, sym, ◌∙◌, subst}
+use Rattle.std.proofs.Common.{◌≡◌, ℕ, suc, ◌<◌, ◌≤◌, Bool, true, false, cond, List, [], length, get_or, Option, Some, None, Result, Ok, Err, IfErr, refl, ap, ap₂, sym, ◌∙◌, subst}
 use Rattle.std.specs.Result.{IsErrAnd}
 use Rattle.word_states.specs.Atom.{Atom}
 use Rattle.word_states.specs.AtomPositions.{positions_of}

@@ -1,18 +1,16 @@
 -- The leaf of a branch at strings, and what it means.
-use Rattle.std.proofs.Common.{◌≡◌, ℕ, suc, ◌<◌, ◌≤◌, inl, inr, Bool, true, false, ◌&&◌, cond, if◌then◌else◌, nat_lt, List, [], ◌∷◌, take, length, Option, Some, None, is_some, option_map, Result, Ok, Err, IfOk, refl, ap, ap₂, sym, ◌∙◌, subst, arith}
-use Rattle.std.specs.List.{list_all}
-use Rattle.std.proofs.lemmas.Bool.{and_parts, and_from, le-leb, ltb-true}
+use Rattle.std.proofs.Common.{◌≡◌, ℕ, ◌<◌, Bool, true, false, ◌&&◌, if◌then◌else◌, nat_eq, map, List, [], ◌∷◌, take, length, Option, Some, None, is_some, option_map, Result, Ok, Err, IfOk, refl, ap, sym, ◌∙◌, arith}
+use Rattle.std.proofs.lemmas.Bool.{and_parts, and_from, le-leb, ltb-true, true≢false}
 use Rattle.documents.specs.Tests.{every}
 use Rattle.documents.specs.Tests as D
 use Rattle.documents.specs.Kind as K
 use Rattle.documents.specs.Document.{string}
-use Rattle.patterns.specs.CharSet.{is_scalar}
 use Rattle.positions.specs.Position.{Position, is_table}
-use Rattle.positions.specs.Holds.{IsTable}
 use Rattle.position_laws.proofs.Tables.{is_table-IsTable}
 use Rattle.goals.specs.Signed.{Signed, position_of, meets}
 use Rattle.goal_laws.specs.Saturated.{IsSaturated}
 use Rattle.alternatives.specs.Alternative as A
+use Rattle.alternatives.specs.Limit.{LimitKind}
 use Rattle.expansions.specs.Leaves.{scalar, scalar_leaf, word_of}
 use Rattle.finders.specs.Strings.{strings_of}
 use Rattle.finder_laws.proofs.Strings.{scalars_same, found_word, none_wanted, none_meets}
@@ -98,3 +96,21 @@ words_meet T ranks table S inside w e full =
 pub ok_map : {A E : Type 0} (r : Result A E) (P Q : A → Type 0) → ((x : A) → P x → Q x) → IfOk r P → IfOk r Q
 ok_map (Ok x) P Q f h = f x h
 ok_map (Err e) P Q f h = tt
+
+-- a leaf with an alternative has a word
+pub leaf_found : (T : List Position) (S : List Signed) (k : ℕ) (alts : List A.Alternative)
+    → scalar_leaf K.Text (λ w. A.Text) k (strings_of T S) ≡ Ok alts → 0 < length alts
+    → (w : List ℕ) × (strings_of T S ≡ Ok (Some w))
+leaf_found T S k alts e l = go (strings_of T S) refl e where
+  go : (r : Result (Option (List ℕ)) LimitKind) → strings_of T S ≡ r
+      → scalar_leaf K.Text (λ w. A.Text) k r ≡ Ok alts
+      → (w : List ℕ) × (strings_of T S ≡ Ok (Some w))
+  go (Ok (Some w)) h e = (w, h)
+  go (Ok None) h e = let q : [] ≡ alts = cc e in let n = ap length q in absurd (omega (arith, l, n))
+  go (Err x) h e = cc e
+
+pub filled : {B : Type 0} (f : B → A.Alternative) (xs : List B) (alts : List A.Alternative) (b : Bool)
+    → b ≡ nat_eq (length xs) 0 → b ≡ false → map f xs ≡ alts
+    → 0 < length alts
+filled f [] alts b e h m = let n : true ≡ false = sym e ∙ h in absurd (true≢false n)
+filled f (x ∷ xs) alts b e h m = let n = ap length m in omega (arith, n)

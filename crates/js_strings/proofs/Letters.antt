@@ -1,5 +1,5 @@
 -- The first character of a class, and texts of characters.
-use Rattle.std.proofs.Common.{◌≡◌, ℕ, ◌<◌, ◌⊎◌, inl, inr, ⊎_elim, Bool, true, false, ◌&&◌, ◌||◌, cond, nat_lt, List, [], ◌∷◌, ◌++◌, length, get_or, reverse, chars, encode_utf8, encode_utf8_all, refl, ap, sym, ◌∙◌, subst, append_assoc, append-nil, arith}
+use Rattle.std.proofs.Common.{◌≡◌, ℕ, ◌<◌, ◌⊎◌, inl, inr, Bool, true, false, ◌&&◌, ◌||◌, cond, nat_lt, List, [], ◌∷◌, ◌++◌, length, get_or, reverse, chars, encode_utf8, encode_utf8_all, refl, ap, sym, ◌∙◌, append_assoc, append-nil, arith}
 use Rattle.list_laws.proofs.Lists.{in_get}
 use Rattle.std.specs.List.{list_all}
 use Rattle.std.specs.Str.{all_scalars}

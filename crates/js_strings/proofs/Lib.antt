@@ -3,4 +3,4 @@ mod NamingLaws
 mod NameSteps
 mod Letters
 mod Finding
-mod LeafLaws
+pub mod LeafLaws

@@ -1,12 +1,12 @@
 -- The loops that name rows.
-use Rattle.std.proofs.Common.{◌≡◌, ℕ, suc, ◌+◌, ◌<◌, ⊎_elim, List, [], ◌∷◌, ◌++◌, length, get_or, refl, ap, sym, ◌∙◌, subst, length-append, arith}
+use Rattle.std.proofs.Common.{◌≡◌, ℕ, suc, ◌+◌, ◌<◌, ⊎_elim, List, [], ◌∷◌, ◌++◌, length, get_or, refl, ap, ◌∙◌, subst, length-append, arith}
 use Rattle.word_states.specs.Atom.{Atom}
-use Rattle.word_states.specs.Classes.{class_firsts, class_count}
+use Rattle.word_states.specs.Classes.{class_count}
 use Rattle.word_states.specs.Rows.{AreRows}
 use Rattle.js_strings.specs.declared.rows.Step.{Step}
 use Rattle.js_strings.specs.Naming.{named}
-use Rattle.js_strings.specs.Steps.{no_step, IsStep, AreSteps}
-use Rattle.js_strings.proofs.NamingLaws.{next_word, target, named_row, named_all, named_step, step_more}
+use Rattle.js_strings.specs.Steps.{AreSteps}
+use Rattle.js_strings.proofs.NamingLaws.{target, named_row, named_all, named_step, step_more}
 
 -- there is a step for each row that was named
 pub record IsNaming (atoms : List Atom) (L : List (List ℕ)) (steps : List Step) (i k : ℕ) : Type 0 where

@@ -10,6 +10,8 @@ mod bounds;
 mod rows;
 mod spelling;
 mod strings;
+#[cfg(test)]
+mod tests;
 mod wish;
 
 pub use strings::{string_alternatives, string_words};

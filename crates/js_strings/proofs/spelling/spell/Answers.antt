@@ -1,4 +1,4 @@
-use Rattle.std.proofs.Common.{◌≡◌, ◌++◌, length, encode_utf8_all, reverse, string_bytes, ap, sym, ◌∙◌, subst, arith}
+use Rattle.std.proofs.Common.{◌≡◌, ◌++◌, length, encode_utf8_all, reverse, string_bytes, ap, ◌∙◌, subst, arith}
 use Rattle.js_strings.proofs.Letters.{letter_more, text_is, none_left}
 use Rattle.js_strings.proofs.spelling.spell.Goals as goal
 

@@ -1,11 +1,10 @@
-use Rattle.std.proofs.Common.{◌≡◌, ℕ, List, map, get_or, [], true, false, Some, Ok, ap, ap₂, sym, ◌∙◌, subst}
-use Rattle.frames.specs.Frame.{is_at_end}
+use Rattle.std.proofs.Common.{map, true, false, Some, Ok, ap, ap₂, sym, ◌∙◌, subst}
 use Rattle.word_states.specs.Rows.{AreRows}
 use Rattle.finders.specs.Strings as S
 use Rattle.finders.specs.Strings.{string_atoms, strings_of}
 use Rattle.js_algebra.specs.View.{signed_view}
 use Rattle.js_nfa.specs.AtomView.{atom_view}
-use Rattle.js_automaton.specs.AutomatonView.{atoms_of, rows_of}
+use Rattle.js_automaton.specs.AutomatonView.{rows_of}
 use Rattle.js_strings.specs.Asking.{asks}
 use Rattle.js_strings.proofs.Finding.{crossed_none, fault_says, none_answer, row_answer, end_of, memory_says, passed_says}
 use Rattle.js_strings.proofs.strings.find.Goals as goal

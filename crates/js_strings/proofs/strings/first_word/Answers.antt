@@ -1,4 +1,4 @@
-use Rattle.std.proofs.Common.{◌≡◌, ℕ, List, reverse, map, Ok, Some, option_map, ap, sym, ◌∙◌}
+use Rattle.std.proofs.Common.{◌≡◌, reverse, map, Ok, Some, option_map, ap, sym, ◌∙◌}
 use Rattle.finders.specs.Strings.{strings_of}
 use Rattle.finder_laws.proofs.Strings.{found_word}
 use Rattle.js_algebra.specs.View.{signed_view}

@@ -1,6 +1,5 @@
-use Rattle.std.proofs.Common.{◌≡◌, ℕ, List, Option, map, reverse, is_some, option_map, ap, sym, ◌∙◌, subst}
+use Rattle.std.proofs.Common.{reverse, option_map, ap, sym, ◌∙◌, subst}
 use Rattle.finders.specs.Strings.{strings_of}
-use Rattle.js_algebra.specs.View.{signed_view}
 use Rattle.js_strings.specs.Answers.{FaultSays}
 use Rattle.js_strings.proofs.Finding.{memory_says, passed_says}
 use Rattle.js_strings.proofs.LeafLaws.{mapped_some, leaf_is, leaf_one, leaf_met}

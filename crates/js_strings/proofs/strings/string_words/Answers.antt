@@ -1,4 +1,4 @@
-use Rattle.std.proofs.Common.{◌≡◌, ◌&&◌, ℕ, List, [], ◌∷◌, take, true, Ok, Some, ap, sym, ◌∙◌, arith}
+use Rattle.std.proofs.Common.{◌≡◌, ◌&&◌, [], ◌∷◌, take, true, ap, sym, ◌∙◌, arith}
 use Rattle.documents.specs.Tests.{every, is_scalar}
 use Rattle.documents.specs.Kind as K
 use Rattle.documents.specs.Document.{string}
