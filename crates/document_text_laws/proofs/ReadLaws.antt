@@ -1,5 +1,5 @@
 -- What bytes are read as: one table at most, or one line at which they stop being the beginning of one.
-use Rattle.std.proofs.Common.{◌≡◌, ◌⊎◌, inl, inr, ℕ, zero, suc, ◌+◌, ◌-◌, ◌<◌, ◌≤◌, List, [], ◌∷◌, ◌++◌, length, Bool, true, ◌&&◌, nat_lt, refl, sym, ap, ap₂, ◌∙◌, subst, arith, append_assoc, append-nil}
+use Rattle.std.proofs.Common.{◌≡◌, ◌⊎◌, inl, inr, ℕ, zero, suc, ◌+◌, ◌-◌, ◌<◌, ◌≤◌, List, [], ◌∷◌, ◌++◌, length, Bool, true, refl, sym, ap, ap₂, ◌∙◌, subst, arith, append_assoc, append-nil}
 use Rattle.std.proofs.lemmas.Bool.{cases_eq, cases_lt, eq-eqb, ne_eqb, and_parts, and_from}
 use Rattle.std.proofs.lemmas.List.{length-append}
 use Rattle.documents.specs.Tests.{every}
@@ -7,8 +7,9 @@ use Rattle.shared_documents.specs.Part.{Part, IsPart, null, is_table, part_at}
 use Rattle.shared_documents.proofs.Laws.{part_at-table, is_table-pushed}
 use Rattle.document_texts.specs.PartsText.{line_text, lines_text, count_text, parts_text}
 use Rattle.document_texts.specs.PartsRead.{is_named, is_told, IsRead, Begins, line_feeds, first_lines, IsFault}
+use Rattle.document_text_laws.specs.Lines.{Within, FirstLine}
 use Rattle.document_text_laws.proofs.PartLaws.{same-line, same-count, same-table}
-use Rattle.document_text_laws.proofs.LineLaws.{Within, Whole, whole-append, whole-line, line-whole, count-whole, lines-whole}
+use Rattle.document_text_laws.proofs.LineLaws.{Whole, whole-append, whole-line, line-whole, count-whole, lines-whole}
 
 -- ---- one table for each text, one line for each fault
 
@@ -26,11 +27,11 @@ longer (suc m) zero bs l = absurd (omega (arith, l))
 longer (suc m) (suc n) [] l = record { others = []; is = refl }
 longer (suc m) (suc n) (b ∷ bs) l = elim (cases_eq b 10) [
   | inl e ↦
-    let rest = longer m n bs (omega (arith, l)) in
-    rw (eq-eqb b 10 e) (record { others = rest.others; is = ap (λ xs. b ∷ xs) rest.is })
+      let rest = longer m n bs (omega (arith, l)) in
+      rw (eq-eqb b 10 e) (record { others = rest.others; is = ap (λ xs. b ∷ xs) rest.is })
   | inr ne ↦
-    let rest = longer (suc m) (suc n) bs l in
-    rw (ne_eqb b 10 ne) (record { others = rest.others; is = ap (λ xs. b ∷ xs) rest.is })
+      let rest = longer (suc m) (suc n) bs l in
+      rw (ne_eqb b 10 ne) (record { others = rest.others; is = ap (λ xs. b ∷ xs) rest.is })
 ]
 
 -- what is longer than no beginning is none
@@ -115,11 +116,6 @@ pub record Reading (count : ℕ) (ps : List Part) (left bytes : List ℕ) : Type
   pub few : count ≤ 4294967295
   pub within : length ps ≤ count
   pub text : count_text count ++ (lines_text 0 ps ++ left) ≡ bytes
-
--- the first line of some bytes, with its line feed where it has one
-pub record FirstLine (line left bytes : List ℕ) : Type 0 where
-  pub text : line ++ left ≡ bytes
-  pub ends : ((front : List ℕ) × (line ≡ front ++ 10 ∷ []) × Within front) ⊎ ((left ≡ []) × Within line)
 
 pub reading-begins : (n : ℕ) (line left bytes : List ℕ) → 0 < n → n ≤ 4294967295 → line ++ left ≡ bytes
     → line ≡ count_text n → Reading n [] left bytes
@@ -250,8 +246,7 @@ module _ (n : ℕ) (ps : List Part) (left bytes : List ℕ) (r : Reading n ps le
       → (length qs ≡ n) × Goes 0 ps qs more
   parts-behind qs more whole read is =
       let count = same-count (length qs) n (lines_text 0 qs) (lines_text 0 ps ++ more) read.few r.few
-      (read.text ∙ is ∙ append_assoc (count_text n) (lines_text 0 ps) more) in
-      (
+      (read.text ∙ is ∙ append_assoc (count_text n) (lines_text 0 ps) more) in (
         count.0,
         goes-on 0 ps qs more (omega (arith, read.few)) (omega (arith, count.0, r.within)) r.told read.told (sym count.1),
       )

@@ -1,5 +1,5 @@
 -- A number of 128 bits is what the program reads of its text.
-use Rattle.std.proofs.Common.{◌≡◌, ℕ, zero, suc, ◌^◌, ◌<◌, ◌≤◌, ℤ, pos, negsuc, neg_ℤ, List, [], ◌∷◌, true, Result, Ok, IsAscii, IsUtf8, refl, sym, ap, ◌∙◌, subst, arith}
+use Rattle.std.proofs.Common.{◌≡◌, ℕ, zero, suc, ◌^◌, ◌<◌, ◌≤◌, ℤ, pos, negsuc, neg_ℤ, List, ◌∷◌, true, Result, Ok, IsAscii, IsUtf8, refl, sym, ap, ◌∙◌, subst, arith}
 use mir.Syntax.{Width}
 use mir.Val.{hbits}
 use Rattle.std.specs.Fmt.{decimal, signed_decimal}

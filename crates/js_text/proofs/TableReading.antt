@@ -1,5 +1,5 @@
 -- Lines that are read, written again and compared.
-use Rattle.std.proofs.Common.{◌≡◌, ℕ, suc, ◌+◌, ◌-◌, ◌^◌, ◌<◌, ◌≤◌, List, [], ◌∷◌, ◌++◌, length, take, drop, Bool, true, false, ◌&&◌, nat_lt, nat_le, Option, Some, None, Result, Ok, Err, codes, bytes_eq, refl, sym, ap, ◌∙◌, subst, arith, append_assoc}
+use Rattle.std.proofs.Common.{◌≡◌, ℕ, ◌-◌, ◌<◌, ◌≤◌, List, [], ◌∷◌, ◌++◌, length, take, drop, true, false, nat_lt, nat_le, Option, Some, None, Result, Ok, Err, codes, bytes_eq, refl, sym, ap, ◌∙◌, subst, arith, append_assoc}
 use Rattle.std.specs.Fmt.{decimal}
 use Rattle.std.specs.List.{find}
 use Rattle.std.specs.Result.{IsErrAnd}
@@ -8,7 +8,7 @@ use Rattle.std.proofs.lemmas.List.{take_all, length-drop}
 use Rattle.std.proofs.lemmas.Slice.Eq.{bytes_eq-Decides}
 use Rattle.std.proofs.Math.Seq.{drop-append_seam}
 use Rattle.documents.specs.Tests.{every}
-use Rattle.shared_documents.specs.Part.{Part, IsPart, names_below, names_rise, named, first_forward}
+use Rattle.shared_documents.specs.Part.{Part, names_below, names_rise, named, first_forward}
 use Rattle.shared_documents.proofs.Laws.{below-none_forward}
 use Rattle.document_texts.specs.PartsText.{part_text, line_text, count_text}
 use Rattle.document_texts.specs.PartsRead.{is_told, is_named}

@@ -6,9 +6,8 @@ ghost use Rattle.documents.specs.Tests.{every, is_scalar};
 ghost use Rattle.document_texts.specs.Scalars.{string_text};
 ghost use Rattle.document_texts.specs.PartsRead.{is_named};
 ghost use Rattle.document_texts.specs.PartsText.{reference_text};
-
 ghost use Rattle.document_text_laws.specs.Reader.{number_on, read_on, closes, next, grown, escape_of, with_digit, plain};
-ghost use Rattle.document_text_laws.proofs.ReadLaws.{FirstLine};
+ghost use Rattle.document_text_laws.specs.Lines.{FirstLine};
 ghost use Rattle.js_text.specs.Reads.{Gives, Reads, Takes, mode_of};
 
 use js_doc::{Memory, PartId, Str};
@@ -152,7 +151,9 @@ pub(crate) fn word<'a>(alloc: Global, text: &'a [u8]) -> Result<Option<(Str, &'a
         (option_map {U = List ℕ × List ℕ} (λ (w, left). (w, left.now)) r)) }
     ensures takes { IfOk result (λ r. Takes (every is_scalar) text.now (option_map {U = List ℕ × List ℕ} (λ (w, left). (w, left.now)) r)) }
 {
-    let [_, quoted @ ..] = text else { return Ok(None) };
+    let [_, quoted @ ..] = text else {
+        return Ok(None)
+    };
     match unquoted(alloc, quoted)? {
         None => Ok(None),
         Some((bytes, left)) => Ok(beside(text_of(bytes), left)),

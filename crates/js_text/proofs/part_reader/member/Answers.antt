@@ -1,5 +1,5 @@
 -- A member is a name, a colon and a reference.
-use Rattle.std.proofs.Common.{ℕ, List, Some, ◌∷◌, ◌++◌, option_map, sym, ap, refl, ◌∙◌, append_assoc}
+use Rattle.std.proofs.Common.{Some, ◌∷◌, ◌++◌, option_map, sym, ap, refl, ◌∙◌, append_assoc}
 use Rattle.std.proofs.lemmas.Bool.{and_parts}
 use Rattle.documents.specs.Tests.{every, is_scalar}
 use Rattle.document_texts.specs.Scalars.{string_text}

@@ -1,10 +1,7 @@
 -- The first byte tells the part's kind, and each kind is read as such.
-use Rattle.std.proofs.Common.{◌≡◌, ◌∷◌, ◌++◌, [], option_map, sym, ap, ◌∙◌}
-use Rattle.shared_documents.specs.Part.{Part}
-use Rattle.document_texts.specs.PartsRead.{is_told}
-use Rattle.document_texts.specs.PartsText.{part_text}
+use Rattle.std.proofs.Common.{◌∷◌, option_map, sym, ap, ◌∙◌}
 use Rattle.js_doc.specs.PartView.{part_view}
-use Rattle.js_text.proofs.PartReading.{kind, kind_at, first-kind, other-kind, reads-null, reads-true, reads-false, reads-string, reads-number, reads-array, reads-object}
+use Rattle.js_text.proofs.PartReading.{kind_at, first-kind, reads-null, reads-true, reads-false, reads-string, reads-array, reads-object}
 use Rattle.std.proofs.lemmas.Result.{IfOk-weaker}
 use Rattle.js_text.proofs.part_reader.part_from.Goals as goal
 

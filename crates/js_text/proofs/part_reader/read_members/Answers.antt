@@ -1,5 +1,5 @@
 -- Each member that is found is the next of the list.
-use Rattle.std.proofs.Common.{◌≡◌, ℕ, List, Bor, option_map, Some, [], ◌∷◌, ◌++◌, map, true, refl, sym, ap, ◌∙◌, subst, arith}
+use Rattle.std.proofs.Common.{◌≡◌, ℕ, List, Bor, option_map, Some, [], ◌∷◌, map, true, refl, sym, ap, ◌∙◌, subst, arith}
 use Rattle.std.proofs.lemmas.Bool.{and_from}
 use Rattle.std.proofs.lemmas.List.{map_push}
 use Rattle.documents.specs.Tests.{every}

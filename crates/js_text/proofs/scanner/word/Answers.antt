@@ -1,5 +1,5 @@
 -- A string's text is read to its UTF-8, and so to its characters.
-use Rattle.std.proofs.Common.{◌≡◌, Option, Some, option_map, sym, ap, ◌∙◌}
+use Rattle.std.proofs.Common.{Some, option_map, sym, ap, ◌∙◌}
 use Rattle.js_text.proofs.ScanLemmas.{Found, found-none, found-word}
 use Rattle.js_text.proofs.scanner.word.Goals as goal
 

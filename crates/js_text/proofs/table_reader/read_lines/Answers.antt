@@ -1,5 +1,5 @@
 -- Each line is that of the next part, or tells the fault.
-use Rattle.std.proofs.Common.{◌≡◌, ◌++◌, ◌∷◌, [], length, Err, sym, ap, ◌∙◌, subst, arith, length-append}
+use Rattle.std.proofs.Common.{◌++◌, ◌∷◌, [], length, Err, sym, ap, ◌∙◌, subst, arith, length-append}
 use Rattle.document_texts.specs.PartsText.{count_text}
 use Rattle.document_text_laws.proofs.ReadLaws.{Reading, fault-line, fault-more, reading-next}
 use Rattle.std.specs.Bool.{◌==◌}
