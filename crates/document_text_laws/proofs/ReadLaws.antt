@@ -214,7 +214,8 @@ front-begins n ps left bytes r =
     }
 
 -- two first lines of the same bytes are the same
-first-same : (line more t u : List ℕ) → FirstLine line more (line ++ more) → Whole 1 t → line ++ more ≡ t ++ u → line ≡ t
+first-same : (line more t u : List ℕ) → FirstLine line more (line ++ more) → Whole 1 t → line ++ more ≡ t ++ u
+    → line ≡ t
 first-same line more t u f w e = go f.ends where
   go : ((front : List ℕ) × (line ≡ front ++ 10 ∷ []) × Within front) ⊎ ((more ≡ []) × Within line) → line ≡ t
   go (inl (front, is, within)) =
@@ -248,7 +249,8 @@ module _ (n : ℕ) (ps : List Part) (left bytes : List ℕ) (r : Reading n ps le
       let count = same-count (length qs) n (lines_text 0 qs) (lines_text 0 ps ++ more) read.few r.few
       (read.text ∙ is ∙ append_assoc (count_text n) (lines_text 0 ps) more) in (
         count.0,
-        goes-on 0 ps qs more (omega (arith, read.few)) (omega (arith, count.0, r.within)) r.told read.told (sym count.1),
+        goes-on 0 ps qs more (omega (arith, read.few)) (omega (arith, count.0, r.within)) r.told read.told
+        (sym count.1),
       )
 
   next-part : (qs : List Part) (line more whole : List ℕ) → length ps < n → FirstLine line more (line ++ more)
@@ -329,7 +331,8 @@ module _ (n : ℕ) (ps : List Part) (left bytes : List ℕ) (r : Reading n ps le
       let behind = parts-behind qs more whole read is in
       go behind.0 behind.1.others behind.1.is behind.1.text
     where
-      go : length qs ≡ n → (others : List Part) → qs ≡ ps ++ others → more ≡ lines_text (0 + length ps) others → more ≡ []
+      go : length qs ≡ n → (others : List Part) → qs ≡ ps ++ others → more ≡ lines_text (0 + length ps) others
+          → more ≡ []
       go size [] e t = t
       go size (p ∷ os) e t =
           absurd (omega (arith, size, ap length e ∙ length-append ps (p ∷ os), all))
@@ -343,7 +346,8 @@ module _ (n : ℕ) (ps : List Part) (left bytes : List ℕ) (r : Reading n ps le
         whole = omega (arith, feeds-cut);
         begins = front-cut;
         ends = λ l b. some (first-none left (none-left (first_lines 1 left) b.behind
-            (no-more b.parts (first_lines 1 left ++ b.behind) (first_lines (suc (suc (length ps))) bytes ++ b.behind) all
+            (no-more b.parts (first_lines 1 left ++ b.behind)
+            (first_lines (suc (suc (length ps))) bytes ++ b.behind) all
             b.read (ap (λ xs. xs ++ b.behind) (lines-cut 1 (suc (suc (length ps))) (omega arith))
             ∙ append_assoc (front_of n ps) (first_lines 1 left) b.behind))));
         none = λ qs read. some (no-more qs left bytes all read bytes-cut);

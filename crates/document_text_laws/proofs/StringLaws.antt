@@ -202,7 +202,8 @@ behind-text s rest =
     ap (read_on plain []) (append_assoc (flat_map character_text s) (34 ∷ []) rest) ∙ read_on-text s [] rest
 
 -- the same by what stands behind the first quote
-pub read_on-string : (s rest : List ℕ) → read_on plain [] (drop 1 (string_text s ++ rest)) ≡ Some (encode_utf8_all s, rest)
+pub read_on-string : (s rest : List ℕ)
+    → read_on plain [] (drop 1 (string_text s ++ rest)) ≡ Some (encode_utf8_all s, rest)
 read_on-string s rest = behind-text s rest
 
 -- ---- two strings with the same text

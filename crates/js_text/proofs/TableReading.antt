@@ -71,7 +71,8 @@ line-behind text line place p t is =
 whole-line : (text : List ℕ) (place : ℕ) (p : Part) → text ≡ before place
     → text ++ part_text p ++ 10 ∷ [] ≡ line_text place p
 whole-line text place p t =
-    ap (λ x. x ++ part_text p ++ 10 ∷ []) t ∙ ap (λ x. x ++ 10 ∷ []) (append_assoc (decimal place) (32 ∷ []) (part_text p))
+    ap (λ x. x ++ part_text p ++ 10 ∷ []) t
+    ∙ ap (λ x. x ++ 10 ∷ []) (append_assoc (decimal place) (32 ∷ []) (part_text p))
 
 pub line-matches : (text line : List ℕ) (place : ℕ) (part : Part) (r : Option Part) → text ≡ before place
     → is_fine part ≡ true → ReadsPart (drop (length text) line) (Some part)
@@ -131,7 +132,8 @@ line_in (Err F.Memory) = 0
 line_in (Err (F.NotAPart n)) = n
 
 -- what is passed on is the fault that was met
-pub passed : {A E : Type 0} (r : Result A E) (met told : E) → IsErrAnd r (λ made. made ≡ met) → r ≡ Err told → met ≡ told
+pub passed : {A E : Type 0} (r : Result A E) (met told : E) → IsErrAnd r (λ made. made ≡ met) → r ≡ Err told
+    → met ≡ told
 passed r met told h e = sym (subst (λ q. IsErrAnd q (λ made. made ≡ met)) e h)
 
 -- the line counts none
