@@ -1,22 +1,19 @@
 -- The lines of a text: a line of a table's text has one line feed, at its end.
-use Rattle.std.proofs.Common.{◌≡◌, ◌⊎◌, inl, inr, ℕ, zero, suc, ◌+◌, ◌*◌, ◌/◌, ◌%◌, ◌^◌, ◌<◌, ◌≤◌, ℤ, pos, negsuc, List, [], ◌∷◌, ◌++◌, length, map, get_or, flat_map, Bool, true, false, ◌&&◌, not, cond, nat_eq, nat_lt, codes, refl, sym, ap, ◌∙◌, subst, arith, append_assoc}
+use Rattle.std.proofs.Common.{◌≡◌, ◌⊎◌, inl, inr, ℕ, zero, suc, ◌+◌, ◌%◌, ◌^◌, ◌<◌, ◌≤◌, ℤ, pos, negsuc, List, [], ◌∷◌, ◌++◌, length, map, get_or, flat_map, Bool, true, false, ◌&&◌, not, nat_eq, codes, refl, sym, ap, ◌∙◌, subst, arith, append_assoc}
 use Rattle.std.specs.Char.{encode_utf8}
 use Rattle.std.specs.Fmt.{decimal, signed_decimal}
-use Rattle.std.proofs.lemmas.Bool.{cases_eq, cases_lt, ne_eqb, eq-eqb, and_parts, ltb-true}
+use Rattle.std.proofs.lemmas.Bool.{cases_eq, cases_lt, ne_eqb, and_parts, ltb-true}
 use Rattle.std.proofs.lemmas.Fmt.{decimal_by_steps_wide}
 use Rattle.std.proofs.lemmas.Str.{encode_ascii}
 use Rattle.documents.specs.Tests.{every, is_scalar}
 use Rattle.shared_documents.specs.Part.{Part, null, boolean, number, string, array, object}
-use Rattle.document_texts.specs.Scalars.{character_text, string_text, joined, enclosed}
+use Rattle.document_texts.specs.Scalars.{character_text, string_text, joined}
 use Rattle.document_texts.specs.PartsText.{reference_text, named_text, part_text, line_text, lines_text, count_text}
 use Rattle.document_texts.specs.PartsRead.{is_named, is_member, is_told, line_feeds, first_lines}
+use Rattle.document_text_laws.specs.Lines.{Within}
 use Rattle.document_text_laws.proofs.StringLaws.{high_bytes, character-plain}
 
 -- ---- bytes without a line feed
-
-pub record Within (xs : List ℕ) : Type 0 where
-  pub lines : (n : ℕ) (ys : List ℕ) → first_lines (suc n) (xs ++ ys) ≡ xs ++ first_lines (suc n) ys
-  pub feeds : (ys : List ℕ) → line_feeds (xs ++ ys) ≡ line_feeds ys
 
 pub within-none : Within []
 within-none = record { lines = λ n ys. refl; feeds = λ ys. refl }
@@ -134,18 +131,18 @@ within-named m h =
 
 module _ {A : Type 0} (write : A → List ℕ) (good : A → Bool) (within : (x : A) → good x ≡ true → Within (write x))
   where
-  within-more : (xs : List A) → every good xs ≡ true → Within (flat_map (λ y. 44 ∷ y) (map write xs))
-  within-more [] h = within-none
-  within-more (x ∷ xs) h =
-      let both = and_parts (good x) (every good xs) h in
-      within-append (44 ∷ write x) (flat_map (λ y. 44 ∷ y) (map write xs))
-      (within-byte 44 (write x) (λ e. omega (arith, e)) (within x both.0)) (within-more xs both.1)
+    within-more : (xs : List A) → every good xs ≡ true → Within (flat_map (λ y. 44 ∷ y) (map write xs))
+    within-more [] h = within-none
+    within-more (x ∷ xs) h =
+        let both = and_parts (good x) (every good xs) h in
+        within-append (44 ∷ write x) (flat_map (λ y. 44 ∷ y) (map write xs))
+        (within-byte 44 (write x) (λ e. omega (arith, e)) (within x both.0)) (within-more xs both.1)
 
-  within-joined : (xs : List A) → every good xs ≡ true → Within (joined (map write xs))
-  within-joined [] h = within-none
-  within-joined (x ∷ xs) h =
-      let both = and_parts (good x) (every good xs) h in
-      within-append (write x) (flat_map (λ y. 44 ∷ y) (map write xs)) (within x both.0) (within-more xs both.1)
+    within-joined : (xs : List A) → every good xs ≡ true → Within (joined (map write xs))
+    within-joined [] h = within-none
+    within-joined (x ∷ xs) h =
+        let both = and_parts (good x) (every good xs) h in
+        within-append (write x) (flat_map (λ y. 44 ∷ y) (map write xs)) (within x both.0) (within-more xs both.1)
 
 within-part : (p : Part) → is_told p ≡ true → Within (part_text p)
 within-part null h = within-test (part_text null) refl

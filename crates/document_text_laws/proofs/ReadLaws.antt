@@ -1,5 +1,5 @@
 -- What bytes are read as: one table at most, or one line at which they stop being the beginning of one.
-use Rattle.std.proofs.Common.{◌≡◌, ◌⊎◌, inl, inr, ℕ, zero, suc, ◌+◌, ◌-◌, ◌<◌, ◌≤◌, List, [], ◌∷◌, ◌++◌, length, Bool, true, ◌&&◌, nat_lt, refl, sym, ap, ap₂, ◌∙◌, subst, arith, append_assoc, append-nil}
+use Rattle.std.proofs.Common.{◌≡◌, ◌⊎◌, inl, inr, ℕ, zero, suc, ◌+◌, ◌-◌, ◌<◌, ◌≤◌, List, [], ◌∷◌, ◌++◌, length, Bool, true, refl, sym, ap, ap₂, ◌∙◌, subst, arith, append_assoc, append-nil}
 use Rattle.std.proofs.lemmas.Bool.{cases_eq, cases_lt, eq-eqb, ne_eqb, and_parts, and_from}
 use Rattle.std.proofs.lemmas.List.{length-append}
 use Rattle.documents.specs.Tests.{every}
@@ -7,8 +7,9 @@ use Rattle.shared_documents.specs.Part.{Part, IsPart, null, is_table, part_at}
 use Rattle.shared_documents.proofs.Laws.{part_at-table, is_table-pushed}
 use Rattle.document_texts.specs.PartsText.{line_text, lines_text, count_text, parts_text}
 use Rattle.document_texts.specs.PartsRead.{is_named, is_told, IsRead, Begins, line_feeds, first_lines, IsFault}
+use Rattle.document_text_laws.specs.Lines.{Within, FirstLine}
 use Rattle.document_text_laws.proofs.PartLaws.{same-line, same-count, same-table}
-use Rattle.document_text_laws.proofs.LineLaws.{Within, Whole, whole-append, whole-line, line-whole, count-whole, lines-whole}
+use Rattle.document_text_laws.proofs.LineLaws.{Whole, whole-append, whole-line, line-whole, count-whole, lines-whole}
 
 -- ---- one table for each text, one line for each fault
 
@@ -26,11 +27,11 @@ longer (suc m) zero bs l = absurd (omega (arith, l))
 longer (suc m) (suc n) [] l = record { others = []; is = refl }
 longer (suc m) (suc n) (b ∷ bs) l = elim (cases_eq b 10) [
   | inl e ↦
-    let rest = longer m n bs (omega (arith, l)) in
-    rw (eq-eqb b 10 e) (record { others = rest.others; is = ap (λ xs. b ∷ xs) rest.is })
+      let rest = longer m n bs (omega (arith, l)) in
+      rw (eq-eqb b 10 e) (record { others = rest.others; is = ap (λ xs. b ∷ xs) rest.is })
   | inr ne ↦
-    let rest = longer (suc m) (suc n) bs l in
-    rw (ne_eqb b 10 ne) (record { others = rest.others; is = ap (λ xs. b ∷ xs) rest.is })
+      let rest = longer (suc m) (suc n) bs l in
+      rw (ne_eqb b 10 ne) (record { others = rest.others; is = ap (λ xs. b ∷ xs) rest.is })
 ]
 
 -- what is longer than no beginning is none
@@ -115,11 +116,6 @@ pub record Reading (count : ℕ) (ps : List Part) (left bytes : List ℕ) : Type
   pub few : count ≤ 4294967295
   pub within : length ps ≤ count
   pub text : count_text count ++ (lines_text 0 ps ++ left) ≡ bytes
-
--- the first line of some bytes, with its line feed where it has one
-pub record FirstLine (line left bytes : List ℕ) : Type 0 where
-  pub text : line ++ left ≡ bytes
-  pub ends : ((front : List ℕ) × (line ≡ front ++ 10 ∷ []) × Within front) ⊎ ((left ≡ []) × Within line)
 
 pub reading-begins : (n : ℕ) (line left bytes : List ℕ) → 0 < n → n ≤ 4294967295 → line ++ left ≡ bytes
     → line ≡ count_text n → Reading n [] left bytes
@@ -218,7 +214,8 @@ front-begins n ps left bytes r =
     }
 
 -- two first lines of the same bytes are the same
-first-same : (line more t u : List ℕ) → FirstLine line more (line ++ more) → Whole 1 t → line ++ more ≡ t ++ u → line ≡ t
+first-same : (line more t u : List ℕ) → FirstLine line more (line ++ more) → Whole 1 t → line ++ more ≡ t ++ u
+    → line ≡ t
 first-same line more t u f w e = go f.ends where
   go : ((front : List ℕ) × (line ≡ front ++ 10 ∷ []) × Within front) ⊎ ((more ≡ []) × Within line) → line ≡ t
   go (inl (front, is, within)) =
@@ -250,10 +247,10 @@ module _ (n : ℕ) (ps : List Part) (left bytes : List ℕ) (r : Reading n ps le
       → (length qs ≡ n) × Goes 0 ps qs more
   parts-behind qs more whole read is =
       let count = same-count (length qs) n (lines_text 0 qs) (lines_text 0 ps ++ more) read.few r.few
-      (read.text ∙ is ∙ append_assoc (count_text n) (lines_text 0 ps) more) in
-      (
+      (read.text ∙ is ∙ append_assoc (count_text n) (lines_text 0 ps) more) in (
         count.0,
-        goes-on 0 ps qs more (omega (arith, read.few)) (omega (arith, count.0, r.within)) r.told read.told (sym count.1),
+        goes-on 0 ps qs more (omega (arith, read.few)) (omega (arith, count.0, r.within)) r.told read.told
+        (sym count.1),
       )
 
   next-part : (qs : List Part) (line more whole : List ℕ) → length ps < n → FirstLine line more (line ++ more)
@@ -334,7 +331,8 @@ module _ (n : ℕ) (ps : List Part) (left bytes : List ℕ) (r : Reading n ps le
       let behind = parts-behind qs more whole read is in
       go behind.0 behind.1.others behind.1.is behind.1.text
     where
-      go : length qs ≡ n → (others : List Part) → qs ≡ ps ++ others → more ≡ lines_text (0 + length ps) others → more ≡ []
+      go : length qs ≡ n → (others : List Part) → qs ≡ ps ++ others → more ≡ lines_text (0 + length ps) others
+          → more ≡ []
       go size [] e t = t
       go size (p ∷ os) e t =
           absurd (omega (arith, size, ap length e ∙ length-append ps (p ∷ os), all))
@@ -348,7 +346,8 @@ module _ (n : ℕ) (ps : List Part) (left bytes : List ℕ) (r : Reading n ps le
         whole = omega (arith, feeds-cut);
         begins = front-cut;
         ends = λ l b. some (first-none left (none-left (first_lines 1 left) b.behind
-            (no-more b.parts (first_lines 1 left ++ b.behind) (first_lines (suc (suc (length ps))) bytes ++ b.behind) all
+            (no-more b.parts (first_lines 1 left ++ b.behind)
+            (first_lines (suc (suc (length ps))) bytes ++ b.behind) all
             b.read (ap (λ xs. xs ++ b.behind) (lines-cut 1 (suc (suc (length ps))) (omega arith))
             ∙ append_assoc (front_of n ps) (first_lines 1 left) b.behind))));
         none = λ qs read. some (no-more qs left bytes all read bytes-cut);

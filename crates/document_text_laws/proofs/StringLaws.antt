@@ -1,5 +1,5 @@
 -- A string's text is read in one way: what it says, and what comes behind it.
-use Rattle.std.proofs.Common.{◌≡◌, ◌⊎◌, inl, inr, ℕ, zero, suc, ◌+◌, ◌*◌, ◌<◌, ◌≤◌, List, [], ◌∷◌, ◌++◌, length, get_or, drop, flat_map, true, cond, nat_eq, Option, Some, None, encode_utf8_all, chars, refl, sym, ap, ◌∙◌, subst, arith, append-nil, append_assoc}
+use Rattle.std.proofs.Common.{◌≡◌, ◌⊎◌, inl, inr, ℕ, zero, suc, ◌<◌, ◌≤◌, List, [], ◌∷◌, ◌++◌, length, get_or, drop, flat_map, true, Option, Some, None, encode_utf8_all, chars, refl, sym, ap, ◌∙◌, subst, arith, append-nil, append_assoc}
 use Rattle.std.specs.Char.{encode_utf8}
 use Rattle.std.proofs.lemmas.Bool.{cases_eq, cases_lt, ne_eqb, le-ltb, and_parts, and_from}
 use Rattle.std.proofs.lemmas.Str.{encode_ascii, inside_one, chars-encodes}
@@ -202,7 +202,8 @@ behind-text s rest =
     ap (read_on plain []) (append_assoc (flat_map character_text s) (34 ∷ []) rest) ∙ read_on-text s [] rest
 
 -- the same by what stands behind the first quote
-pub read_on-string : (s rest : List ℕ) → read_on plain [] (drop 1 (string_text s ++ rest)) ≡ Some (encode_utf8_all s, rest)
+pub read_on-string : (s rest : List ℕ)
+    → read_on plain [] (drop 1 (string_text s ++ rest)) ≡ Some (encode_utf8_all s, rest)
 read_on-string s rest = behind-text s rest
 
 -- ---- two strings with the same text

@@ -20,7 +20,7 @@ pub record Left {A : Type 0} (write : A → List ℕ) (good : A → Bool) (close
 abbrev pub Listing : {A : Type 0} → (A → List ℕ) → (A → Bool) → ℕ → List A → (text left : List ℕ) → Type 0
 Listing {A} write good close done text left =
     (xs : List A) (rest : List ℕ) → every good xs ≡ true → text ≡ joined (map write xs) ++ close ∷ rest
-        → Left write good close done xs rest left
+    → Left write good close done xs rest left
 
 pub listing-none : {A : Type 0} (write : A → List ℕ) (good : A → Bool) (close : ℕ) (text : List ℕ)
     → Listing write good close [] text text

@@ -1,5 +1,5 @@
 -- A number of 128 bits is what the program reads of its text.
-use Rattle.std.proofs.Common.{◌≡◌, ℕ, zero, suc, ◌^◌, ◌<◌, ◌≤◌, ℤ, pos, negsuc, neg_ℤ, List, [], ◌∷◌, true, Result, Ok, IsAscii, IsUtf8, refl, sym, ap, ◌∙◌, subst, arith}
+use Rattle.std.proofs.Common.{◌≡◌, ℕ, zero, suc, ◌^◌, ◌<◌, ◌≤◌, ℤ, pos, negsuc, neg_ℤ, List, ◌∷◌, true, Result, Ok, IsAscii, IsUtf8, refl, sym, ap, ◌∙◌, subst, arith}
 use mir.Syntax.{Width}
 use mir.Val.{hbits}
 use Rattle.std.specs.Fmt.{decimal, signed_decimal}
@@ -32,7 +32,8 @@ signed-parsed w (pos n) bytes r size h is p =
     let k = decimal_is_IsNumeral_wide n (omega (arith, small)) in
     let read = parse_signed_digits (numerals_by_value _ tells_digits) w (decimal n) r
     (subst (λ l. ParsesSigned w 10 l r) is p) k.0.1 in
-    Ok-from_Ok_iff r _ _ read (k.0.0, subst (λ b. digits_value 10 (decimal n) < 2 ^ b) (sym size) (omega (arith, k.1, small)))
+    Ok-from_Ok_iff r _ _ read
+    (k.0.0, subst (λ b. digits_value 10 (decimal n) < 2 ^ b) (sym size) (omega (arith, k.1, small)))
     ∙ ap (λ m. Ok (pos m)) k.1
 signed-parsed w (negsuc n) bytes r size h is p =
     let small = ltb-true n 170141183460469231731687303715884105728 h in

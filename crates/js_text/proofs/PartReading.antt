@@ -1,5 +1,5 @@
 -- The first byte of a part's text tells its kind.
-use Rattle.std.proofs.Common.{◌≡◌, ℕ, suc, ◌^◌, ◌<◌, ◌≤◌, ℤ, pos, negsuc, List, [], ◌∷◌, ◌++◌, map, Bool, true, false, cond, nat_eq, Option, Some, refl, sym, ap, ◌∙◌, arith, append_assoc}
+use Rattle.std.proofs.Common.{◌≡◌, ℕ, ◌<◌, ◌≤◌, ℤ, pos, negsuc, List, [], ◌∷◌, ◌++◌, map, true, false, cond, nat_eq, Option, Some, refl, sym, ap, ◌∙◌, arith, append_assoc}
 use Rattle.std.specs.Char.{is_ascii_digit}
 use Rattle.std.specs.Fmt.{decimal, signed_decimal}
 use Rattle.std.proofs.lemmas.Bool.{ne_eqb, ltb-true}
@@ -29,7 +29,8 @@ kind (number z) = 6
 
 pub other-kind : (x : ℕ) → (x ≡ 110 → ⊥) → (x ≡ 116 → ⊥) → (x ≡ 102 → ⊥) → (x ≡ 34 → ⊥) → (x ≡ 91 → ⊥)
     → (x ≡ 123 → ⊥) → kind_at x ≡ 6
-other-kind x a b c d e f = rw (ne_eqb x 110 a, ne_eqb x 116 b, ne_eqb x 102 c, ne_eqb x 34 d, ne_eqb x 91 e, ne_eqb x 123 f) refl
+other-kind x a b c d e f =
+    rw (ne_eqb x 110 a, ne_eqb x 116 b, ne_eqb x 102 c, ne_eqb x 34 d, ne_eqb x 91 e, ne_eqb x 123 f) refl
 
 low-kind : (x : ℕ) → 35 ≤ x → x < 58 → kind_at x ≡ 6
 low-kind x l h =

@@ -1,5 +1,5 @@
 -- What is read from the front of bytes.
-use Rattle.std.proofs.Common.{◌≡◌, ℕ, suc, ◌-◌, ◌≤◌, List, [], ◌∷◌, ◌++◌, length, take, drop, Option, Some, None, encode_utf8_all, ap, ◌∙◌, arith}
+use Rattle.std.proofs.Common.{◌≡◌, ℕ, ◌-◌, List, [], ◌∷◌, ◌++◌, length, take, drop, Option, Some, None, encode_utf8_all, ap, ◌∙◌, arith}
 use Rattle.std.proofs.lemmas.List.{take_all, length-append}
 use Rattle.std.proofs.Math.Seq.{take-append_seam}
 use Rattle.document_texts.specs.Scalars.{string_text}

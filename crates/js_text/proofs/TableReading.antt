@@ -1,5 +1,5 @@
 -- Lines that are read, written again and compared.
-use Rattle.std.proofs.Common.{◌≡◌, ℕ, suc, ◌+◌, ◌-◌, ◌^◌, ◌<◌, ◌≤◌, List, [], ◌∷◌, ◌++◌, length, take, drop, Bool, true, false, ◌&&◌, nat_lt, nat_le, Option, Some, None, Result, Ok, Err, codes, bytes_eq, refl, sym, ap, ◌∙◌, subst, arith, append_assoc}
+use Rattle.std.proofs.Common.{◌≡◌, ℕ, ◌-◌, ◌<◌, ◌≤◌, List, [], ◌∷◌, ◌++◌, length, take, drop, true, false, nat_lt, nat_le, Option, Some, None, Result, Ok, Err, codes, bytes_eq, refl, sym, ap, ◌∙◌, subst, arith, append_assoc}
 use Rattle.std.specs.Fmt.{decimal}
 use Rattle.std.specs.List.{find}
 use Rattle.std.specs.Result.{IsErrAnd}
@@ -8,7 +8,7 @@ use Rattle.std.proofs.lemmas.List.{take_all, length-drop}
 use Rattle.std.proofs.lemmas.Slice.Eq.{bytes_eq-Decides}
 use Rattle.std.proofs.Math.Seq.{drop-append_seam}
 use Rattle.documents.specs.Tests.{every}
-use Rattle.shared_documents.specs.Part.{Part, IsPart, names_below, names_rise, named, first_forward}
+use Rattle.shared_documents.specs.Part.{Part, names_below, names_rise, named, first_forward}
 use Rattle.shared_documents.proofs.Laws.{below-none_forward}
 use Rattle.document_texts.specs.PartsText.{part_text, line_text, count_text}
 use Rattle.document_texts.specs.PartsRead.{is_told, is_named}
@@ -71,7 +71,8 @@ line-behind text line place p t is =
 whole-line : (text : List ℕ) (place : ℕ) (p : Part) → text ≡ before place
     → text ++ part_text p ++ 10 ∷ [] ≡ line_text place p
 whole-line text place p t =
-    ap (λ x. x ++ part_text p ++ 10 ∷ []) t ∙ ap (λ x. x ++ 10 ∷ []) (append_assoc (decimal place) (32 ∷ []) (part_text p))
+    ap (λ x. x ++ part_text p ++ 10 ∷ []) t
+    ∙ ap (λ x. x ++ 10 ∷ []) (append_assoc (decimal place) (32 ∷ []) (part_text p))
 
 pub line-matches : (text line : List ℕ) (place : ℕ) (part : Part) (r : Option Part) → text ≡ before place
     → is_fine part ≡ true → ReadsPart (drop (length text) line) (Some part)
@@ -131,7 +132,8 @@ line_in (Err F.Memory) = 0
 line_in (Err (F.NotAPart n)) = n
 
 -- what is passed on is the fault that was met
-pub passed : {A E : Type 0} (r : Result A E) (met told : E) → IsErrAnd r (λ made. made ≡ met) → r ≡ Err told → met ≡ told
+pub passed : {A E : Type 0} (r : Result A E) (met told : E) → IsErrAnd r (λ made. made ≡ met) → r ≡ Err told
+    → met ≡ told
 passed r met told h e = sym (subst (λ q. IsErrAnd q (λ made. made ≡ met)) e h)
 
 -- the line counts none

@@ -6,9 +6,8 @@ ghost use Rattle.documents.specs.Tests.{every, is_scalar};
 ghost use Rattle.document_texts.specs.Scalars.{string_text};
 ghost use Rattle.document_texts.specs.PartsRead.{is_named};
 ghost use Rattle.document_texts.specs.PartsText.{reference_text};
-
 ghost use Rattle.document_text_laws.specs.Reader.{number_on, read_on, closes, next, grown, escape_of, with_digit, plain};
-ghost use Rattle.document_text_laws.proofs.ReadLaws.{FirstLine};
+ghost use Rattle.document_text_laws.specs.Lines.{FirstLine};
 ghost use Rattle.js_text.specs.Reads.{Gives, Reads, Takes, mode_of};
 
 use js_doc::{Memory, PartId, Str};
@@ -49,7 +48,8 @@ pub(crate) fn number(text: &[u8]) -> Option<(u32, &[u8])>
 
 /// The number of a part behind its mark.
 pub(crate) fn reference(text: &[u8]) -> Option<(PartId, &[u8])>
-    ensures reads { Reads reference_text is_named text.now (option_map {U = ℕ × List ℕ} (λ (id, left). (id.0, left.now)) result) }
+    ensures reads { Reads reference_text is_named text.now
+        (option_map {U = ℕ × List ℕ} (λ (id, left). (id.0, left.now)) result) }
     ensures takes { Takes is_named text.now (option_map {U = ℕ × List ℕ} (λ (id, left). (id.0, left.now)) result) }
 {
     let [_, rest @ ..] = text else { return None };
@@ -129,7 +129,8 @@ fn grow(out: &mut Vec<u8>, place: Place, byte: u8) -> Result<(), Memory>
 
 /// The bytes of a string up to its last quote, and what comes behind.
 fn unquoted<'a>(alloc: Global, text: &'a [u8]) -> Result<Option<(Vec<u8>, &'a [u8])>, Memory>
-    ensures bytes { IfOk result (λ r. option_map {U = List ℕ × List ℕ} (λ (v, left). (v.items, left.now)) r ≡ read_on plain [] text.now) }
+    ensures bytes { IfOk result (λ r. option_map {U = List ℕ × List ℕ} (λ (v, left). (v.items, left.now)) r
+        ≡ read_on plain [] text.now) }
     ensures shorter { IfOk result (λ r. IfSome r (λ p. length p.1.now < length text.now)) }
 {
     let mut out = Vec::new(alloc);
@@ -150,9 +151,12 @@ fn unquoted<'a>(alloc: Global, text: &'a [u8]) -> Result<Option<(Vec<u8>, &'a [u
 pub(crate) fn word<'a>(alloc: Global, text: &'a [u8]) -> Result<Option<(Str, &'a [u8])>, Memory>
     ensures reads { IfOk result (λ r. Reads string_text (every is_scalar) text.now
         (option_map {U = List ℕ × List ℕ} (λ (w, left). (w, left.now)) r)) }
-    ensures takes { IfOk result (λ r. Takes (every is_scalar) text.now (option_map {U = List ℕ × List ℕ} (λ (w, left). (w, left.now)) r)) }
+    ensures takes { IfOk result (λ r. Takes (every is_scalar) text.now
+        (option_map {U = List ℕ × List ℕ} (λ (w, left). (w, left.now)) r)) }
 {
-    let [_, quoted @ ..] = text else { return Ok(None) };
+    let [_, quoted @ ..] = text else {
+        return Ok(None)
+    };
     match unquoted(alloc, quoted)? {
         None => Ok(None),
         Some((bytes, left)) => Ok(beside(text_of(bytes), left)),
@@ -160,7 +164,8 @@ pub(crate) fn word<'a>(alloc: Global, text: &'a [u8]) -> Result<Option<(Str, &'a
 }
 
 fn beside(word: Option<Str>, left: &[u8]) -> Option<(Str, &[u8])>
-    ensures { option_map {U = List ℕ × List ℕ} (λ (w, rest). (w, rest.now)) result ≡ option_map (λ w. (w, left.now)) word }
+    ensures { option_map {U = List ℕ × List ℕ} (λ (w, rest). (w, rest.now)) result
+        ≡ option_map (λ w. (w, left.now)) word }
 {
     match word {
         None => None,

@@ -8,8 +8,8 @@ ghost use Rattle.js_doc.specs.PartView.{part_view};
 ghost use Rattle.js_text.specs.Reads.{IsNoLine, IsTaken, Matches, ReadsCount, ReadsLine};
 
 use crate::part_reader::read_part;
-use crate::scanner::{first_line, number};
 use crate::scalars::push_word;
+use crate::scanner::{first_line, number};
 use crate::table::push_part;
 use js_doc::{Memory, Part, PartId, Parts, PartsFault};
 use std::alloc::{AllocError, Global};

@@ -1,6 +1,6 @@
-//! Texts of a small table and of its documents, and what is measured of them.
+//! Texts of a small table and of its documents, what is measured of them, and which texts are read.
 
-use crate::{Measures, doc_text, parts_text};
+use crate::{Measures, PartsLineFault, doc_text, parts_read, parts_text};
 use js_doc::{Part, PartId, PartIds, PartMap, PartMember, Parts, Str, unshare};
 use std::alloc::Global;
 use std::test::Fail;
@@ -56,5 +56,64 @@ fn texts_and_measures_of_a_table(rt: HostRuntime) -> Result<(), Fail> {
     assert!(rt; is_told(alloc, &parts, 4, "{\"é\\n\":[-5,[]]}", 3)?);
     let lines = "parts 5\n0 -5\n1 \"é\\n\"\n2 []\n3 [#0,#2]\n4 {\"é\\n\":#3}\n";
     assert!(rt; has_lines(alloc, &parts, lines)?);
+    Ok(())
+}
+
+/// The text is read, and what is read has it again.
+fn is_read(alloc: Global, text: &str) -> Result<bool, Fail> {
+    match parts_read(alloc, text.as_bytes()) {
+        Ok((parts, root)) => {
+            let written = parts_text(alloc, &parts, root)?;
+            Ok(written.as_slice() == text.as_bytes())
+        }
+        Err(_) => Ok(false),
+    }
+}
+
+#[test]
+fn texts_that_are_read(rt: HostRuntime) -> Result<(), Fail> {
+    let alloc = rt.alloc();
+    let cases = [
+        "parts 1\n0 null\n",
+        "parts 2\n0 true\n1 false\n",
+        "parts 2\n0 -170141183460469231731687303715884105728\n1 170141183460469231731687303715884105727\n",
+        "parts 2\n0 \"\\u0001\\b\\\"\\\\/é😀\"\n1 \"\"\n",
+        "parts 4\n0 []\n1 {}\n2 [#0,#1,#0]\n3 {\"\":#2,\",\\\"#\":#0}\n",
+    ];
+    for text in &cases {
+        assert!(rt; is_read(alloc, text)?);
+    }
+    Ok(())
+}
+
+#[test]
+fn lines_that_are_told(rt: HostRuntime) -> Result<(), Fail> {
+    let alloc = rt.alloc();
+    let cases = [
+        ("", 1),
+        ("parts 1", 1),
+        ("parts 0\n", 1),
+        ("parts 01\n0 null\n", 1),
+        ("parts 4294967296\n0 null\n", 1),
+        ("parts 1\n", 2),
+        ("parts 1\n0 nul", 2),
+        ("parts 1\n0 null", 2),
+        ("parts 1\n1 null\n", 2),
+        ("parts 1\n0 -0\n", 2),
+        ("parts 1\n0 170141183460469231731687303715884105728\n", 2),
+        ("parts 1\n0 \"\\u0041\"\n", 2),
+        ("parts 1\n0 [#0]\n", 2),
+        ("parts 2\n0 null\n1 [#0, #0]\n", 3),
+        ("parts 2\n0 null\n1 [#0,]\n", 3),
+        ("parts 2\n0 null\n1 {\"b\":#0,\"a\":#0}\n", 3),
+        ("parts 2\n0 null\n1 {\"a\":#0,\"a\":#0}\n", 3),
+        ("parts 1\n0 null\n1 null\n", 3),
+        ("parts 1\n0 null\n\n", 3),
+        ("parts 1\n0 null\nx", 3),
+    ];
+    for (text, line) in &cases {
+        let fault = parts_read(alloc, text.as_bytes()).err();
+        assert!(rt; fault == Some(PartsLineFault::NotAPart(*line)));
+    }
     Ok(())
 }

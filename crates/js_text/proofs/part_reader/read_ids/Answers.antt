@@ -1,5 +1,5 @@
 -- Each number that is found is the next of the list.
-use Rattle.std.proofs.Common.{◌≡◌, Some, [], ◌∷◌, ◌++◌, map, true, refl, sym, ap, ◌∙◌, subst, arith}
+use Rattle.std.proofs.Common.{◌≡◌, Some, [], ◌∷◌, map, true, refl, sym, ap, ◌∙◌, subst, arith}
 use Rattle.std.proofs.lemmas.Bool.{and_from}
 use Rattle.std.proofs.lemmas.List.{map_push}
 use Rattle.documents.specs.Tests.{every}
@@ -21,7 +21,8 @@ returns-in_default-clause-reads c xs rest good is =
 pub loop-left-preserved : goal.loop-left-preserved
 loop-left-preserved c =
     let done = map number_of c.loop-left.found.items in
-    let all = sym (ap (map number_of) c.in_ok-push.ensures.items ∙ map_push number_of c.loop-left.found.items c.in-Some.id) in
+    let all = sym (ap (map number_of) c.in_ok-push.ensures.items
+    ∙ map_push number_of c.loop-left.found.items c.in-Some.id) in
     record {
       listing = subst (λ ds. Listing reference_text is_named 93 ds c.args.text.now c.in-Some.rest.now) all
           (listing-step reference_text is_named 35 93 references array_end (λ e. omega (arith, e)) done

@@ -1,5 +1,5 @@
 -- Each member that is found is the next of the list.
-use Rattle.std.proofs.Common.{◌≡◌, ℕ, List, Bor, option_map, Some, [], ◌∷◌, ◌++◌, map, true, refl, sym, ap, ◌∙◌, subst, arith}
+use Rattle.std.proofs.Common.{◌≡◌, ℕ, List, Bor, option_map, Some, [], ◌∷◌, map, true, refl, sym, ap, ◌∙◌, subst, arith}
 use Rattle.std.proofs.lemmas.Bool.{and_from}
 use Rattle.std.proofs.lemmas.List.{map_push}
 use Rattle.documents.specs.Tests.{every}
@@ -27,13 +27,15 @@ returns-in-None-clause-reads c xs rest good is =
 pub loop-left-preserved : goal.loop-left-preserved
 loop-left-preserved c =
     let done = map member_view c.loop-left.found.items in
-    let all = sym (ap (map member_view) c.in_ok-push-in-Some.ensures.items ∙ map_push member_view c.loop-left.found.items c.in-Some.member) in
+    let all = sym (ap (map member_view) c.in_ok-push-in-Some.ensures.items
+    ∙ map_push member_view c.loop-left.found.items c.in-Some.member) in
     let takes = subst (λ r. Takes is_member c.behind_comma.result.now (option_map members_left r)) c.in-Some.is
     c.in_ok-member.ensures.takes in
     record {
       listing = subst (λ ds. Listing named_text is_member 125 ds c.args.text.now c.in-Some.rest.now) all
           (listing-step named_text is_member 34 125 members object_end (λ e. omega (arith, e)) done
-          (member_view c.in-Some.member) c.args.text.now c.loop-left.left.now c.behind_comma.result.now c.in-Some.rest.now
+          (member_view c.in-Some.member) c.args.text.now
+          c.loop-left.left.now c.behind_comma.result.now c.in-Some.rest.now
           c.loop-left.invariant.listing (sym c.ends_list.ensures ∙ c.loop-left-test.true) c.behind_comma.ensures.value
           (subst (λ r. Reads named_text is_member c.behind_comma.result.now (option_map members_left r)) c.in-Some.is
           c.in_ok-member.ensures.reads));

@@ -12,7 +12,8 @@ returns-in-None c p told rises is =
     let line = c.args.line.now in
     let k = length c.as_bytes-start.result.now in
     let slice = take (length line - k) (drop k line) in
-    let text = c.in_ok-write.ensures.bytes ∙ ap (λ t. t ++ (decimal c.args.place ++ 32 ∷ [])) c.new-text.ensures.bytes in
+    let text = c.in_ok-write.ensures.bytes
+    ∙ ap (λ t. t ++ (decimal c.args.place ++ 32 ∷ [])) c.new-text.ensures.bytes in
     line-none _ line c.args.place p text
     (subst (λ t. ReadsPart t None) (slice-from line _ k (ap length c.as_bytes-start.ensures.value))
     (subst (λ r. ReadsPart slice (option_map part_view r)) c.in-None.is c.in_ok-read_part.ensures.reads)) told rises is
@@ -23,7 +24,8 @@ returns-in-Some c =
     let k = length c.as_bytes-start.result.now in
     let slice = take (length line - k) (drop k line) in
     let part = part_view c.in-Some.part in
-    let text = c.in_ok-write.ensures.bytes ∙ ap (λ t. t ++ (decimal c.args.place ++ 32 ∷ [])) c.new-text.ensures.bytes in
+    let text = c.in_ok-write.ensures.bytes
+    ∙ ap (λ t. t ++ (decimal c.args.place ++ 32 ∷ [])) c.new-text.ensures.bytes in
     IfOk-weaker c.same_line.result _ _
     (λ r h. line-matches _ line c.args.place part (option_map part_view r) text
     (subst (λ o. Gives is_fine (option_map part_view o)) c.in-Some.is c.in_ok-read_part.ensures.gives)

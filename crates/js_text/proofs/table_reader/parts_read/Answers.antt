@@ -18,4 +18,5 @@ returns-in-Some-eq0-clause-fault c line e =
     let read = subst (ReadsCount c.first_line.result.0.now) c.in-Some-eq0.is c.in_ok-read_count.ensures in
     subst (λ n. IsFault n c.args.bytes.now) (ap line_in e)
     (fault-count c.first_line.result.0.now c.first_line.result.1.now c.args.bytes.now c.first_line.ensures
-    (λ n some l is. counts-none c.first_line.result.0.now c.in-Some-eq0.field-0 n read c.in-Some-eq0.field-0-test some l is))
+    (λ n some l is. counts-none c.first_line.result.0.now
+    c.in-Some-eq0.field-0 n read c.in-Some-eq0.field-0-test some l is))

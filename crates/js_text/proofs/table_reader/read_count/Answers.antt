@@ -1,5 +1,5 @@
 -- A count is read of its text, and its text is compared.
-use Rattle.std.proofs.Common.{◌≡◌, ℕ, length, [], ◌∷◌, Some, ap, ◌∙◌, arith}
+use Rattle.std.proofs.Common.{length, [], ◌∷◌, ap, ◌∙◌, arith}
 use Rattle.std.proofs.lemmas.Result.{IfOk-weaker}
 use Rattle.document_text_laws.specs.Reader.{number_on}
 use Rattle.js_text.proofs.ScanLemmas.{none-some, some-same}

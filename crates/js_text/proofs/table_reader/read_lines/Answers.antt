@@ -1,5 +1,5 @@
 -- Each line is that of the next part, or tells the fault.
-use Rattle.std.proofs.Common.{◌≡◌, ◌++◌, ◌∷◌, [], length, Err, sym, ap, ◌∙◌, subst, arith, length-append}
+use Rattle.std.proofs.Common.{◌++◌, ◌∷◌, [], length, Err, sym, ap, ◌∙◌, subst, arith, length-append}
 use Rattle.document_texts.specs.PartsText.{count_text}
 use Rattle.document_text_laws.proofs.ReadLaws.{Reading, fault-line, fault-more, reading-next}
 use Rattle.std.specs.Bool.{◌==◌}
@@ -23,7 +23,8 @@ pub loop-preserved : goal.loop-preserved
 loop-preserved c =
     let t = c.in_ok-take_line.ensures.taken in
     record {
-      reading = subst (λ ps. Reading c.args.count ps c.first_line.result.1.now (count_text c.args.count ++ c.args.lines.now))
+      reading = subst (λ ps. Reading c.args.count ps c.first_line.result.1.now
+          (count_text c.args.count ++ c.args.lines.now))
           (sym t.taken)
           (reading-next c.args.count c.loop.parts t.part c.first_line.result.0.now c.first_line.result.1.now
           c.loop.left.now _ c.loop.invariant.reading (omega (arith, c.loop.invariant.size, c.loop-test.true))
