@@ -1,5 +1,5 @@
 -- There are no more alternatives with numbers than places.
-use Rattle.std.proofs.Common.{ℕ, ◌+◌, ◌≤◌, List, [], ◌∷◌, ◌++◌, length, Option, Some, None, arith}
+use Rattle.std.proofs.Common.{◌+◌, ◌≤◌, List, [], ◌∷◌, ◌++◌, length, Option, Some, None, arith}
 use Rattle.goals.specs.Signed.{Signed}
 use Rattle.alternatives.specs.Alternative.{Alternative, places_of, places}
 use Rattle.search.specs.Rounds.{NumberedPlaced, number_members, with_members, numbered}

@@ -1,5 +1,5 @@
 -- How many goals have an answer.
-use Rattle.std.proofs.Common.{◌≡◌, ℕ, zero, suc, ◌+◌, ◌≤◌, ◌<◌, List, [], ◌∷◌, replicate, length, set, Bool, true, false, cond, Option, Some, None, is_some, option_map, get_or, refl, ap, ap₂, sym, ◌∙◌, arith}
+use Rattle.std.proofs.Common.{◌≡◌, ℕ, zero, suc, ◌+◌, ◌≤◌, ◌<◌, List, [], ◌∷◌, replicate, length, set, Bool, true, false, cond, Option, Some, None, option_map, get_or, refl, ap, ap₂, ◌∙◌, arith}
 use Rattle.search.specs.Rounds.{is_met, first_place, told}
 use Rattle.js_explore.specs.Exploration.{Exploration, alternatives_at}
 use Rattle.js_rounds.specs.Seen.{seen}

@@ -1,16 +1,16 @@
 -- The alternative of a goal's answer, for an expander that keeps its laws: its words are there, and its names differ.
-use Rattle.std.proofs.Common.{◌≡◌, ◌<◌, ℕ, zero, suc, List, [], map, length, Bool, true, false, ◌&&◌, nat_eq, Option, Some, None, is_some, slice_get, get_or, Result, Ok, Err, IfOk, refl, ap, ap₂, sym, ◌∙◌, subst, eq-eqb}
-use Rattle.std.proofs.lemmas.Bool.{and_parts, and_from}
-use Rattle.documents.specs.Tests.{every, some, same_word}
+use Rattle.std.proofs.Common.{◌≡◌, ◌<◌, ℕ, List, map, length, Bool, true, ◌&&◌, nat_eq, Some, is_some, slice_get, Result, Ok, Err, IfOk, refl, ap, ap₂, sym, ◌∙◌, subst, eq-eqb}
+use Rattle.std.proofs.lemmas.Bool.{and_from}
+use Rattle.documents.specs.Tests.{every, same_word}
 use Rattle.documents.specs.Kind as K
 use Rattle.documents.specs.Kind.{Kind, same_kind}
 use Rattle.goals.specs.Signed.{Signed}
 use Rattle.list_laws.proofs.Lists.{every_at}
 use Rattle.list_laws.proofs.Tests.{some_from}
-use Rattle.alternatives.specs.Alternative.{Shape, Text, Members, Alternative}
+use Rattle.alternatives.specs.Alternative.{Text, Members}
 use Rattle.alternatives.specs.Slots.{capacity, cell_at, word_at, has_room, has_words, are_different, has_fitting_slots, has_different_slots, has_different_words}
 use Rattle.alternatives.specs.Expansion.{Expansion, names_branch}
-use Rattle.search.specs.Rounds.{Numbered, alternatives_of, round, answer}
+use Rattle.search.specs.Rounds.{Numbered, alternatives_of, round}
 use Rattle.search.specs.Uses as U
 use Rattle.search.specs.Uses.{satisfied, chosen_in, contents_in, contents_of, round_before, contents}
 use Rattle.search.specs.Witness.{named, by_shape, of_goal, part}

@@ -1,12 +1,11 @@
 -- Marks of the goals that runs have.
-use Rattle.std.proofs.Common.{◌≡◌, ◌≢◌, ◌<◌, ◌≤◌, ◌⊎◌, inl, inr, ℕ, zero, suc, ◌+◌, List, [], ◌∷◌, ◌++◌, Bool, true, false, ◌&&◌, ◌||◌, nat_eq, nat_lt, length, drop, get_or, set, get_or-set_same, get_or-set_other, refl, ap, ap₂, sym, ◌∙◌, subst, arith, eqb-true, eq-eqb}
-use Rattle.std.proofs.lemmas.Bool.{lt-ltb, le-ltb}
+use Rattle.std.proofs.Common.{◌≡◌, ◌≢◌, ◌<◌, ◌≤◌, ◌⊎◌, inl, inr, ℕ, zero, suc, ◌+◌, List, [], ◌∷◌, ◌++◌, Bool, true, false, ◌&&◌, ◌||◌, nat_eq, nat_lt, length, drop, get_or, set, get_or-set_same, get_or-set_other, refl, ap, sym, ◌∙◌, subst, arith}
+use Rattle.std.proofs.lemmas.Bool.{lt-ltb}
 use Rattle.std.proofs.lemmas.Bool.Decides.{eqb_tells}
 use Rattle.std.proofs.lemmas.List.{drop_all}
 use Rattle.documents.specs.Tests.{some}
 use Rattle.alternatives.specs.Alternative.{Slot}
 use Rattle.alternatives.specs.Slots.{next_slot}
-use Rattle.search.specs.Rounds.{NumberedPlaced}
 use Rattle.search.specs.Uses.{repeated}
 use Rattle.js_expansion.specs.View.{slot_view}
 use Rattle.js_rounds.specs.Spread.{spread}

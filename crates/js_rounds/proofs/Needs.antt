@@ -1,5 +1,5 @@
 -- How many words of a cell are needed.
-use Rattle.std.proofs.Common.{◌≡◌, ◌≢◌, ℕ, zero, suc, ◌+◌, ◌-◌, ◌≤◌, ◌<◌, ◌⊎◌, inl, inr, max, List, [], ◌∷◌, ◌++◌, map, Bool, true, false, ◌&&◌, cond, nat_eq, nat_le, nat_lt, length, take, drop, get_or, set, replicate, refl, ap, ap₂, sym, ◌∙◌, subst, arith, get_or-set_same, get_or-set_other, eqb-true, eq-eqb}
+use Rattle.std.proofs.Common.{◌≡◌, ◌≢◌, ℕ, zero, suc, ◌+◌, ◌≤◌, ◌<◌, ◌⊎◌, inl, inr, max, List, [], ◌∷◌, ◌++◌, map, Bool, true, false, ◌&&◌, cond, nat_eq, nat_le, nat_lt, length, take, drop, get_or, set, replicate, refl, ap, ap₂, sym, ◌∙◌, subst, arith, get_or-set_same, get_or-set_other, eqb-true, eq-eqb}
 use Rattle.std.proofs.lemmas.Bool.{and_parts, leb-true}
 use Rattle.std.proofs.lemmas.Bool.Decides.{eqb_tells}
 use Rattle.std.proofs.lemmas.List.{take_all, drop_all}
@@ -7,7 +7,7 @@ use Rattle.documents.specs.Tests.{every}
 use Rattle.list_laws.specs.In.{IsIn}
 use Rattle.list_laws.proofs.Lists.{in_append}
 use Rattle.alternatives.specs.Alternative.{Slot, Index, Name}
-use Rattle.alternatives.specs.Slots.{capacity, cell_at, word_at, has_room, next_slot}
+use Rattle.alternatives.specs.Slots.{capacity, cell_at, word_at, has_room}
 use Rattle.expansions.specs.DocumentOf.{slot_name}
 use Rattle.search.specs.Rounds.{NumberedPlaced}
 use Rattle.search.specs.Uses.{repeated}

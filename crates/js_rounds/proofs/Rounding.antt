@@ -1,12 +1,11 @@
 -- Sweep after sweep, until one adds no goal.
-use Rattle.std.proofs.Common.{◌≡◌, ℕ, zero, suc, ◌+◌, ◌-◌, ◌≤◌, ◌<◌, List, [], length, Bool, true, false, cond, Option, Some, None, is_some, refl, ap, sym, ◌∙◌, subst, arith, take, get_or}
-use Rattle.std.proofs.lemmas.List.{append-nil}
+use Rattle.std.proofs.Common.{◌≡◌, ℕ, suc, ◌+◌, ◌-◌, ◌<◌, List, length, Bool, true, false, cond, Option, Some, None, is_some, refl, ap, sym, ◌∙◌, arith, take}
 use Rattle.documents.specs.Tests.{some}
 use Rattle.goals.specs.Signed.{Signed}
 use Rattle.alternatives.specs.Expansion.{Expansion}
 use Rattle.search.specs.Explored.{Found}
 use Rattle.search.specs.Rounds.{round, answer}
-use Rattle.search.specs.Uses.{numbers, satisfied, is_added, last_within, last_round, in_order}
+use Rattle.search.specs.Uses.{numbers, satisfied, is_added, last_within, in_order}
 use Rattle.search_laws.proofs.Answers.{Enters, Least, answer_least}
 use Rattle.search_laws.proofs.Settled.{settled}
 use Rattle.search_laws.proofs.Rise.{answer_round}

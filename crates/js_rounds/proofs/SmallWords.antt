@@ -1,5 +1,5 @@
 -- The words of the expander that the tests have.
-use Rattle.std.proofs.Common.{◌≡◌, ◌≢◌, ◌<◌, ◌≤◌, ℕ, zero, suc, List, [], ◌∷◌, take, refl, ap, sym, ◌∙◌, arith, chars, codes, rules}
+use Rattle.std.proofs.Common.{◌≡◌, ◌≢◌, ◌<◌, ◌≤◌, ℕ, zero, suc, List, [], ◌∷◌, take, refl, ap, ◌∙◌, arith, chars, codes, rules}
 use Rattle.std.proofs.lemmas.Str.{chars-IsAscii}
 use Rattle.alternatives.specs.Slots.{capacity, cell_at}
 use Rattle.js_rounds.specs.Small.{cells}

@@ -1,5 +1,5 @@
 -- Runs and what they stand for.
-use Rattle.std.proofs.Common.{◌≡◌, ◌<◌, ℕ, suc, ◌+◌, ◌-◌, min, List, [], ◌∷◌, ◌++◌, map, Bool, true, false, cond, drop, length, get_or, refl, ap, ap₂, sym, ◌∙◌, arith, add-one, drop-cons}
+use Rattle.std.proofs.Common.{◌≡◌, ◌<◌, ℕ, ◌+◌, ◌-◌, min, List, [], ◌∷◌, ◌++◌, map, Bool, true, false, cond, drop, length, get_or, refl, ap, ap₂, sym, ◌∙◌, add-one, drop-cons}
 use Rattle.std.proofs.lemmas.List.{append-nil, append_assoc}
 use Rattle.search.specs.Rounds.{NumberedPlaced}
 use Rattle.js_explore.specs.declared.numbered.NumberedFiller.{NumberedFiller}

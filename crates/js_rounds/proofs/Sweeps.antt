@@ -1,5 +1,5 @@
 -- One sweep: the goals below j have the answers of the next round, and the others those of this one.
-use Rattle.std.proofs.Common.{◌≡◌, ◌≢◌, ℕ, zero, suc, ◌+◌, ◌-◌, ◌≤◌, ◌<◌, ◌⊎◌, inl, inr, List, [], ◌∷◌, ◌++◌, filter, Bool, true, false, cond, not, ◌&&◌, ◌||◌, nat_le, nat_lt, Option, Some, None, is_some, refl, ap, ap₂, sym, ◌∙◌, subst, arith, length, take, get_or, get_or-set_other, get_or-set_same, set, length-append, true≢false}
+use Rattle.std.proofs.Common.{◌≡◌, ◌≢◌, ℕ, zero, suc, ◌+◌, ◌-◌, ◌≤◌, ◌<◌, ◌⊎◌, inl, inr, List, [], ◌∷◌, ◌++◌, filter, Bool, true, false, cond, not, ◌&&◌, ◌||◌, nat_le, nat_lt, Option, Some, None, is_some, refl, ap, ap₂, sym, ◌∙◌, subst, arith, length, take, get_or, get_or-set_other, get_or-set_same, set, length-append}
 use Rattle.std.proofs.lemmas.Bool.{lt-ltb, le-ltb, le-leb, lt-leb, cases_lt}
 use Rattle.std.proofs.lemmas.List.{append-nil, append_assoc}
 use Rattle.std.proofs.lemmas.List.Elements.{filter-append}
@@ -13,7 +13,7 @@ use Rattle.search.specs.Uses.{numbers, is_added, in_order}
 use Rattle.search_laws.proofs.Rise.{answer_round}
 use Rattle.search_laws.proofs.Settled.{past, rise_to}
 use Rattle.search_laws.proofs.Answers.{Enters, Least, answer_least, answer_none, before_too}
-use Rattle.js_explore.specs.Exploration.{Exploration, Explores, alternatives_at}
+use Rattle.js_explore.specs.Exploration.{Exploration, Explores}
 use Rattle.js_rounds.specs.Seen.{is_by, seen}
 use Rattle.js_rounds.specs.State.{look_at, with_goal, IsAt}
 use Rattle.js_rounds.specs.declared.rounds.Rounds.{Rounds}

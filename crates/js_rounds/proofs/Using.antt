@@ -1,5 +1,5 @@
 -- Back through the goals in order: what is marked, and what was found.
-use Rattle.std.proofs.Common.{◌≡◌, ℕ, zero, suc, ◌+◌, ◌-◌, ◌≤◌, ◌<◌, List, [], ◌∷◌, ◌++◌, filter, length, take, drop, get_or, reverse, Bool, true, false, ◌&&◌, ◌||◌, cond, Option, Some, None, is_some, nat_eq, refl, ap, ap₂, sym, ◌∙◌, subst, arith, drop-cons}
+use Rattle.std.proofs.Common.{◌≡◌, ℕ, zero, suc, ◌≤◌, ◌<◌, List, [], ◌∷◌, ◌++◌, filter, length, take, drop, get_or, reverse, Bool, true, false, ◌&&◌, ◌||◌, cond, Option, Some, None, nat_eq, refl, ap, ap₂, sym, ◌∙◌, subst, arith, drop-cons}
 use Rattle.std.proofs.lemmas.List.{append-nil, reverse-append, drop_all, take_all}
 use Rattle.documents.specs.Tests.{some}
 use Rattle.goals.specs.Signed.{Signed}

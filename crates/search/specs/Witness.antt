@@ -1,11 +1,11 @@
 -- The parts of the document of a goal: one for each goal that it uses.
-use Rattle.std.specs.Prelude.{ℕ, zero, suc, List, [], ◌∷◌, map, cond, nat_eq, Option, Some, None, slice_get}
+use Rattle.std.specs.Prelude.{ℕ, suc, List, [], ◌∷◌, map, cond, nat_eq, Option, Some, None, slice_get}
 use Rattle.documents.specs.Kind.{Kind}
 use Rattle.documents.specs.Tests.{comes_before}
 use Rattle.goals.specs.Signed.{Signed}
 use Rattle.shared_documents.specs.Part as P
 use Rattle.shared_documents.specs.Part.{Part}
-use Rattle.alternatives.specs.Alternative.{Slot, Shape, Null, Truth, Number, Text, Elements, Members}
+use Rattle.alternatives.specs.Alternative.{Shape, Null, Truth, Number, Text, Elements, Members}
 use Rattle.alternatives.specs.Expansion.{Expansion}
 use Rattle.expansions.specs.DocumentOf.{slot_name}
 use Rattle.search.specs.Explored.{Found}

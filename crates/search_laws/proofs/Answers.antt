@@ -1,16 +1,15 @@
 -- What answers say: the least round and the first alternative that the round before meets; and from the last round that
 -- adds a goal on they stay.
-use Rattle.std.proofs.Common.{◌≡◌, ℕ, zero, suc, ◌+◌, ◌-◌, ◌≤◌, ◌<◌, ◌⊎◌, inl, inr, List, [], ◌∷◌, length, Bool, true, false, ◌&&◌, not, cond, Option, Some, None, is_some, refl, ap, sym, ◌∙◌, subst, arith}
-use Rattle.std.proofs.lemmas.Bool.{and_parts, cases_lt}
+use Rattle.std.proofs.Common.{◌≡◌, ℕ, zero, suc, ◌+◌, ◌-◌, ◌≤◌, ◌<◌, ◌⊎◌, inl, inr, List, length, Bool, true, false, ◌&&◌, not, cond, Option, Some, None, is_some, refl, ap, sym, ◌∙◌, subst, arith}
+use Rattle.std.proofs.lemmas.Bool.{cases_lt}
 use Rattle.documents.specs.Tests.{some}
 use Rattle.goals.specs.Signed.{Signed}
-use Rattle.list_laws.specs.In.{IsIn}
 use Rattle.list_laws.proofs.Tests.{some_find, none_at, in_range, from_range}
 use Rattle.alternatives.specs.Expansion.{Expansion}
 use Rattle.search.specs.Explored.{Found}
 use Rattle.search.specs.Rounds.{is_met, first_place, told, alternatives_of, round, answer}
 use Rattle.search.specs.Uses.{numbers, satisfied, is_added, last_within, last_round}
-use Rattle.search_laws.proofs.Rise.{rises, answer_round}
+use Rattle.search_laws.proofs.Rise.{answer_round}
 use Rattle.search_laws.proofs.Settled.{settled, past, rise_to}
 
 some_same : {A : Type 0} {x y : A} → Some x ≡ Some y → x ≡ y

@@ -1,13 +1,13 @@
 -- The parts of a goal one after another: what one contains stands before it.
-use Rattle.std.proofs.Common.{◌≡◌, ◌≢◌, ℕ, zero, suc, ◌+◌, ◌≤◌, ◌<◌, ◌⊎◌, inl, inr, List, [], ◌∷◌, ◌++◌, map, filter, length, take, get_or, set, get_or-set_same, get_or-set_other, Bool, true, false, cond, nat_eq, nat_lt, nat_le, Option, Some, None, slice_get, refl, ap, ap₂, sym, ◌∙◌, subst, arith, true≢false, eqb-true, eq-eqb, add-one}
-use Rattle.std.proofs.lemmas.Bool.{and_parts, ltb-true, lt-leb, or_cases}
+use Rattle.std.proofs.Common.{◌≡◌, ◌≢◌, ℕ, zero, suc, ◌+◌, ◌<◌, ◌⊎◌, inl, inr, List, [], ◌∷◌, ◌++◌, map, filter, length, take, get_or, set, get_or-set_same, get_or-set_other, true, false, cond, nat_eq, nat_lt, nat_le, Option, Some, None, slice_get, refl, ap, ap₂, sym, ◌∙◌, subst, arith, true≢false, eq-eqb}
+use Rattle.std.proofs.lemmas.Bool.{and_parts, ltb-true, lt-leb}
 use Rattle.std.proofs.lemmas.Bool.Decides.{eqb_tells}
 use Rattle.std.proofs.lemmas.List.{take_more, map-append}
 use Rattle.documents.specs.Tests.{every}
 use Rattle.documents.specs.Kind.{Kind}
 use Rattle.goals.specs.Signed.{Signed}
 use Rattle.list_laws.specs.In.{IsIn, Distinct}
-use Rattle.list_laws.proofs.Lists.{in_left, in_right, in_append}
+use Rattle.list_laws.proofs.Lists.{in_append}
 use Rattle.list_laws.proofs.Counts.{distinct_filter}
 use Rattle.cell_laws.proofs.Lists.{distinct_append}
 use Rattle.list_laws.proofs.Pigeons.{range_distinct}
@@ -20,9 +20,9 @@ use Rattle.expansions.specs.DocumentOf.{slot_name}
 use Rattle.search.specs.Explored.{Found}
 use Rattle.search.specs.Rounds.{NumberedPlaced, Numbered, round}
 use Rattle.search.specs.Uses.{numbers, is_added, in_order, chosen, contents, uses, used_goals}
-use Rattle.search.specs.Witness.{sorted, place_in, named, by_shape, of_alternative, of_goal, part, parts}
-use Rattle.search_laws.proofs.Used.{Entered, entered, from_added, has_order}
-use Rattle.search_laws.proofs.Parts.{Within, contents_used, in_used, used_in, part_below}
+use Rattle.search.specs.Witness.{sorted, place_in, named, by_shape, of_goal, part}
+use Rattle.search_laws.proofs.Used.{entered, from_added, has_order}
+use Rattle.search_laws.proofs.Parts.{contents_used, in_used, used_in, part_below}
 use Rattle.search_laws.proofs.Settled.{rise_to}
 use Rattle.search_laws.proofs.Marking.{in_at}
 

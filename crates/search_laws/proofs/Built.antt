@@ -1,10 +1,9 @@
 -- The document of a goal is that of the alternative of its answer, over the round before.
-use Rattle.std.proofs.Common.{◌≡◌, ℕ, zero, suc, ◌+◌, ◌-◌, ◌≤◌, ◌<◌, ◌⊎◌, inl, inr, min, List, [], ◌∷◌, ◌++◌, map, length, Bool, true, false, ◌||◌, cond, nat_lt, Option, Some, None, option_map, slice_get, refl, ap, ap₂, sym, ◌∙◌, subst, arith}
-use Rattle.std.proofs.lemmas.Bool.{cases_lt}
+use Rattle.std.proofs.Common.{◌≡◌, ℕ, zero, suc, ◌+◌, ◌-◌, ◌≤◌, min, List, [], ◌∷◌, ◌++◌, map, Bool, true, false, ◌||◌, cond, nat_lt, Option, Some, None, option_map, slice_get, refl, ap, ap₂, sym, ◌∙◌, subst, arith}
 use Rattle.std.proofs.lemmas.List.{map-append}
 use Rattle.documents.specs.Tests.{some}
 use Rattle.documents.specs.Kind.{Kind}
-use Rattle.documents.specs.Document.{Document, null}
+use Rattle.documents.specs.Document.{Document}
 use Rattle.goals.specs.Signed.{Signed}
 use Rattle.goals.specs.Tree.{first}
 use Rattle.alternatives.specs.Alternative as E
@@ -14,9 +13,9 @@ use Rattle.alternatives.specs.Expansion.{Expansion}
 use Rattle.expansions.specs.DocumentOf as O
 use Rattle.expansions.specs.DocumentOf.{copies, filled, by_shape, document_of}
 use Rattle.search.specs.Explored.{Found, number_in}
-use Rattle.search.specs.Rounds.{NumberedPlaced, NumberedFiller, Numbered, with_member, with_filler, number_members, number_fillers, with_members, numbered, is_met, test_or, by_number, first_place, alternatives_at, alternatives_of, round, answer}
+use Rattle.search.specs.Rounds.{NumberedPlaced, Numbered, with_member, with_filler, number_members, number_fillers, with_members, numbered, is_met, test_or, by_number, first_place, alternatives_at, alternatives_of, round, answer}
 use Rattle.search.specs.Documents.{of_number, of_alternative, of_goal, document}
-use Rattle.search.specs.Uses.{repeated, added_fillers, contents_of, round_before, satisfied, chosen_in, chosen, contents_in, contents}
+use Rattle.search.specs.Uses.{repeated, added_fillers, contents_of}
 use Rattle.search_laws.proofs.Numbers.{one_met}
 use Rattle.search_laws.proofs.Settled.{rise_to}
 use Rattle.search_laws.proofs.Answers.{Enters, Least, answer_least}

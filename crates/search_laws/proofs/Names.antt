@@ -1,6 +1,6 @@
 -- What the document of an alternative names: words of the cells of its branch, each once.
-use Rattle.std.proofs.Common.{◌≡◌, ◌≢◌, ℕ, zero, suc, ◌+◌, ◌-◌, ◌≤◌, ◌<◌, ◌⊎◌, inl, inr, min, List, [], ◌∷◌, ◌++◌, map, flat_map, length, get_or, Bool, true, false, not, ◌&&◌, ◌||◌, cond, nat_eq, nat_le, nat_lt, Option, Some, None, slice_get, refl, ap, ap₂, sym, ◌∙◌, subst, arith, true≢false, eqb-true, eq-eqb}
-use Rattle.std.proofs.lemmas.Bool.{and_parts, and_from, or_cases, or_left, or_right, leb-true, le-leb, ltb-true, lt-ltb, cases_lt, not-true}
+use Rattle.std.proofs.Common.{◌≡◌, ◌≢◌, ℕ, zero, suc, ◌+◌, ◌-◌, ◌≤◌, ◌<◌, ◌⊎◌, inl, inr, min, List, [], ◌∷◌, ◌++◌, map, flat_map, length, get_or, Bool, true, false, not, ◌&&◌, ◌||◌, cond, nat_eq, nat_le, nat_lt, Option, Some, None, slice_get, refl, ap, ap₂, sym, ◌∙◌, subst, arith, true≢false, eq-eqb}
+use Rattle.std.proofs.lemmas.Bool.{and_parts, and_from, leb-true, le-leb, ltb-true, not-true}
 use Rattle.std.proofs.lemmas.Bool.Decides.{eqb_tells}
 use Rattle.std.proofs.lemmas.List.{map-append}
 use Rattle.documents.specs.Tests.{every, some, same_word}
@@ -13,7 +13,7 @@ use Rattle.alternatives.specs.Slots.{capacity, cell_at, word_at, has_room, has_t
 use Rattle.alternatives.specs.Expansion.{Expansion}
 use Rattle.expansions.specs.DocumentOf.{slot_name}
 use Rattle.search.specs.Explored.{Found, number_in}
-use Rattle.search.specs.Rounds.{NumberedPlaced, NumberedFiller, Numbered, with_member, with_filler, number_members, number_fillers, with_members, numbered, alternatives_at, alternatives_of}
+use Rattle.search.specs.Rounds.{NumberedPlaced, Numbered, with_member, with_filler, number_members, number_fillers, with_members, numbered, alternatives_at, alternatives_of}
 use Rattle.search.specs.Uses.{repeated, added_fillers, contents_of}
 use Rattle.search.specs.Witness.{named}
 use Rattle.search_laws.proofs.Built.{number_as}

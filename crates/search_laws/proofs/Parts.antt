@@ -1,5 +1,5 @@
 -- The parts of a goal stand for the documents of the goals that it uses, and each names parts below its own.
-use Rattle.std.proofs.Common.{◌≡◌, ℕ, zero, suc, ◌+◌, ◌≤◌, ◌<◌, ◌⊎◌, inl, inr, List, [], ◌∷◌, ◌++◌, map, filter, length, get_or, Bool, true, false, cond, nat_eq, nat_lt, Option, Some, None, slice_get, refl, ap, ap₂, sym, ◌∙◌, subst, arith, true≢false, eqb-true, eq-eqb, length-append}
+use Rattle.std.proofs.Common.{◌≡◌, ℕ, zero, suc, ◌≤◌, ◌<◌, ◌⊎◌, inl, inr, List, [], ◌∷◌, ◌++◌, map, filter, length, get_or, Bool, true, false, cond, nat_eq, nat_lt, Option, Some, None, slice_get, refl, ap, ap₂, sym, ◌∙◌, arith, true≢false, eqb-true, eq-eqb, length-append}
 use Rattle.std.proofs.lemmas.Bool.{and_parts, and_from, lt-ltb}
 use Rattle.std.proofs.lemmas.List.Elements.{filter-append}
 use Rattle.documents.specs.Tests.{every, comes_before}
@@ -8,24 +8,24 @@ use Rattle.documents.specs.Document as D
 use Rattle.documents.specs.Document.{Document, items_of, members_of}
 use Rattle.goals.specs.Signed.{Signed}
 use Rattle.list_laws.specs.In.{IsIn}
-use Rattle.list_laws.proofs.Lists.{every_at, every_from, to_filter}
+use Rattle.list_laws.proofs.Lists.{every_from, to_filter}
 use Rattle.list_laws.proofs.Tests.{from_filter}
 use Rattle.shared_documents.specs.Part as P
 use Rattle.shared_documents.specs.Part.{Part, part_at, names_below}
 use Rattle.shared_documents.specs.Unshared.{built, unshared_within, unshared}
-use Rattle.alternatives.specs.Alternative.{Slot, Shape, Null, Truth, Number, Text, Elements, Members}
+use Rattle.alternatives.specs.Alternative.{Shape, Null, Truth, Number, Text, Elements, Members}
 use Rattle.alternatives.specs.Expansion.{Expansion}
 use Rattle.expansions.specs.SortedMembers as M
 use Rattle.expansions.specs.DocumentOf as O
 use Rattle.search.specs.Explored.{Found}
 use Rattle.search.specs.Rounds.{NumberedPlaced, Numbered, alternatives_of, round}
 use Rattle.search.specs.Documents.{document}
-use Rattle.search.specs.Uses.{contents_of, satisfied, in_order, round_before, chosen_in, chosen, contents_in, contents, uses, used_goals}
-use Rattle.search.specs.Witness.{put, sorted, place_in, named, by_shape, of_alternative, of_goal, part, parts}
+use Rattle.search.specs.Uses.{contents_of, in_order, round_before, chosen_in, chosen, contents_in, contents, uses, used_goals}
+use Rattle.search.specs.Witness.{put, sorted, place_in, named, by_shape, of_goal, part, parts}
 use Rattle.search_laws.proofs.Settled.{settled, rise_to}
 use Rattle.search_laws.proofs.Answers.{Enters}
 use Rattle.search_laws.proofs.Built.{placed_document, IsBuilt, answer_builds, document_stays}
-use Rattle.search_laws.proofs.Used.{Entered, entered, entered_by, contents_below, used_on, used_itself, order_has, has_order, Beyond, beyond_to, used_last}
+use Rattle.search_laws.proofs.Used.{Entered, entered, entered_by, contents_below, used_on, used_itself, order_has, has_order, beyond_to, used_last}
 
 -- places
 

@@ -1,10 +1,9 @@
 -- After a round that adds no goal the order of goals, the last round and the answers stay.
-use Rattle.std.proofs.Common.{◌≡◌, ℕ, zero, suc, ◌+◌, ◌-◌, ◌≤◌, ◌<◌, List, [], ◌∷◌, ◌++◌, filter, length, Bool, true, false, ◌&&◌, not, cond, refl, ap, ap₂, sym, ◌∙◌, subst, arith, true≢false}
+use Rattle.std.proofs.Common.{◌≡◌, ℕ, zero, suc, ◌+◌, ◌-◌, ◌≤◌, List, ◌++◌, Bool, true, false, ◌&&◌, not, cond, refl, ap, ap₂, sym, ◌∙◌, arith}
 use Rattle.std.proofs.lemmas.List.{append-nil}
 use Rattle.documents.specs.Tests.{some}
 use Rattle.goals.specs.Signed.{Signed}
-use Rattle.list_laws.specs.In.{IsIn}
-use Rattle.list_laws.proofs.Tests.{some_none, none_at}
+use Rattle.list_laws.proofs.Tests.{some_none}
 use Rattle.alternatives.specs.Expansion.{Expansion}
 use Rattle.search.specs.Explored.{Found}
 use Rattle.search.specs.Rounds.{round, answer}

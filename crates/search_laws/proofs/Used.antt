@@ -1,8 +1,7 @@
 -- The goals that the document of a goal uses: all of lesser round, and all that they contain among them, so that the
 -- goal itself is the last.
-use Rattle.std.proofs.Common.{◌≡◌, ◌≢◌, ℕ, zero, suc, ◌+◌, ◌-◌, ◌≤◌, ◌<◌, ◌⊎◌, inl, inr, min, List, [], ◌∷◌, ◌++◌, filter, length, Bool, true, false, ◌&&◌, ◌||◌, not, cond, nat_eq, nat_le, Option, Some, None, is_some, option_map, slice_get, refl, ap, ap₂, sym, ◌∙◌, subst, arith, true≢false, eqb-true, eq-eqb}
+use Rattle.std.proofs.Common.{◌≡◌, ℕ, zero, suc, ◌+◌, ◌-◌, ◌≤◌, ◌<◌, ◌⊎◌, inl, inr, min, List, [], ◌∷◌, ◌++◌, filter, length, Bool, true, false, ◌&&◌, not, cond, nat_eq, nat_le, Option, Some, None, is_some, option_map, slice_get, refl, ap, ap₂, sym, ◌∙◌, subst, arith, true≢false, eqb-true, eq-eqb}
 use Rattle.std.proofs.lemmas.Bool.{and_parts, and_from, or_cases, or_left, or_right, cases_lt}
-use Rattle.std.proofs.lemmas.Bool.Decides.{eqb_tells}
 use Rattle.std.proofs.lemmas.List.{append-nil, append_assoc}
 use Rattle.std.proofs.lemmas.List.Elements.{filter-append}
 use Rattle.documents.specs.Tests.{every, some}
@@ -17,7 +16,7 @@ use Rattle.alternatives.specs.Slots.{next_slot}
 use Rattle.alternatives.specs.Expansion.{Expansion}
 use Rattle.search.specs.Explored.{Found}
 use Rattle.search.specs.Rounds.{NumberedPlaced, NumberedFiller, Numbered, rooms, is_met, first_place, alternatives_of, round}
-use Rattle.search.specs.Uses.{repeated, added_fillers, contents_of, numbers, satisfied, is_added, in_order, round_before, chosen_in, chosen, contents_in, contents, uses, used_goals}
+use Rattle.search.specs.Uses.{repeated, added_fillers, contents_of, numbers, satisfied, is_added, in_order, round_before, chosen_in, contents_in, contents, uses, used_goals}
 use Rattle.search_laws.proofs.Rise.{rises, answer_round}
 use Rattle.search_laws.proofs.Settled.{settled, rise_to}
 use Rattle.search_laws.proofs.Answers.{Enters, Least, answer_least, before_too, added_low}

@@ -1,5 +1,5 @@
 -- The parts of a goal stand for a document that meets it and is no deeper than its least round.
-use Rattle.std.proofs.Common.{◌≡◌, ◌≤◌, ℕ, true, List, Option, Some, Ok, is_some, length, slice_get, ap, sym, ◌∙◌, subst, arith}
+use Rattle.std.proofs.Common.{◌≡◌, ℕ, true, List, Some, Ok, is_some, length, slice_get, ap, sym, ◌∙◌, subst}
 use Rattle.documents.specs.Kind as K
 use Rattle.documents.specs.Kind.{Kind}
 use Rattle.documents.specs.Document.{Document}
@@ -18,7 +18,6 @@ use Rattle.expansion_laws.proofs.Containers.{IsCells}
 use Rattle.expansion_laws.proofs.Goals.{leaves_right}
 use Rattle.search.specs.Explored.{Found}
 use Rattle.search.specs.Rounds.{round}
-use Rattle.search.specs.Documents.{document}
 use Rattle.search.specs.Uses.{satisfied, used_goals}
 use Rattle.search.specs.Witness.{place_in, parts}
 use Rattle.search_laws.proofs.Rise.{answer_round}

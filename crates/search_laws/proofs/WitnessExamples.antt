@@ -1,5 +1,5 @@
 -- Goals that use one another, computed: their rounds, and the parts of a document.
-use Rattle.std.proofs.Common.{◌≡◌, ℕ, zero, suc, true, false, Bool, cond, List, [], ◌∷◌, Option, Some, None, Ok, Err, refl}
+use Rattle.std.proofs.Common.{◌≡◌, ℕ, zero, suc, cond, List, [], ◌∷◌, Some, None, refl}
 use Rattle.documents.specs.Kind as K
 use Rattle.documents.specs.Kind.{Kind}
 use Rattle.documents.specs.Document as D
@@ -10,7 +10,6 @@ use Rattle.shared_documents.specs.Unshared.{unshared}
 use Rattle.alternatives.specs.Alternative.{Slot, Index, Name, Null, Shape, Elements, Members, Placed, Filler, Alternative}
 use Rattle.alternatives.specs.Expansion.{Expansion, expansion_of}
 use Rattle.search.specs.Explored.{Found, same_goal, explored}
-use Rattle.search.specs.Documents.{document}
 use Rattle.search.specs.Uses.{satisfied, last_round, in_order, used_goals}
 use Rattle.search.specs.Witness.{parts}
 

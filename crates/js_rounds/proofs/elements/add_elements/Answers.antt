@@ -1,5 +1,5 @@
 -- One more element.
-use Rattle.std.proofs.Common.{◌≡◌, ◌++◌, ◌∷◌, [], map, ap, sym, ◌∙◌}
+use Rattle.std.proofs.Common.{map, ap, ◌∙◌}
 use Rattle.std.proofs.lemmas.List.{map-append}
 use Rattle.js_doc.specs.PartMembers.{number_of}
 use Rattle.js_expansion.specs.View.{slot_view}

@@ -1,5 +1,5 @@
 -- One more member.
-use Rattle.std.proofs.Common.{◌≡◌, ◌++◌, ◌∷◌, [], map, ap, ap₂, sym, ◌∙◌}
+use Rattle.std.proofs.Common.{map, ap, ap₂, ◌∙◌}
 use Rattle.std.proofs.lemmas.List.{map-append}
 use Rattle.alternatives.specs.Slots.{word_at}
 use Rattle.search.specs.Witness as W

@@ -1,10 +1,9 @@
 -- The words that runs need are those of the branch, so the members are.
-use Rattle.std.proofs.Common.{◌≡◌, ℕ, true, List, [], map, ap, ap₂, sym, ◌∙◌, subst, refl}
+use Rattle.std.proofs.Common.{◌≡◌, true, map, ap, sym, ◌∙◌, subst}
 use Rattle.documents.specs.Tests.{same_word}
 use Rattle.alternatives.specs.Slots.{word_at, are_different}
 use Rattle.search.specs.Witness as W
 use Rattle.js_algebra.specs.View.{kind_view}
-use Rattle.js_doc.specs.PartMembers.{member_view}
 use Rattle.js_rounds.specs.Spread.{spread}
 use Rattle.js_rounds.specs.Slots.{place_at}
 use Rattle.js_rounds.proofs.Needs.{named_same}

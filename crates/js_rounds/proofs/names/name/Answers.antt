@@ -1,5 +1,5 @@
 -- An index has no name.
-use Rattle.std.proofs.Common.{◌≡◌, ap, ◌∙◌, refl}
+use Rattle.std.proofs.Common.{ap}
 use Rattle.alternatives.specs.Slots.{word_at}
 use Rattle.expansions.specs.DocumentOf.{slot_name}
 use Rattle.js_expansion.specs.View.{slot_view}

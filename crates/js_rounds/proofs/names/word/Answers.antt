@@ -1,5 +1,5 @@
 -- Nothing stands past the end.
-use Rattle.std.proofs.Common.{◌≡◌, ◌≤◌, length, ℕ, List, [], Option, None, slice_get, get_or, rules, sym, ap, ◌∙◌}
+use Rattle.std.proofs.Common.{◌≡◌, ◌≤◌, length, [], get_or, rules, ap, ◌∙◌}
 use Rattle.std.proofs.lemmas.Option.{get_or_from_slice_get}
 use Rattle.alternatives.specs.Slots.{word_at}
 use Rattle.js_rounds.proofs.Members.{empty_name, none_there}

@@ -1,5 +1,5 @@
 -- What is needed of a cell is there.
-use Rattle.std.proofs.Common.{◌≡◌, ◌∙◌, get_or, arith}
+use Rattle.std.proofs.Common.{◌∙◌, arith}
 use Rattle.js_algebra.specs.View.{kind_view}
 use Rattle.js_rounds.proofs.Using.{get_any}
 use Rattle.js_rounds.proofs.Needs.{wanted_room}

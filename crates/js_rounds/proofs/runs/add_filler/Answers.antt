@@ -1,5 +1,5 @@
 -- The filler's goal is of the round.
-use Rattle.std.proofs.Common.{◌≡◌, ◌++◌, [], cond, min, true, ap, ap₂, sym, ◌∙◌, rules}
+use Rattle.std.proofs.Common.{◌≡◌, ◌++◌, [], cond, true, ap, ap₂, sym, ◌∙◌, rules}
 use Rattle.search.specs.Uses.{repeated}
 use Rattle.js_expansion.specs.View.{slot_view}
 use Rattle.js_rounds.specs.Seen.{seen}

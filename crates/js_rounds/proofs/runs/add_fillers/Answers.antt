@@ -1,5 +1,5 @@
 -- One filler after another.
-use Rattle.std.proofs.Common.{◌++◌, map, sym, ◌∙◌}
+use Rattle.std.proofs.Common.{◌++◌, map}
 use Rattle.search.specs.Uses.{added_fillers}
 use Rattle.js_expansion.specs.declared.alternative.Slot.TheVariants.{Index}
 use Rattle.js_explore.specs.View.{filler_view}

@@ -1,5 +1,5 @@
 -- One run after another.
-use Rattle.std.proofs.Common.{◌≡◌, ◌<◌, ◌||◌, ◌∙◌, ap, sym, subst, false, get_or, length, nat_eq}
+use Rattle.std.proofs.Common.{◌<◌, ◌||◌, ◌∙◌, sym, subst, false, get_or, nat_eq}
 use Rattle.documents.specs.Tests.{some}
 use Rattle.js_expansion.specs.declared.alternative.Slot.TheVariants.{Index}
 use Rattle.js_rounds.specs.Spread.{spread}

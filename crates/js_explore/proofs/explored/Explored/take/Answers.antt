@@ -1,8 +1,7 @@
 -- There are no more alternatives than places, and these are below the limit.
-use Rattle.std.proofs.Common.{◌≡◌, ◌≤◌, length, map, ap, sym, arith}
+use Rattle.std.proofs.Common.{length, map, ap, arith}
 use Rattle.std.proofs.lemmas.List.{length-map}
 use Rattle.alternatives.specs.Alternative.{places}
-use Rattle.search.specs.Rounds as R
 use Rattle.js_expansion.specs.AlternativeView.{alternative_view}
 use Rattle.js_explore.specs.NumberedView.{numbered_view}
 use Rattle.js_explore.proofs.Few.{few_numbered}

@@ -1,12 +1,12 @@
 -- A goal without an answer leaves room for itself.
-use Rattle.std.proofs.Common.{◌≡◌, ◌<◌, ℕ, ◌+◌, ◌∷◌, ◌++◌, [], length, take, set, Option, Some, None, get_or, map, refl, ap, ap₂, sym, ◌∙◌, arith, rules, length-set}
+use Rattle.std.proofs.Common.{◌≡◌, ◌+◌, ◌++◌, take, Some, None, get_or, map, ap₂, sym, ◌∙◌, arith, rules, length-set}
 use Rattle.std.proofs.lemmas.List.{take_more_set, length-map}
 use Rattle.search.specs.Rounds.{is_met, first_place}
 use Rattle.js_explore.specs.NumberedView.{numbered_view}
 use Rattle.js_explore.specs.Exploration.{alternatives_at}
 use Rattle.js_explore.specs.ExploredView.{explored_view}
 use Rattle.js_rounds.specs.Seen.{seen}
-use Rattle.js_rounds.specs.State.{answered, look_at, with_goal}
+use Rattle.js_rounds.specs.State.{with_goal}
 use Rattle.js_rounds.proofs.Answered.{answered_room, answered_one, place_low, look_found}
 use Rattle.js_rounds.proofs.rounds.Rounds.look.Goals as goal
 

@@ -1,5 +1,5 @@
 -- The laws of the expander give what the part of an alternative needs.
-use Rattle.std.proofs.Common.{◌≡◌, ◌<◌, ℕ, List, Bool, true, Some, length, slice_get, option_map, is_some, map, ap, sym, ◌∙◌, subst, rules}
+use Rattle.std.proofs.Common.{◌≡◌, true, map, ap, sym, ◌∙◌, subst}
 use Rattle.documents.specs.Tests.{every, same_word}
 use Rattle.alternatives.specs.Alternative.{Members}
 use Rattle.alternatives.specs.Slots.{word_at, has_room, are_different}
@@ -10,7 +10,6 @@ use Rattle.js_explore.specs.ExploredView.{explored_view}
 use Rattle.js_explore.specs.NumberedView.{numbered_view}
 use Rattle.js_rounds.specs.Spread.{spread}
 use Rattle.js_rounds.specs.Slots.{place_at}
-use Rattle.js_rounds.specs.State.{contents_at}
 use Rattle.js_rounds.proofs.Chosen as chosen
 use Rattle.js_rounds.proofs.Chosen.{if_ok}
 use Rattle.js_rounds.proofs.rounds.Rounds.part.Goals as goal

@@ -1,6 +1,5 @@
 -- What the answer says.
-use Rattle.std.proofs.Common.{◌≡◌, ℕ, Option, None, subst, sym, ◌∙◌, rules}
-use Rattle.search.specs.Uses as U
+use Rattle.std.proofs.Common.{◌≡◌, None, subst, sym, ◌∙◌, rules}
 use Rattle.js_rounds.specs.State.{IsLeast, answer_to}
 use Rattle.js_rounds.proofs.Rounding.{satisfied_least}
 use Rattle.js_rounds.proofs.rounds.Rounds.satisfied.Goals as goal

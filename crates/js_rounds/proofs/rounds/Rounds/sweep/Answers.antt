@@ -1,10 +1,10 @@
 -- Each look brings the round one goal further.
-use Rattle.std.proofs.Common.{◌≡◌, ◌≤◌, ℕ, List, length, refl, ap, sym, ◌∙◌, subst, arith}
+use Rattle.std.proofs.Common.{◌≡◌, ◌≤◌, ℕ, length, refl, ◌∙◌, subst, arith}
 use Rattle.js_explore.specs.ExploredView.{explored_view}
 use Rattle.js_rounds.specs.State.{IsRoomy}
 use Rattle.js_rounds.specs.declared.rounds.Rounds.{Rounds}
 use Rattle.js_rounds.proofs.Answered.{answered_most}
-use Rattle.js_rounds.proofs.Sweeps.{Sweeping, began, turn, swept, grown}
+use Rattle.js_rounds.proofs.Sweeps.{Sweeping, turn, swept, grown}
 use Rattle.js_rounds.proofs.rounds.Rounds.sweep.Goals as goal
 
 within : (n : ℕ) (r : Rounds) → IsRoomy n r → r.count ≤ length r.order.items

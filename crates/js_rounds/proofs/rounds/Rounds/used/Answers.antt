@@ -1,8 +1,6 @@
 -- Each turn looks at one goal more.
-use Rattle.std.proofs.Common.{◌≡◌, ◌<◌, ◌≤◌, ◌+◌, ◌-◌, ◌||◌, ◌&&◌, ◌++◌, ◌∷◌, [], ℕ, suc, cond, nat_eq, List, Bool, true, false, is_some, length, take, get_or, refl, ap, sym, ◌∙◌, subst, arith, rules}
+use Rattle.std.proofs.Common.{◌≡◌, ◌<◌, ◌≤◌, ◌-◌, ◌||◌, ◌&&◌, ◌++◌, ◌∷◌, [], ℕ, suc, cond, nat_eq, true, false, length, take, get_or, refl, ap, sym, ◌∙◌, subst, arith}
 use Rattle.documents.specs.Tests.{some}
-use Rattle.goals.specs.Signed.{Signed}
-use Rattle.alternatives.specs.Expansion.{Expansion}
 use Rattle.list_laws.specs.In.{IsIn}
 use Rattle.search.specs.Rounds.{round}
 use Rattle.search.specs.Uses as U

@@ -1,5 +1,5 @@
 -- The goals from the place on were looked at.
-use Rattle.std.proofs.Common.{◌≡◌, ◌≤◌, ℕ, List, true, is_some, length}
+use Rattle.std.proofs.Common.{◌≡◌, List, true, length}
 use Rattle.goals.specs.Signed.{Signed}
 use Rattle.alternatives.specs.Expansion.{Expansion}
 use Rattle.search.specs.Rounds.{round}

@@ -1,5 +1,5 @@
 -- Each turn adds the part of the next used goal.
-use Rattle.std.proofs.Common.{◌≡◌, ◌<◌, ◌≤◌, ◌+◌, ◌++◌, ◌∷◌, [], ℕ, List, true, None, is_some, length, reverse, take, get_or, set, refl, ap, ap₂, sym, ◌∙◌, subst, arith, rules, length-append}
+use Rattle.std.proofs.Common.{◌≡◌, ◌<◌, ◌+◌, ◌++◌, ◌∷◌, [], true, None, length, get_or, set, ap, ap₂, sym, ◌∙◌, subst, arith, length-append}
 use Rattle.list_laws.specs.In.{IsIn}
 use Rattle.search.specs.Rounds.{round}
 use Rattle.search.specs.Uses as U

@@ -1,7 +1,6 @@
 -- The parts so far, and the numbers of their goals.
-use Rattle.std.proofs.Common.{◌≡◌, ◌<◌, ◌+◌, ℕ, List, true, length, reverse}
+use Rattle.std.proofs.Common.{◌≡◌, ◌<◌, ◌+◌, true, length}
 use Rattle.search.specs.Rounds.{round}
-use Rattle.search.specs.Uses as U
 use Rattle.search_laws.proofs.Building.{Made}
 use Rattle.js_explore.specs.ExploredView.{explored_view}
 use Rattle.js_rounds.specs.Slots.{words_by}

@@ -1,5 +1,5 @@
 -- The first words of either cell.
-use Rattle.std.proofs.Common.{[], ◌∷◌, ◌++◌, ap, ap₂, refl, ◌∙◌, chars, codes}
+use Rattle.std.proofs.Common.{[], ◌∷◌, ◌++◌, ap₂, refl, ◌∙◌, chars, codes}
 use Rattle.js_rounds.proofs.SmallWords.{first_a, first_b, first_c, first_d}
 use Rattle.js_rounds.proofs.tests.SmallExpander.words.Goals as goal
 
