@@ -250,7 +250,7 @@ module _ (n : ℕ) (ps : List Part) (left bytes : List ℕ) (r : Reading n ps le
       (read.text ∙ is ∙ append_assoc (count_text n) (lines_text 0 ps) more) in (
         count.0,
         goes-on 0 ps qs more (omega (arith, read.few)) (omega (arith, count.0, r.within)) r.told read.told
-        (sym count.1),
+            (sym count.1),
       )
 
   next-part : (qs : List Part) (line more whole : List ℕ) → length ps < n → FirstLine line more (line ++ more)
