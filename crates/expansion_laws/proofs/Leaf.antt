@@ -44,7 +44,8 @@ pub record IsLeaf (T : List Position) (t : Kind) (words : List Signed → ℕ �
       → IsIn a more
       → (a.kind ≡ t) × (a.branch ≡ k)
 
--- what lists scalars: each that is listed, in its shape, meets the set, and one is where a document of the kind meets it
+-- what lists scalars: each that is listed, in its shape, meets the set, and one is listed where a document of the kind
+-- meets it
 pub record IsListing {A : Type 0} (T : List Position) (t : Kind) (words : List Signed → ℕ → ℕ → List ℕ)
     (shape : A → Shape) (list : List Signed → Result (List A) LimitKind) : Type 0 where
   pub listed : (S : List Signed) → IsSaturated T t S → (xs : List A) → list S ≡ Ok xs → (x : A) → IsIn x xs

@@ -14,7 +14,8 @@ use Rattle.finders.specs.RowsFound.{grow}
 module _ {A : Type 0} (same : A → A → Bool) (laws : IsEquivalence same) (extend : A → List A) (start : A) where
   -- one row more
   pub mentioned_more : (K : List A) (x : A)
-      → R.mentioned same laws extend start (K ++ x ∷ []) ≡ mention_all same (R.mentioned same laws extend start K) (extend x)
+      → R.mentioned same laws extend start (K ++ x ∷ [])
+      ≡ mention_all same (R.mentioned same laws extend start K) (extend x)
   mentioned_more K x =
       ap (λ z. mention_all same [] (start ∷ z))
       (flat_map-append extend K (x ∷ []) ∙ ap (λ z. flat_map extend K ++ z) (append-nil (extend x)))

@@ -39,7 +39,8 @@ unfolding IsDistinct
 distinct_take same zero K d = tt
 distinct_take same (suc n) [] d = tt
 distinct_take {A = A} same (suc n) (x ∷ K) d = (apart n K d.0, distinct_take same n K d.1) where
-  apart : (n : ℕ) (K : List A) → AllByRecursion (λ y. same x y ≡ false) K → AllByRecursion (λ y. same x y ≡ false) (take n K)
+  apart : (n : ℕ) (K : List A) → AllByRecursion (λ y. same x y ≡ false) K
+      → AllByRecursion (λ y. same x y ≡ false) (take n K)
   apart zero K a = tt
   apart (suc n) [] a = tt
   apart (suc n) (y ∷ K) a = (a.0, apart n K a.1)
@@ -56,7 +57,8 @@ module _ (atoms : List Atom) where
   grown_words zero w (inl e) = subst (λ z. list_all is_scalar z ≡ true) (sym e) refl
   grown_words zero w (inr i) = absurd i
   grown_words (suc n) w i =
-      go (rows_by (class_firsts atoms) atoms n) (grown_words n) (nat_lt n (length (rows_by (class_firsts atoms) atoms n)))
+      go (rows_by (class_firsts atoms) atoms n) (grown_words n)
+      (nat_lt n (length (rows_by (class_firsts atoms) atoms n)))
       refl i where
         go : (G : List (List ℕ)) → ((v : List ℕ) → IsIn v G → list_all is_scalar v ≡ true) → (b : Bool)
             → nat_lt n (length G) ≡ b
@@ -92,7 +94,8 @@ module _ (atoms : List Atom) where
   rows_grown n L rows l =
       let m = rows_bound atoms L rows (length (rows_by (class_firsts atoms) atoms n)) (grown_states n) in
       rows_one atoms (rows_by (class_firsts atoms) atoms n) L
-      (grow_rows (have_same_state atoms) (same_laws atoms) (longer (class_firsts atoms)) [] n (omega (arith, l, m))) rows
+      (grow_rows (have_same_state atoms) (same_laws atoms) (longer (class_firsts atoms)) [] n (omega (arith, l, m)))
+      rows
 
   pub rows_are : (n : ℕ) → length (rows_by (class_firsts atoms) atoms n) ≤ n
       → AreRows atoms (rows_by (class_firsts atoms) atoms n)

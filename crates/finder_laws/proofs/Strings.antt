@@ -106,7 +106,8 @@ module _ (T : List Position) (S : List Signed) where
       → (length w < far) × (list_all is_scalar w ≡ true) × (is_wanted T S w ≡ true)
   wanted_is w i =
       let (a, b) = from_filter (is_wanted T S) w (shorter characters far) i in
-      let (l, s) = shorter_is characters (C.different 0x110000) (C.scalars 0x110000) far w a in (l, sym (scalars_same w) ∙ s, b)
+      let (l, s) = shorter_is characters (C.different 0x110000) (C.scalars 0x110000) far w a in
+      (l, sym (scalars_same w) ∙ s, b)
 
   module _ (L : List (List ℕ)) (rows : AreRows (string_atoms T S) L) (few : length L ≤ most_states) where
     -- where a word is wanted, the first of those that are is no longer

@@ -1,4 +1,5 @@
--- What a reader must believe: atoms that are taken once, the rows of atoms as a function, and the limits of an automaton.
+-- What a reader must believe: atoms that are taken once, the rows of atoms as a function, and the limits of an
+-- automaton.
 pub mod Once
 pub mod RowsFound
 pub mod Limits

@@ -31,7 +31,8 @@ some_place T x h = let l = ltb-true (position_of x) (length T) h in omega (arith
 none_at_all : (T : List Position) (ranks : List ℕ) → is_table T ranks ≡ true → (S : List Signed)
     → are_in_table T S ≡ true → strings_of T S ≡ Ok None → (w : List ℕ) → every D.is_scalar w ≡ true
     → meets T S (string w) ≡ true → ⊥
-none_at_all T ranks table [] h e w s m = none_wanted T [] e w (sym (scalars_same w) ∙ s) (le-leb 0 (length w) (omega arith)) refl
+none_at_all T ranks table [] h e w s m =
+    none_wanted T [] e w (sym (scalars_same w) ∙ s) (le-leb 0 (length w) (omega arith)) refl
 none_at_all T ranks table (x ∷ S) h e w s m =
     none_meets T (is_table-IsTable T ranks table (some_place T x (and_parts (is_in_table T x) (are_in_table T S) h).0))
     (x ∷ S) e w (sym (scalars_same w) ∙ s) m

@@ -14,7 +14,8 @@ pub record IsNaming (atoms : List Atom) (L : List (List ℕ)) (steps : List Step
   pub right : AreSteps atoms L steps (length steps)
 
 module _ (atoms : List Atom) (L : List (List ℕ)) (rows : AreRows atoms L) (steps : List Step) (i k t : ℕ)
-    (l : i < length L) (m : k < class_count atoms) (is : t ≡ target atoms L rows i k) (h : IsNaming atoms L steps i k) where
+    (l : i < length L) (m : k < class_count atoms) (is : t ≡ target atoms L rows i k)
+    (h : IsNaming atoms L steps i k) where
   pub naming_next : (new : List Step) → t ≡ length steps → new ≡ steps ++ record { row = i; class = k } ∷ []
       → IsNaming atoms L new i (k + 1)
   naming_next new e p =

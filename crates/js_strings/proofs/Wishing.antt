@@ -20,7 +20,8 @@ use Rattle.js_strings.specs.Wishes.{are_within, is_met, are_met}
 abbrev pub same_key : Atom → Atom → Bool
 same_key a b = same_atom (atom_view a) (atom_view b)
 
-any_views : (a : Atom) (ks : List Atom) → list_any (same_key a) ks ≡ list_any (same_atom (atom_view a)) (map atom_view ks)
+any_views : (a : Atom) (ks : List Atom)
+    → list_any (same_key a) ks ≡ list_any (same_atom (atom_view a)) (map atom_view ks)
 any_views a [] = refl
 any_views a (k ∷ ks) = ap (λ y. same_atom (atom_view a) (atom_view k) || y) (any_views a ks)
 
@@ -33,7 +34,8 @@ pub keys_views : (a : Atom) (ks : List Atom)
 keys_views a ks =
     go (list_any (same_key a) ks)
     ∙ ap (λ b. if b then map atom_view ks else map atom_view ks ++ atom_view a ∷ []) (any_views a ks) where
-      go : (b : Bool) → map atom_view (if b then ks else ks ++ a ∷ []) ≡ (if b then map atom_view ks else map atom_view ks
+      go : (b : Bool) → map atom_view (if b then ks else ks ++ a ∷ [])
+          ≡ (if b then map atom_view ks else map atom_view ks
           ++ atom_view a ∷ [])
       go true = refl
       go false = map_end atom_view ks a

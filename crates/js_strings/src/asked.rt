@@ -1,5 +1,5 @@
-//! What the literals of a set ask of words. Contracts see the atoms by `atoms_in`, and of a word by `asks` whether it is as
-//! asked for.
+//! What the literals of a set ask of words. Contracts see the atoms by `atoms_in`, and of a word by `asks` whether it is
+//! as asked for.
 
 ghost use Rattle.std.specs.Prelude.{◌≡◌, ◌&&◌, ℕ, List, map, true, IfOk, OnOk};
 ghost use Rattle.std.specs.Bool.{beq};

@@ -66,8 +66,8 @@ fn if_below(letters: Vec<char>, end: Option<u128>) -> Option<Vec<char>>
     }
 }
 
-/// The alternatives of a branch: one, where a string meets its set. Its word is the first in the order of words that the
-/// literals want and that is long enough, where it isn't too long.
+/// The alternatives of a branch: one, where a string meets its set. Its word is the first in the order of words that
+/// the literals want and that is long enough, where it isn't too long.
 pub fn string_alternatives(alloc: Global, core: &Core, branch: &Branch) -> Result<Leaf, AutoFault>
     requires kind { branch.now.id.kind ≡ JsonKind.Text }
     requires in_table { are_in_table core.now.positions branch.now.set ≡ true }

@@ -24,7 +24,8 @@ loop-class-preserved c =
           (ap (λ v. v.items) w.steps-is ∙ w.in_ok-push.ensures.items)
       | else-target-len w ↦
           subst (λ z. IsNaming atoms L z.items c.args.row (c.loop-class.class + 1)) (sym w.steps-is)
-          (naming_stays atoms L rows c.loop-class.steps.items c.args.row c.loop-class.class c.target.result c.requires.row
+          (naming_stays atoms L rows c.loop-class.steps.items c.args.row c.loop-class.class c.target.result
+          c.requires.row
           within c.target.ensures.target c.loop-class.invariant
           (λ e. w.if-target-len.false (omega (arith, e, c.len.ensures))))
     ]

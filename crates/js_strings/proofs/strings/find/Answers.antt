@@ -14,7 +14,8 @@ returns-then-is_at_end-clause-found c =
     let T = c.args.core.now.positions in
     let X = map signed_view c.args.set.now in
     crossed_none T X
-    (end_of T X c.lower-least.result c.below-end.result c.is_at_end.result true c.lower-least.ensures c.below-end.ensures
+    (end_of T X c.lower-least.result c.below-end.result c.is_at_end.result true c.lower-least.ensures
+    c.below-end.ensures
     c.is_at_end.ensures c.if-is_at_end.true)
 
 pub returns-in_err-asked-clause-fault : goal.returns-in_err-asked-clause-fault

@@ -14,7 +14,8 @@ abbrev pub invariant-loop-x : goal.invariant-loop-x
 invariant-loop-x l = record {
   in_table : are_in_table l.core.positions (map signed_view (drop l.x-index l.set)) ≡ true;
   atoms : mention_all same_atom (atoms_in l.asked)
-      (flat_map (λ x. word_atoms (position_at l.core.positions (position_of x))) (map signed_view (drop l.x-index l.set))
+      (flat_map (λ x. word_atoms (position_at l.core.positions (position_of x)))
+      (map signed_view (drop l.x-index l.set))
       ++ length_atoms (lower l.core.positions (map signed_view l.set)))
       ≡ string_atoms l.core.positions (map signed_view l.set);
   words : (w : List ℕ)
