@@ -20,3 +20,4 @@ pub mod SearchLaws
 pub mod DepthLaws
 -- Orders by ranks.
 pub mod OrderLaws
+pub mod SamePartLaws

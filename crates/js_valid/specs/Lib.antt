@@ -7,3 +7,5 @@ pub mod Plan
 pub mod Plain
 -- Requests for parts.
 pub mod Requests
+-- A document and a part without parts of its own.
+pub mod SamePart

@@ -14,6 +14,7 @@ mod found;
 mod order;
 mod own;
 mod plain;
+mod same;
 mod search;
 mod settle;
 mod tables;
