@@ -21,3 +21,4 @@ pub mod DepthLaws
 -- Orders by ranks.
 pub mod OrderLaws
 pub mod SamePartLaws
+pub mod FrameLaws

@@ -9,3 +9,5 @@ pub mod Plain
 pub mod Requests
 -- A document and a part without parts of its own.
 pub mod SamePart
+-- What hangs on no element and no member's value.
+pub mod Frame
