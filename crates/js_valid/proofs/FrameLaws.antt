@@ -1,5 +1,5 @@
 -- What a form asks of a document itself: `enum` and `const`, and what hangs on no element and no member's value.
-use Rattle.std.proofs.Common.{◌≡◌, ℕ, suc, List, [], ◌∷◌, map, length, nat_le, Bool, true, false, ◌&&◌, ◌||◌, not, refl, sym, ap, ap₂, ◌∙◌}
+use Rattle.std.proofs.Common.{◌≡◌, ℕ, suc, List, [], ◌∷◌, map, length, nat_le, Bool, true, false, ◌&&◌, ◌||◌, not, Option, Some, None, refl, sym, ap, ap₂, ◌∙◌}
 use Rattle.std.proofs.lemmas.Bool.{true≢false}
 use Rattle.documents.specs.Tests.{every, some, same_word}
 use Rattle.documents.specs.Document.{Document, elements, entries, items_of, members_of}
@@ -10,7 +10,7 @@ use Rattle.draft06.specs.EntryValidity.{has_type, need_asks, asks_number, asks_s
 use Rattle.shared_documents.specs.Part as P
 use Rattle.shared_documents.specs.Unshared.{built}
 use Rattle.js_valid.specs.Parts.{no_parts, own_array, own_object, own_keywords}
-use Rattle.js_valid.specs.Frame.{is_given, frame_asks}
+use Rattle.js_valid.specs.Frame.{any_asks, is_given, frame_asks}
 
 none_given : (e c t a o x n i s r m : Bool) → (e && c) ≡ false
     → (((e && c && t && a && o && x && n) && i) && s && r && m) ≡ false
@@ -69,3 +69,35 @@ needs-same : (here : ℕ → Bool) (f g : ℕ → Document) (ms : List (List ℕ
 needs-same here f g ms (Names ws) =
     every-alike (λ w. has_name w (valued f ms)) (λ w. has_name w (valued g ms)) ws (name-same f g ms)
 needs-same here f g ms (Whole e) = refl
+
+meets-alike : {A : Type 0} (p q : A → Bool) (o : Option A) → ((x : A) → p x ≡ q x) → meets p o ≡ meets q o
+meets-alike p q None h = refl
+meets-alike p q (Some x) h = h x
+
+module _ (matches : List ℕ → List ℕ → Bool) (here : ℕ → Bool) (k : Keywords) where
+  object-same : (f g : ℕ → Document) (ms : List (List ℕ × ℕ))
+      → own_object matches here k (valued f ms) ≡ own_object matches here k (valued g ms)
+  object-same f g ms =
+      let size : length (valued f ms) ≡ length (valued g ms) = entries-length f ms ∙ sym (entries-length g ms) in
+      ap₂ (λ a b. a && b)
+      (ap₂ (λ a b. a && b)
+      (ap (λ l. meets (λ n. nat_le l n) k.max_properties && meets (λ n. nat_le n l) k.min_properties) size)
+      (meets-alike (every (λ w. has_name w (valued f ms))) (every (λ w. has_name w (valued g ms))) k.required
+      (λ ws. every-alike _ _ ws (name-same f g ms))))
+      (meets-alike (every (λ n. not (has_name n.0 (valued f ms)) || need_asks here n.1 (valued f ms)))
+      (every (λ n. not (has_name n.0 (valued g ms)) || need_asks here n.1 (valued g ms))) k.dependencies
+      (λ ns. every-alike _ _ ns (λ n. ap₂ (λ a b. not a || b) (name-same f g ms n.0) (needs-same here f g ms n.1))))
+
+  -- a part's document is asked what any document built of the part is
+  pub frame-same : (f g : ℕ → Document) (p : P.Part)
+      → frame_asks matches here k (built f p) ≡ frame_asks matches here k (built g p)
+  frame-same f g P.null = refl
+  frame-same f g (P.boolean b) = refl
+  frame-same f g (P.number n) = refl
+  frame-same f g (P.string s) = refl
+  frame-same f g (P.array is) =
+      ap (λ l. (((any_asks here k (built g (P.array is)) && true) && true)
+      && (meets (λ n. nat_le l n) k.max_items && meets (λ n. nat_le n l) k.min_items)) && true)
+      (elements-length f is ∙ sym (elements-length g is))
+  frame-same f g (P.object ms) =
+      ap (λ b. (((any_asks here k (built g (P.object ms)) && true) && true) && true) && b) (object-same f g ms)
