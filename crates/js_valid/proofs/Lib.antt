@@ -22,3 +22,4 @@ pub mod DepthLaws
 pub mod OrderLaws
 pub mod SamePartLaws
 pub mod FrameLaws
+pub mod PartElementLaws

@@ -11,3 +11,5 @@ pub mod Requests
 pub mod SamePart
 -- What hangs on no element and no member's value.
 pub mod Frame
+-- Tables of verdicts for parts.
+pub mod PartTables

@@ -13,6 +13,7 @@ mod fault;
 mod found;
 mod order;
 mod own;
+mod part_elements;
 mod part_own;
 mod plain;
 mod same;
