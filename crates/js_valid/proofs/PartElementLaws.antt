@@ -62,7 +62,8 @@ module _ (below : ℕ → Document → Bool) (ds : List Document) where
       alike [] = refl
       alike (d ∷ ds) = ap₂ (λ a b. a && b) (and_true (not (below q d))) (alike ds)
 
-  contained-same : (f : Form) → meets (λ q. not (every (λ d. every (λ r. not (below r d)) (of_contains f)) ds)) (contained f)
+  contained-same : (f : Form)
+      → meets (λ q. not (every (λ d. every (λ r. not (below r d)) (of_contains f)) ds)) (contained f)
       ≡ meets (λ q. not (every (λ d. not (below q d)) ds)) (contained f)
   contained-same Always = refl
   contained-same Never = refl

@@ -1,5 +1,5 @@
 -- Elements and members of a document beside those of a part, one after another.
-use Rattle.std.proofs.Common.{◌≡◌, ℕ, zero, suc, ◌+◌, ◌<◌, ◌≤◌, List, [], ◌∷◌, map, drop, length, get_or, Bool, true, false, ◌&&◌, nat_lt, refl, sym, ap, ap₂, ◌∙◌, arith}
+use Rattle.std.proofs.Common.{◌≡◌, ℕ, zero, suc, ◌<◌, ◌≤◌, List, [], ◌∷◌, map, drop, length, get_or, Bool, true, false, ◌&&◌, nat_lt, refl, sym, ap, ap₂, ◌∙◌, arith}
 use Rattle.std.proofs.lemmas.Bool.{and_parts, and_from, ltb-true}
 use Rattle.std.proofs.lemmas.List.{drop_all}
 use Rattle.documents.specs.Tests.{every, same_word}
@@ -49,7 +49,8 @@ module _ {A B : Type 0} (f : A → Document) (g : B → Document) where
   items-sizes [] (y ∷ ys) h = refl
   items-sizes (x ∷ xs) [] h = refl
   items-sizes (x ∷ xs) (y ∷ ys) h =
-      ap (λ b. same_document (f x) (g y) && b) (items-sizes xs ys (λ e. h (ap suc e))) ∙ and_false (same_document (f x) (g y))
+      ap (λ b. same_document (f x) (g y) && b) (items-sizes xs ys (λ e. h (ap suc e)))
+      ∙ and_false (same_document (f x) (g y))
 
   pub items-other : (i : ℕ) (xs : List A) (ys : List B) (x : A) (y : B) → i < length xs → length xs ≡ length ys
       → x ≡ get_or xs i x → y ≡ get_or ys i y → same_document (f x) (g y) ≡ false
@@ -75,7 +76,8 @@ module _ {A B : Type 0} (f : A → List ℕ × Document) (g : B → List ℕ × 
   members-sizes [] (y ∷ ys) h = refl
   members-sizes (x ∷ xs) [] h = refl
   members-sizes (x ∷ xs) (y ∷ ys) h =
-      ap (λ b. (same_word (f x).0 (g y).0 && same_document (f x).1 (g y).1) && b) (members-sizes xs ys (λ e. h (ap suc e)))
+      ap (λ b. (same_word (f x).0 (g y).0 && same_document (f x).1 (g y).1) && b)
+      (members-sizes xs ys (λ e. h (ap suc e)))
       ∙ and_false (same_word (f x).0 (g y).0 && same_document (f x).1 (g y).1)
 
   abbrev pub same_one : A → B → Bool

@@ -10,7 +10,9 @@ ghost use Rattle.js_doc.specs.PartView.{part_view};
 ghost use Rattle.js_valid.specs.SamePart.{same_scalar};
 ghost use Rattle.js_doc.specs.View.{view, list_view, map_view, member_view};
 
-use js_doc::{Doc, DocList, DocMap, Member, Part, PartId, PartIds, PartMap, PartMember, Parts, Str};
+use js_doc::{
+    Doc, DocList, DocMap, Member, Part, PartId, PartIds, PartMap, PartMember, Parts, Str,
+};
 
 /// Time in proportion to the document.
 #[cycle(same)]

@@ -1,5 +1,5 @@
 -- The first element that isn't as it is asked is found.
-use Rattle.std.proofs.Common.{◌≡◌, ℕ, suc, Bool, ◌&&◌, map, drop, get_or, length, true, false, sym, ap, ◌∙◌, ◌+◌, add-one, arith}
+use Rattle.std.proofs.Common.{ℕ, suc, Bool, ◌&&◌, map, drop, get_or, length, sym, ap, ◌∙◌, ◌+◌, add-one, arith}
 use Rattle.documents.specs.Document.{Document}
 use Rattle.documents.specs.Tests.{every}
 use Rattle.js_doc.specs.PartMembers.{number_of}

@@ -14,8 +14,8 @@ use Rattle.js_valid.proofs.part_own.meets_keywords.Goals as goal
 
 pub returns-then-not-is_given : goal.returns-then-not-is_given
 returns-then-not-is_given c =
-    sym (own-none matches (flag c.args.here.now) (keywords_view c.args.keywords.now) (unshared c.args.parts.now c.args.id.0)
-    (sym c.is_given.ensures ∙ c.if-not-is_given.true))
+    sym (own-none matches (flag c.args.here.now) (keywords_view c.args.keywords.now)
+    (unshared c.args.parts.now c.args.id.0) (sym c.is_given.ensures ∙ c.if-not-is_given.true))
 
 pub returns : goal.returns
 returns c =

@@ -1,6 +1,6 @@
 -- A document beside a part: kind by kind, and elements and members one after another.
-use Rattle.std.proofs.Common.{rules, ◌≡◌, ℕ, List, length, map, get_or, refl, sym, ap, ap₂, ◌∙◌, arith}
-use Rattle.documents.specs.Document.{Document, depth, items_of, members_of}
+use Rattle.std.proofs.Common.{◌≡◌, ℕ, List, length, map, get_or, sym, ap, ap₂, ◌∙◌, arith}
+use Rattle.documents.specs.Document.{Document, items_of, members_of}
 use Rattle.documents.specs.Measures.{same_document, same_items, same_members}
 use Rattle.shared_documents.specs.Part.{named, Part}
 use Rattle.shared_documents.specs.Unshared.{built, unshared}
@@ -22,9 +22,11 @@ abbrev member_at : List Part → PartMember → List ℕ × Document
 member_at ps m = (m.name, unshared ps m.part.0)
 
 pub is_part-is_built-requires : goal.is_part-is_built-requires
-is_part-is_built-requires t c =
-    (omega (arith, c.decreases), below-more c.args.id.0 (length c.args.parts.now) (named (part_view c.get.result.now))
-    (omega (arith, c.requires)) c.get.ensures.part.below)
+is_part-is_built-requires t c = (
+  omega (arith, c.decreases),
+  below-more c.args.id.0 (length c.args.parts.now) (named (part_view c.get.result.now))
+      (omega (arith, c.requires)) c.get.ensures.part.below,
+)
 
 pub is_part-returns : goal.is_part-returns
 is_part-returns t c =
@@ -37,13 +39,14 @@ are_parts-is_part-requires t c = (
   omega (
     arith,
     c.decreases,
-    item-depth c.as_slice-docs.result.now c.loop-i.i c.index-docs-i.result (list_view c.args.list.now) c.loop-i-test.true
-        c.index-docs-i.is c.as_slice-docs.ensures.view,
+    item-depth c.as_slice-docs.result.now c.loop-i.i c.index-docs-i.result (list_view c.args.list.now)
+        c.loop-i-test.true c.index-docs-i.is c.as_slice-docs.ensures.view,
   ),
   below-at number_of (length c.args.parts.now) c.loop-i.i c.as_slice-numbers.result.now c.args.ids.now
       (get_or c.as_slice-numbers.result.now c.loop-i.i (record { 0 = 0 })) c.as_slice-numbers.ensures c.requires
       (omega (arith, c.loop-i-test.true, c.if-docs-numbers.false))
-      (item-same c.as_slice-numbers.result.now c.loop-i.i _ _ (omega (arith, c.loop-i-test.true, c.if-docs-numbers.false))),
+      (item-same c.as_slice-numbers.result.now c.loop-i.i _ _
+      (omega (arith, c.loop-i-test.true, c.if-docs-numbers.false))),
 )
 
 pub are_parts-returns-then-docs-numbers : goal.are_parts-returns-then-docs-numbers
@@ -63,7 +66,8 @@ are_parts-returns-then-not-is_part t c =
     ∙ sym c.loop-i.invariant
     ∙ items-other view (document_at c.args.parts.now) c.loop-i.i c.as_slice-docs.result.now
     c.as_slice-numbers.result.now c.index-docs-i.result id c.loop-i-test.true c.if-docs-numbers.false c.index-docs-i.is
-    (item-same c.as_slice-numbers.result.now c.loop-i.i _ id (omega (arith, c.loop-i-test.true, c.if-docs-numbers.false)))
+    (item-same c.as_slice-numbers.result.now c.loop-i.i _ id
+    (omega (arith, c.loop-i-test.true, c.if-docs-numbers.false)))
     (sym c.is_part.ensures ∙ c.if-not-is_part.true))
 
 pub are_parts-returns : goal.are_parts-returns
