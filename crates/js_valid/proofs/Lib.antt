@@ -20,3 +20,6 @@ pub mod SearchLaws
 pub mod DepthLaws
 -- Orders by ranks.
 pub mod OrderLaws
+pub mod SamePartLaws
+pub mod FrameLaws
+pub mod PartElementLaws

@@ -7,3 +7,9 @@ pub mod Plan
 pub mod Plain
 -- Requests for parts.
 pub mod Requests
+-- A document and a part without parts of its own.
+pub mod SamePart
+-- What hangs on no element and no member's value.
+pub mod Frame
+-- Tables of verdicts for parts.
+pub mod PartTables

@@ -5,11 +5,12 @@ ghost use Rattle.documents.specs.Tests.{every, some};
 ghost use Rattle.documents.specs.Document.{kind_of, elements, entries};
 ghost use Rattle.documents.specs.Measures.{is_multiple, has_name, exactly_one, same_document};
 ghost use Rattle.schemas.specs.Schema.{meets};
-ghost use Rattle.draft06.specs.EntryValidity.{has_type, need_asks, asks_any, asks_number, asks_string};
+ghost use Rattle.draft06.specs.EntryValidity.{has_type, need_asks, asks_number, asks_string};
 ghost use Rattle.js_doc.specs.View.{view, list_view, map_view, member_view};
 ghost use Rattle.js_keywords.specs.TypeView.{type_view};
 ghost use Rattle.js_schema.specs.View.{form_view, keywords_view, needs_view, dependency_view};
 ghost use Rattle.js_match.specs.Matching.{matches};
+ghost use Rattle.js_valid.specs.Frame.{any_asks, frame_asks, is_given};
 ghost use Rattle.js_valid.specs.Parts.{flag, own, own_keywords, own_array, own_object, no_parts, no_entry};
 
 use crate::found::is_found;
@@ -45,6 +46,21 @@ fn meets_keywords(
 ) -> Result<bool, Memory>
     ensures { IfOk result (λ b. b ≡ own_keywords matches (flag here.now) (keywords_view keywords.now) (view doc.now)) }
 {
+    if !is_given(keywords, doc) {
+        return Ok(false);
+    }
+    meets_frame(alloc, keywords, here, doc)
+}
+
+/// What a form asks but for `enum` and `const`: it hangs on no element and no member's value.
+pub(crate) fn meets_frame(
+    alloc: Global,
+    keywords: &Keywords,
+    here: &[bool],
+    doc: &Doc,
+) -> Result<bool, Memory>
+    ensures { IfOk result (λ b. b ≡ frame_asks matches (flag here.now) (keywords_view keywords.now) (view doc.now)) }
+{
     if !meets_any(keywords, here, doc) {
         return Ok(false);
     }
@@ -58,15 +74,19 @@ fn meets_keywords(
 }
 
 fn meets_any(keywords: &Keywords, here: &[bool], doc: &Doc) -> bool
-    ensures { result ≡ asks_any matches (flag here.now) no_parts (keywords_view keywords.now) (view doc.now) }
+    ensures { result ≡ any_asks (flag here.now) (keywords_view keywords.now) (view doc.now) }
 {
-    is_listed(keywords, doc)
-        && is_constant(keywords, doc)
-        && has_types(keywords, doc)
+    has_types(keywords, doc)
         && meets_all_of(&keywords.in_place.all_of, here)
         && meets_any_of(&keywords.in_place.any_of, here)
         && meets_one_of(&keywords.in_place.one_of, here)
         && meets_not(keywords.in_place.not, here)
+}
+
+fn is_given(keywords: &Keywords, doc: &Doc) -> bool
+    ensures { result ≡ is_given (keywords_view keywords.now) (view doc.now) }
+{
+    is_listed(keywords, doc) && is_constant(keywords, doc)
 }
 
 fn is_listed(keywords: &Keywords, doc: &Doc) -> bool
