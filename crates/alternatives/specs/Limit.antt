@@ -1,4 +1,5 @@
--- The limits of the search, each with what it counts, and the most of it that passes no limit.
+-- The limits of the search, each with what it counts, and the most of it that passes no limit. A least common multiple or a
+-- candidate is too large from 2^127 on (`number_groups`).
 use Rattle.std.specs.Prelude.{ℕ}
 
 pub data LimitKind : Type 0 where
@@ -65,6 +66,6 @@ most_goals = 65536
 abbrev pub most_total : ℕ
 most_total = 16777216
 
--- words of a cell are counted up to one more than the least number of members that passes no limit
+-- words of a cell are counted up to one more than the greatest lower count that passes no limit
 abbrev pub most_words : ℕ
 most_words = 65537

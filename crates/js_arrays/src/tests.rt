@@ -49,7 +49,7 @@ fn table(alloc: Global, first: Vec<Pos>) -> Result<Core, Fail>
         Node::CountMin(65_537),
     ]?;
     let ranks = vec![in alloc; 0, 0, 0, 0, 0, 0, 1, 0, 0, 0, 0, 0, 0, 0]?;
-    Ok(Core::make(NodeList::from_vec(nodes), RankList::from_vec(ranks)))
+    Ok(Core::make(alloc, NodeList::from_vec(nodes), RankList::from_vec(ranks))?)
 }
 
 /// The answer for the branch of these positions, as far as they are in the table.

@@ -2,6 +2,7 @@
 
 ghost use Rattle.std.specs.Prelude.{◌≡◌, None, true, length, IfOk};
 ghost use Rattle.documents.specs.Tests.{every};
+ghost use Rattle.alternatives.specs.Limit as L;
 ghost use Rattle.search.specs.Explored.{explored};
 ghost use Rattle.js_explore.specs.Exploration.{Explores};
 ghost use Rattle.js_explore.specs.ExploredView.{explored_view};
@@ -27,7 +28,7 @@ pub const MOST_TOTAL: u32 = 16_777_216;
 pub fn explore<E: Expander>(alloc: Global, expander: &E, root: Goal) -> Result<Explored, Memory>
     requires { E.takes expander.now root ≡ true }
     ensures found { IfOk result (λ e. (explored_view e).found
-        ≡ explored MOST_GOALS MOST_TOTAL (E.expansion expander.now) root) }
+        ≡ explored L.most_goals L.most_total (E.expansion expander.now) root) }
     ensures answers { IfOk result (λ e. Explores (E.expansion expander.now) (explored_view e)) }
     ensures taken { IfOk result (λ e. every (E.takes expander.now) (explored_view e).found.goals ≡ true) }
     ensures whole { IfOk result (λ e. (explored_view e).found.over ≡ None

@@ -223,7 +223,7 @@ fn expander(alloc: Global) -> Result<Small, Fail> {
         Node::BoolIs(true),
     ]?;
     let ranks = vec![in alloc; 0, 1, 2, 3]?;
-    let core = Core::make(NodeList::from_vec(nodes), RankList::from_vec(ranks));
+    let core = Core::make(alloc, NodeList::from_vec(nodes), RankList::from_vec(ranks))?;
     Ok(Small {
         root: form(alloc, &core, &[Signed::plus(Pos(0))])?.ok_or("a clash")?,
         second: form(alloc, &core, &[Signed::plus(Pos(1))])?.ok_or("a clash")?,

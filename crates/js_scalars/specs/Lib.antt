@@ -1,3 +1,4 @@
--- Used inside the proofs: the group of what was read so far, and what each answer says.
-pub mod SoFar
+-- What a reader must believe: what each answer says.
 pub mod Answers
+-- Internal: the group of what was read so far.
+pub mod SoFar

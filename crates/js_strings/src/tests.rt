@@ -29,7 +29,7 @@ fn table(alloc: Global, pattern: &str, word: &str, low: u64, high: u64) -> Resul
         Node::LengthMax(high),
     ]?;
     let ranks = vec![in alloc; 0, 0, 0, 0]?;
-    Ok(Core::make(NodeList::from_vec(nodes), RankList::from_vec(ranks)))
+    Ok(Core::make(alloc, NodeList::from_vec(nodes), RankList::from_vec(ranks))?)
 }
 
 /// The word that is found, or why there is none.
