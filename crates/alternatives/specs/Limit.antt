@@ -1,5 +1,5 @@
--- The limits of the search, each with what it counts, and the most of it that passes no limit. A least common multiple or a
--- candidate is too large from 2^127 on (`number_groups`).
+-- The limits of the search, each with what it counts, and the most of it that passes no limit. A least common multiple
+-- or a candidate is too large from 2^127 on (`number_groups`).
 use Rattle.std.specs.Prelude.{ℕ}
 
 pub data LimitKind : Type 0 where

@@ -3,8 +3,9 @@ use Rattle.std.specs.Prelude.{ℕ, ◌*◌, List, [], ◌∷◌, filter, Bool, O
 use Rattle.cells.specs.WordsInOrder.{shorter}
 use Rattle.alternatives.specs.Limit.{most_states, most_words}
 
--- Longer words than these need not be looked at to find a first word, since each row is reached by a word of fewer characters
--- than there are rows; nor to count words up to the most that are counted, whose number settles within so many rows and words.
+-- Longer words than these need not be looked at to find a first word, since each row is reached by a word of fewer
+-- characters than there are rows; nor to count words up to the most that are counted, whose number settles within
+-- so many rows and words.
 unfoldable pub far : ℕ
 far = most_states * most_words
 
