@@ -7,10 +7,12 @@ answers are written here by hand, from the standard; where the package `jsonsche
 without `ours` is compared with the one that is written."""
 import json
 import os
+import re
 import sys
 
 HERE = os.path.dirname(os.path.abspath(__file__))
 CASES = []
+PARTS = []
 
 
 def refuse(schema, words, document='null'):
@@ -391,6 +393,79 @@ for schema in ('before', 'after'):
     group(example('pipeline', schema), [example('pipeline', 'pipeline')], [example('pipeline', 'pipeline_with_two_ways')])
 
 
+# ---- parts that are shared: a part's answer is that of the document that it stands for
+
+def parts(schema, lines, answer):
+    """A schema, and the lines of a table's parts, of which the last one is validated."""
+    numbered = ['%d %s' % (number, line) for number, line in enumerate(lines)]
+    PARTS.append((json.dumps(schema), '\t'.join(['parts %d' % len(lines)] + numbered), answer))
+
+
+def unshared(lines):
+    """The document of the last part, as Python has it."""
+    made = []
+    for line in lines:
+        value = json.loads(re.sub('#([0-9]+)', r'{"#":\1}', line))
+        made.append(replaced(value, made))
+    return made[-1]
+
+
+def replaced(value, made):
+    if isinstance(value, list):
+        return [made[v['#']] for v in value]
+    if isinstance(value, dict):
+        return {k: made[v['#']] for k, v in value.items()}
+    return value
+
+
+def shared(schema, lines, answer):
+    """The same, where the document is small: another validator may say."""
+    parts(schema, lines, answer)
+    CASES.append((json.dumps(schema), json.dumps(unshared(lines)), answer, False))
+
+
+def doubled(depth, leaf='null'):
+    """Both members of each part but the lowest are the part before it: unshared, 2 ^ depth leaves."""
+    return [leaf] + ['{"l":#%d,"r":#%d}' % (i, i) for i in range(depth)]
+
+
+TREE = {'anyOf': [{'type': 'null'}, {'type': 'object', 'properties': {'l': {'$ref': '#'}, 'r': {'$ref': '#'}},
+                                     'required': ['l', 'r'], 'additionalProperties': False}]}
+RIGHT = {'properties': {'r': {'$ref': '#'}}, 'not': {'const': {'l': None, 'r': None}}}
+parts(TREE, doubled(64), 'valid')
+parts(TREE, doubled(64, '0'), 'invalid')
+parts(RIGHT, doubled(64), 'invalid')
+parts(RIGHT, doubled(64, 'false'), 'valid')
+# a part is asked for what stands above it, and not for what its own number says
+shared({'items': [{'items': {'type': 'null'}}, {'items': {'type': 'string'}}]}, ['null', '[#0,#0]', '[#1,#1]'], 'invalid')
+shared({'items': [{'items': {'type': 'null'}}, {'maxItems': 2}]}, ['null', '[#0,#0]', '[#1,#1]'], 'valid')
+shared({'items': [{'maxItems': 1}, {'minItems': 2}]}, ['null', '[#0,#0]', '[#1,#1]'], 'invalid')
+shared({'contains': {'contains': {'type': 'integer'}}}, ['0', 'null', '[#1,#0]', '[#1]', '[#3,#2]'], 'valid')
+shared({'contains': {'contains': {'type': 'integer'}}}, ['0', 'null', '[#1,#1]', '[#1]', '[#3,#2]'], 'invalid')
+# values in parts
+shared({'const': {'a': [[1], [1]], 'b': [1]}}, ['1', '[#0]', '[#1,#1]', '{"a":#2,"b":#1}'], 'valid')
+shared({'const': {'a': [[1], [1]], 'b': [[1]]}}, ['1', '[#0]', '[#1,#1]', '{"a":#2,"b":#1}'], 'invalid')
+shared({'const': {'a': [[1], [2]], 'b': [1]}}, ['1', '[#0]', '[#1,#1]', '{"a":#2,"b":#1}'], 'invalid')
+shared({'enum': [[], [[['x']]], 5]}, ['"x"', '[#0]', '[#1]', '[#2]'], 'valid')
+shared({'enum': [[], [[['y']]], 5]}, ['"x"', '[#0]', '[#1]', '[#2]'], 'invalid')
+# members by name, and names
+shared({'properties': {'b': {'type': 'null'}}, 'additionalProperties': {'type': 'integer'}},
+       ['null', '7', '{"a":#1,"b":#0,"c":#1}'], 'valid')
+shared({'properties': {'b': {'type': 'null'}}, 'additionalProperties': {'type': 'integer'}},
+       ['null', '7', '{"a":#1,"b":#0,"c":#0}'], 'invalid')
+shared({'patternProperties': {'^x': {'type': 'null'}, 'y$': {'minimum': 3}}}, ['null', '2', '{"x":#0,"z":#1}'], 'valid')
+shared({'patternProperties': {'^x': {'type': 'null'}, 'y$': {'minimum': 3}}}, ['null', '2', '{"x":#0,"zy":#1}'], 'invalid')
+shared({'propertyNames': {'anyOf': [{'maxLength': 1}, {'const': 'long'}]}}, ['null', '{"a":#0,"long":#0}'], 'valid')
+shared({'propertyNames': {'anyOf': [{'maxLength': 1}, {'const': 'long'}]}}, ['null', '{"a":#0,"lone":#0}'], 'invalid')
+shared({'required': ['a'], 'dependencies': {'a': ['b'], 'b': {'maxProperties': 2}}}, ['0', '{"a":#0,"b":#0}'], 'valid')
+shared({'required': ['a'], 'dependencies': {'a': ['b'], 'b': {'maxProperties': 1}}}, ['0', '{"a":#0,"b":#0}'], 'invalid')
+# the last part is the document; lines that are wrong
+shared({'type': 'array'}, ['0', '{}', '[]'], 'valid')
+shared({'type': 'array'}, ['[]', '{}', '0'], 'invalid')
+parts(True, ['[#0]'], 'refused document parts 2')
+parts(True, ['null', '[#0, #0]'], 'refused document parts 3')
+
+
 def main():
     try:
         from jsonschema import Draft6Validator
@@ -405,10 +480,10 @@ def main():
                 sys.exit('jsonschema says %s of %s and %s' % (verdict, schema, document))
             compared += 1
     with open(os.path.join(HERE, 'stdin'), 'w', encoding='utf-8', newline='') as f:
-        f.writelines('%s\t%s\n' % case[:2] for case in CASES)
+        f.writelines('%s\t%s\n' % case[:2] for case in CASES + PARTS)
     with open(os.path.join(HERE, 'stdout'), 'w', encoding='utf-8', newline='') as f:
-        f.writelines('%s\n' % case[2] for case in CASES)
-    print('%d cases, %d of them compared' % (len(CASES), compared))
+        f.writelines('%s\n' % case[2] for case in CASES + PARTS)
+    print('%d cases, %d of them compared' % (len(CASES) + len(PARTS), compared))
 
 
 main()

@@ -6,7 +6,7 @@ ghost use Rattle.js_algebra.specs.View.{signed_view, are_in_table};
 use crate::text::goal_text;
 use js_algebra::{Core, Pos, Signed, form};
 use js_doc::{Json, Memory};
-use js_guard::{GuardFault, guard};
+use js_guard::{Guarded, guard};
 use js_json::{JsonFault, read_json};
 use js_keywords::SchemaFault;
 use js_normal::{join_tables, normalise};
@@ -63,23 +63,22 @@ fn table_of_value(alloc: Global, json: &Json) -> Result<Option<Core>, Memory>
     ensures small { IfOk result (λ o. IfSome o (λ c. length c.positions < 2 ^ 31)) }
 {
     match read_schema(alloc, json) {
-        Ok(schema) => table_of_schema(alloc, &schema),
+        Ok(schema) => table_of_schema(alloc, schema),
         Err(SchemaFault::Memory) => Err(Memory),
         Err(_) => Ok(None),
     }
 }
 
-fn table_of_schema(alloc: Global, schema: &Schema) -> Result<Option<Core>, Memory>
+fn table_of_schema(alloc: Global, schema: Schema) -> Result<Option<Core>, Memory>
     ensures filled { IfOk result (λ o. IfSome o (λ c. 0 < length c.positions)) }
     ensures small { IfOk result (λ o. IfSome o (λ c. length c.positions < 2 ^ 31)) }
 {
-    match guard(alloc, schema) {
-        Ok(ranks) => {
-            let core = normalise(alloc, schema, &ranks)?;
+    match guard(alloc, schema)? {
+        Guarded::Ranked(schema) => {
+            let core = normalise(alloc, &schema)?;
             Ok(if core.len() > 0 { Some(core) } else { None })
         }
-        Err(GuardFault::Memory) => Err(Memory),
-        Err(GuardFault::Cycle(_)) => Ok(None),
+        Guarded::Circular(..) => Ok(None),
     }
 }
 

@@ -2,10 +2,11 @@
 
 ghost use Rattle.std.specs.Prelude.{◌≡◌, true};
 ghost use Rattle.js_algebra.specs.View.{are_in_table};
+ghost use Rattle.js_tableau.specs.BranchWalks.{IsBranchWalk};
 
 use js_algebra::{Core, Goal, JsonKind, Signed};
 use js_doc::Memory;
-use js_tableau::{Branch, TableauFault, branches};
+use js_tableau::{BranchWalk, TableauFault};
 use std::alloc::Global;
 
 /// Of this many branches the sets are printed.
@@ -33,8 +34,8 @@ fn push_branches(
     requires { are_in_table core.now.positions goal.now ≡ true }
 {
     text.push_str(kind.as_word())?;
-    match branches(alloc, core, goal, kind) {
-        Ok(found) => push_found(text, found.as_slice()),
+    match BranchWalk::new(alloc, core, goal, kind) {
+        Ok(mut walk) => push_walk(alloc, core, &mut walk, text),
         Err(TableauFault::LimitBranches) => {
             text.push_str(" limit branches\n")?;
             Ok(())
@@ -44,13 +45,25 @@ fn push_branches(
 }
 
 /// The number of branches, and their sets where they are few.
-fn push_found(text: &mut String, found: &[Branch]) -> Result<(), Memory> {
-    let count = found.len();
+fn push_walk(
+    alloc: Global,
+    core: &Core,
+    walk: &mut BranchWalk,
+    text: &mut String,
+) -> Result<(), Memory>
+    requires { IsBranchWalk core.now.positions walk.old }
+{
+    let mut count = 0;
+    let mut sets = String::new(alloc);
+    while let Some(set) = walk.next(alloc, core)? {
+        count += 1;
+        if count <= SHOWN {
+            push_set(&mut sets, "branch", set.as_slice())?;
+        }
+    }
     writeln!(text, " {count}")?;
     if count <= SHOWN {
-        for branch in found {
-            push_set(text, "branch", branch.set.as_slice())?;
-        }
+        text.push_str(sets.as_str())?;
     }
     Ok(())
 }

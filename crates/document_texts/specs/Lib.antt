@@ -6,3 +6,5 @@ pub mod PartsText
 -- which bytes are a table's text, and where others are told
 pub mod PartsRead
 pub mod Measured
+-- which of the two texts is printed of a document that was found
+pub mod FoundText

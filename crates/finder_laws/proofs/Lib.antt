@@ -7,3 +7,5 @@ pub mod Strings
 mod InOrder
 pub mod RowOrder
 pub mod FirstRow
+pub mod Names
+pub mod NoObjects

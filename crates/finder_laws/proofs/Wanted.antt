@@ -81,12 +81,12 @@ map_at f g x [] e i = absurd i
 map_at f g x (y ∷ xs) e (inl q) = (let h : f y ≡ g y = cc e in ap f q ∙ h ∙ ap g (sym q))
 map_at f g x (y ∷ xs) e (inr i) = (let h : map f xs ≡ map g xs = cc e in map_at f g x xs h i)
 
-every_same : {A : Type 0} (p q : A → Bool) (xs : List A) → ((x : A) → IsIn x xs → p x ≡ q x) → every p xs ≡ every q xs
+pub every_same : {A : Type 0} (p q : A → Bool) (xs : List A) → ((x : A) → IsIn x xs → p x ≡ q x) → every p xs ≡ every q xs
 every_same p q [] h = refl
 every_same p q (x ∷ xs) h = ap₂ (λ a b. a && b) (h x (inl refl)) (every_same p q xs (λ y i. h y (inr i)))
 
 module _ (atoms : List Atom) (v w : List ℕ) (same : have_same_state atoms v w ≡ true) where
-  truth_same : (a : Atom) → IsIn a atoms → is_true a v ≡ is_true a w
+  pub truth_same : (a : Atom) → IsIn a atoms → is_true a v ≡ is_true a w
   truth_same a i =
       map_at (λ a. is_true a v) (λ a. is_true a w) a atoms
       (state_truth atoms v w ((state_decides (word_state atoms v) (word_state atoms w)).0 same)) i

@@ -161,6 +161,14 @@ fn shared<T: Send + Sync>(x: &T) -> &T {
     x
 }
 
+/// Threads may send and share tables.
+#[test]
+fn tables_cross_threads(rt: HostRuntime) -> Result<(), Fail> {
+    let core = table(rt.alloc())?;
+    assert_eq!(rt; shared(&core).len(), 2);
+    Ok(())
+}
+
 #[test]
 fn goals_are_keys(rt: HostRuntime) -> Result<(), Fail> {
     let core = wide_table(rt.alloc())?;

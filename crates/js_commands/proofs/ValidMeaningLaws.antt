@@ -1,16 +1,17 @@
 -- What an outcome means for the values of the two files.
-use Rattle.std.proofs.Common.{◌≡◌, ℕ, List, Bool, true, false, Option, Some, None, encode_utf8_all, refl, ap, ap₂, sym, ◌∙◌, subst}
+use Rattle.std.proofs.Common.{◌≡◌, ℕ, List, Bool, true, false, Option, Some, None, encode_utf8_all, refl, ap, sym, ◌∙◌, subst}
 use Rattle.documents.specs.Document.{Document}
 use Rattle.documents.specs.Json.{Json}
 use Rattle.draft06.specs.Validity.{valid}
 use Rattle.js_keywords.specs.Reading.{rules}
 use Rattle.js_outside.specs.Told.{Files}
 use Rattle.js_input.specs.SchemaReading.{Refused, Read, IsSchemaReading}
-use Rattle.js_input.specs.DocumentReading.{DocumentReading, RefusedDocument, ReadDocument, document_reading}
+use Rattle.js_input.specs.DocumentReading.{DocumentReading, RefusedDocument, ReadDocument, IsDocumentReading}
 use Rattle.js_input.specs.FileReading.{IsSchemaFile, IsSchemaRefusal}
 use Rattle.js_input.specs.ToldTwice.{AreFiles}
 use Rattle.js_input.proofs.SchemaReadingLemmas.{IsSchemaReading-one}
-use Rattle.js_commands.specs.ValidOutcome.{Outcome, Valid, Invalid, SchemaRefused, DocumentRefused, of_test, of_document, of_bytes, of_schema, IsOutcomeOf, IsValidation}
+use Rattle.js_input.proofs.PartsReadingLemmas.{IsDocumentReading-one}
+use Rattle.js_commands.specs.ValidOutcome.{Outcome, Valid, Invalid, SchemaRefused, DocumentRefused, of_test, of_document, IsOutcomeOfDocument, IsOutcomeOfSchema, IsOutcomeOf, IsValidation}
 use Rattle.js_commands.specs.ValidMeaning.{AreInputs, IsRefusedAfterSchema}
 
 -- which outcome it is
@@ -62,30 +63,29 @@ module _ (told : Option Files) (schema document : List ℕ) (files later : Files
     (b : Bool) where
   decided_second : (j : Json) → IsSchemaFile files schema j → (o : Option (List ℕ))
       → later (encode_utf8_all document) ≡ o
-      → of_bytes j o ≡ of_test b → IsDecided told schema document b
-  decided_second j is None t e = let wrong = ap is_decided e ∙ is_decided-of_test b in cc
-  decided_second j is (Some bytes) t e = go (document_reading bytes) refl e where
-    go : (r : DocumentReading) → document_reading bytes ≡ r → of_document j r ≡ of_test b
-        → IsDecided told schema document b
-    go (RefusedDocument words) h e = let wrong = ap is_decided e ∙ is_decided-of_test b in cc
-    go (ReadDocument d) h e =
-        record {
-          value = j;
-          judged = d;
-          are = record {
-            files = files;
-            later = later;
-            are_files = ok;
-            is_schema = is;
-            is_document = record { bytes = bytes; told = t; is_read = h };
-          };
-          verdict = of_test-one (valid rules j d) b e;
-        }
+      → IsOutcomeOfDocument j o (of_test b) → IsDecided told schema document b
+  decided_second j is None t e = let wrong = sym (is_decided-of_test b) ∙ ap is_decided e in cc
+  decided_second j is (Some bytes) t (RefusedDocument words, h, e) =
+      let wrong = ap is_decided e ∙ is_decided-of_test b in cc
+  decided_second j is (Some bytes) t (ReadDocument d, h, e) =
+      record {
+        value = j;
+        judged = d;
+        are = record {
+          files = files;
+          later = later;
+          are_files = ok;
+          is_schema = is;
+          is_document = record { bytes = bytes; told = t; is_read = h };
+        };
+        verdict = of_test-one (valid rules j d) b e;
+      }
 
   decided_first : (o : Option (List ℕ)) → files (encode_utf8_all schema) ≡ o
       → IsOutcomeOf o (later (encode_utf8_all document)) (of_test b) → IsDecided told schema document b
   decided_first None t e = let wrong = sym (is_decided-of_test b) ∙ ap is_decided e in cc
-  decided_first (Some bytes) t (Refused words, is, e) = let wrong = ap is_decided e ∙ is_decided-of_test b in cc
+  decided_first (Some bytes) t (Refused words, is, e) =
+      let wrong = sym (is_decided-of_test b) ∙ ap is_decided e in cc
   decided_first (Some bytes) t (Read j, is, e) =
       decided_second j (record { bytes = bytes; told = t; is_read = is }) (later (encode_utf8_all document)) refl e
 
@@ -99,14 +99,14 @@ validation-decided told schema document b is =
 -- and for a schema and a document of files that are told it says one of the two
 told_outcome : (schema document : List ℕ) (x y : Option (List ℕ)) (first second : List ℕ) (j : Json) (d : Document)
     (o : Outcome)
-    → x ≡ Some first → y ≡ Some second → IsSchemaReading first (Read j) → document_reading second ≡ ReadDocument d
+    → x ≡ Some first → y ≡ Some second → IsSchemaReading first (Read j) → IsDocumentReading second (ReadDocument d)
     → IsOutcomeOf x y o
     → o ≡ of_test (valid rules j d)
 told_outcome schema document x y first second j d o e f is h outcome =
-    let (r, reads, same) = subst (λ t. IsOutcomeOf t y o) e outcome in
-    sym same
-    ∙ ap₂ of_schema f (IsSchemaReading-one first r (Read j) reads is)
-    ∙ ap (of_document j) h
+    let (r, reads, more) = subst (λ t. IsOutcomeOf t y o) e outcome in
+    let of = subst (λ r. IsOutcomeOfSchema y r o) (IsSchemaReading-one first r (Read j) reads is) more in
+    let (s, also, same) = subst (λ t. IsOutcomeOfDocument j t o) f of in
+    sym same ∙ ap (of_document j) (IsDocumentReading-one second s (ReadDocument d) also h)
 
 pub told-decided : (told : Files) (schema document : List ℕ) (o : Outcome) (j : Json) (d : Document)
     → IsValidation (Some told) schema document o → AreInputs (Some told) schema document j d
@@ -136,26 +136,27 @@ module _ (files later : Files) (schema document : List ℕ) (words : List ℕ) w
     of_reading (ReadDocument d) e =
         let wrong = sym (unrefused-schema (valid rules j d)) ∙ ap is_schema_refused e in cc
 
-    go : (o : Option (List ℕ)) → of_bytes j o ≡ SchemaRefused words → IsSchemaRefusal files schema words
+    go : (o : Option (List ℕ)) → IsOutcomeOfDocument j o (SchemaRefused words) → IsSchemaRefusal files schema words
     go None e = cc
-    go (Some more) e = of_reading (document_reading more) e
+    go (Some more) (r, h, e) = of_reading r e
 
   document_second : (j : Json) → IsSchemaFile files schema j → (o : Option (List ℕ))
       → later (encode_utf8_all document) ≡ o
-      → of_bytes j o ≡ DocumentRefused words → IsRefusedAfterSchema files later schema document words
+      → IsOutcomeOfDocument j o (DocumentRefused words) → IsRefusedAfterSchema files later schema document words
   document_second j is None t e = cc
-  document_second j is (Some bytes) t e = go (document_reading bytes) refl e where
-    go : (r : DocumentReading) → document_reading bytes ≡ r → of_document j r ≡ DocumentRefused words
-        → IsRefusedAfterSchema files later schema document words
-    go (RefusedDocument ws) h e =
-        let same : ws ≡ words = cc in
-        record {
-          value = j;
-          is_schema = is;
-          is_refused = record { bytes = bytes; told = t; is_refused = h ∙ ap RefusedDocument same };
-        }
-    go (ReadDocument d) h e =
-        let wrong = sym (unrefused-of_test (valid rules j d)) ∙ ap is_document_refused e in cc
+  document_second j is (Some bytes) t (RefusedDocument ws, h, e) =
+      let same : ws ≡ words = cc in
+      record {
+        value = j;
+        is_schema = is;
+        is_refused = record {
+          bytes = bytes;
+          told = t;
+          is_refused = subst (λ v. IsDocumentReading bytes (RefusedDocument v)) same h;
+        };
+      }
+  document_second j is (Some bytes) t (ReadDocument d, h, e) =
+      let wrong = sym (unrefused-of_test (valid rules j d)) ∙ ap is_document_refused e in cc
 
   document_first : (o : Option (List ℕ)) → files (encode_utf8_all schema) ≡ o
       → IsOutcomeOf o (later (encode_utf8_all document)) (DocumentRefused words)

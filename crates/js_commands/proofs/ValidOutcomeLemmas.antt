@@ -1,13 +1,13 @@
 -- What files come to, from what each was read as.
-use Rattle.std.proofs.Common.{◌≡◌, ℕ, List, Bool, true, false, Option, encode_utf8_all, refl, ap, sym, ◌∙◌, subst}
+use Rattle.std.proofs.Common.{◌≡◌, ℕ, List, Bool, true, false, Option, encode_utf8_all, refl, sym, ◌∙◌, subst}
 use Rattle.documents.specs.Json.{Json}
 use Rattle.js_outside.specs.Told.{Files}
 use Rattle.js_report.specs.WholeFile.{HasBytes}
 use Rattle.js_input.specs.SchemaReading.{Refused, Read, IsSchemaReading}
-use Rattle.js_input.specs.DocumentReading.{document_reading}
+use Rattle.js_input.specs.DocumentReading.{DocumentReading, IsDocumentReading}
 use Rattle.js_commands.proofs.FileLemmas.{HaveFile-has, HaveFiles-has}
 use Rattle.js_commands.specs.ValidOutcome as O
-use Rattle.js_commands.specs.ValidOutcome.{Outcome, of_test, of_document, of_bytes, IsOutcomeOf, IsValidation}
+use Rattle.js_commands.specs.ValidOutcome.{Outcome, of_test, of_document, IsOutcomeOfDocument, IsOutcomeOf, IsValidation}
 use Rattle.js_commands.specs.ValidSaying.{outcome_of, ValidationSays}
 use Rattle.js_commands.specs.declared.valid.Validation.{Validation}
 use Rattle.js_commands.specs.declared.valid.Validation.TheVariants as V
@@ -27,18 +27,18 @@ validation-schema_refused told schema document bytes words has is =
     }
 
 -- a schema that is read, and a document file with these bytes
-pub validation-read : (told : Option Files) (schema document first second : List ℕ) (j : Json) (o : Outcome)
-    → HasBytes told (encode_utf8_all schema) first → HasBytes told (encode_utf8_all document) second
-    → IsSchemaReading first (Read j) → of_document j (document_reading second) ≡ o
+pub validation-read : (told : Option Files) (schema document first second : List ℕ) (j : Json) (r : DocumentReading)
+    (o : Outcome) → HasBytes told (encode_utf8_all schema) first → HasBytes told (encode_utf8_all document) second
+    → IsSchemaReading first (Read j) → IsDocumentReading second r → of_document j r ≡ o
     → IsValidation told schema document o
-validation-read told schema document first second j o f g is e =
+validation-read told schema document first second j r o f g is reads e =
     let at = HaveFiles-has told schema document first second f g in
     record {
       files = at.files;
       later = at.later;
       are_files = at.are_files;
       outcome = subst (λ b. IsOutcomeOf b (at.later (encode_utf8_all document)) o) (sym at.has_first)
-          (Read j, is, ap (of_bytes j) at.has_second ∙ e);
+          (Read j, is, subst (λ b. IsOutcomeOfDocument j b o) (sym at.has_second) (r, reads, e));
     }
 
 -- a decided document

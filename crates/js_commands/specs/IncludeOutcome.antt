@@ -1,18 +1,17 @@
--- What two schema files come to.
-use Rattle.std.specs.Prelude.{◌≡◌, ℕ, List, Option, Some, None, codes, encode_utf8_all}
-use Rattle.documents.specs.Json.{Json}
+-- What the comparison of two schemas comes to: of those of two files, and of that of a file and the value `false`.
+use Rattle.std.specs.Prelude.{◌≡◌, ℕ, List, [], ◌∷◌, false, Option, Some, None, codes, encode_utf8_all}
+use Rattle.documents.specs.Json.{Json, boolean}
 use Rattle.js_report.specs.RefusalWords.{placed_words}
 use Rattle.js_outside.specs.Told.{Files}
-use Rattle.js_decide.specs.Verdict.{Verdict}
 use Rattle.js_input.specs.SchemaReading.{Reading, Refused, Read, IsSchemaReading}
 use Rattle.js_input.specs.ToldTwice.{AreFiles}
 use Rattle.js_inclusion.specs.Comparison as C
-use Rattle.js_inclusion.specs.Comparison.{Comparison, comparison}
+use Rattle.js_inclusion.specs.Comparison.{Answer, Comparison, comparison}
 use Rattle.js_commands.specs.ReadEntries.{entries_read}
 
 pub data Outcome : Type 0 where
   -- whether a document is valid for the first schema and not for the second
-  Decided : Verdict → Outcome
+  Decided : Answer → Outcome
   -- the words of a refusal after the file's role
   FirstRefused : List ℕ → Outcome
   SecondRefused : List ℕ → Outcome
@@ -23,7 +22,7 @@ pub data Outcome : Type 0 where
 abbrev pub of_comparison : Comparison → Outcome
 of_comparison (C.FirstUnread p) = FirstRefused (placed_words (codes "notyet") p)
 of_comparison (C.SecondUnread p) = SecondRefused (placed_words (codes "notyet") p)
-of_comparison (C.Decided v) = Decided v
+of_comparison (C.Decided x) = Decided x
 
 -- of two schemas that are read
 abbrev pub of_values : Json → Json → Outcome
@@ -33,23 +32,34 @@ abbrev pub of_second : Json → Reading → Outcome
 of_second a (Refused words) = SecondRefused words
 of_second a (Read b) = of_values a b
 
--- the second file is looked at only where the first is read
-abbrev pub IsOfSecond : Json → Option (List ℕ) → Outcome → Type 0
-IsOfSecond a None o = o ≡ ReadFault
-IsOfSecond a (Some bytes) o = (r : Reading) × IsSchemaReading bytes r × (of_second a r ≡ o)
+-- against a file, by its bytes where they are there
+abbrev pub IsAgainstBytes : Option (List ℕ) → Json → Outcome → Type 0
+IsAgainstBytes None a o = o ≡ ReadFault
+IsAgainstBytes (Some bytes) a o = (r : Reading) × IsSchemaReading bytes r × (of_second a r ≡ o)
 
-abbrev pub IsOfFirst : (second : Option (List ℕ)) → Reading → Outcome → Type 0
-IsOfFirst second (Refused words) o = o ≡ FirstRefused words
-IsOfFirst second (Read a) o = IsOfSecond a second o
+-- what stands second: the file of that name, or where there is none the value `false`, for which no document is valid
+abbrev pub IsAgainst : Files → Option (List ℕ) → Json → Outcome → Type 0
+IsAgainst files None a o = of_values a (boolean false) ≡ o
+IsAgainst files (Some name) a o = IsAgainstBytes (files (encode_utf8_all name)) a o
 
--- what files come to, by their bytes where they are there
-abbrev pub IsOutcomeOf : (first second : Option (List ℕ)) → Outcome → Type 0
-IsOutcomeOf None second o = o ≡ ReadFault
-IsOutcomeOf (Some bytes) second o = (r : Reading) × IsSchemaReading bytes r × IsOfFirst second r o
+-- the second is looked at only where the first is read
+abbrev pub IsOfFirst : (against : Json → Outcome → Type 0) → Reading → Outcome → Type 0
+IsOfFirst against (Refused words) o = o ≡ FirstRefused words
+IsOfFirst against (Read a) o = against a o
+
+-- what they come to, by the first file's bytes where they are there
+abbrev pub IsOutcomeOf : (first : Option (List ℕ)) → (against : Json → Outcome → Type 0) → Outcome → Type 0
+IsOutcomeOf None against o = o ≡ ReadFault
+IsOutcomeOf (Some bytes) against o = (r : Reading) × IsSchemaReading bytes r × IsOfFirst against r o
 
 -- what the files of these names come to; `later` are the files when the second is read
-pub record IsComparison (told : Option Files) (first second : List ℕ) (o : Outcome) : Type 0 where
+pub record IsComparison (told : Option Files) (first : List ℕ) (second : Option (List ℕ)) (o : Outcome) : Type 0 where
   pub files : Files
   pub later : Files
   pub are_files : AreFiles told files later
-  pub outcome : IsOutcomeOf (files (encode_utf8_all first)) (later (encode_utf8_all second)) o
+  pub outcome : IsOutcomeOf (files (encode_utf8_all first)) (IsAgainst later second) o
+
+-- the name of the second file, where there is one
+abbrev pub second_file : Option (List ℕ) → List (List ℕ)
+second_file None = []
+second_file (Some name) = encode_utf8_all name ∷ []

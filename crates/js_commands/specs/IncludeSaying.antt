@@ -3,9 +3,9 @@ use Rattle.std.specs.Prelude.{◌≡◌, ℕ, List, Option, string_bytes}
 use Rattle.schemas.specs.Entry.{Entry}
 use Rattle.js_outside.specs.Counts.{Rose}
 use Rattle.js_outside.specs.Told.{Files}
-use Rattle.js_decide.specs.View.{verdict_view}
 use Rattle.js_inclusion.specs.Comparison.{comparison}
 use Rattle.js_inclusion.specs.Meaning.{Means}
+use Rattle.js_inclusion.specs.View.{answer_view}
 use Rattle.js_commands.specs.IncludeOutcome as O
 use Rattle.js_commands.specs.IncludeOutcome.{Outcome, of_comparison, IsComparison}
 use Rattle.js_commands.specs.IncludeMeaning.{MeansFor}
@@ -13,13 +13,13 @@ use Rattle.js_commands.specs.declared.include.Inclusion.{Inclusion}
 use Rattle.js_commands.specs.declared.include.Inclusion.TheVariants as F
 
 abbrev pub outcome_of : Inclusion → Outcome
-outcome_of (F.Decided v) = O.Decided (verdict_view v)
+outcome_of (F.Decided x) = O.Decided (answer_view x)
 outcome_of (F.FirstRefused words) = O.FirstRefused (string_bytes words)
 outcome_of (F.SecondRefused words) = O.SecondRefused (string_bytes words)
 outcome_of F.ReadFault = O.ReadFault
 
 -- a fault is counted where a file couldn't be read, and else the answer is what the files come to
-abbrev pub InclusionSays : Option Files → List ℕ → List ℕ → ℕ → ℕ → Inclusion → Type 0
+abbrev pub InclusionSays : Option Files → List ℕ → Option (List ℕ) → ℕ → ℕ → Inclusion → Type 0
 InclusionSays told first second before after F.ReadFault = Rose before after
 InclusionSays told first second before after f =
     (after ≡ before) × IsComparison told first second (outcome_of f) × MeansFor told first second (outcome_of f)

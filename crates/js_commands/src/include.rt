@@ -1,31 +1,31 @@
-//! `include`: the first file is read, then the second, and then their schemas are compared.
+//! `include` and `sat`: the first file is read, then the second where there is one, and then the schemas are compared.
 //!
 //! Both are read before anything is compared, so a file that is no schema is told before a place that isn't decided on,
-//! whichever file has it.
+//! whichever file has it. A schema has a document exactly where it isn't included in `false`, for which no document is
+//! valid; so `sat` compares with that value.
 
-ghost use Rattle.std.specs.Prelude.{◌≡◌, [], ◌∷◌, true, IfOk, OnErr, codes, encode_utf8_all, string_bytes};
-ghost use Rattle.schemas.specs.Guarded.{edges, are_ranks};
+ghost use Rattle.std.specs.Prelude.{◌≡◌, [], ◌∷◌, ◌++◌, Some, None, IfOk, OnErr, option_map, codes, encode_utf8_all, string_bytes};
 ghost use Rattle.js_report.specs.RefusalWords as R;
-ghost use Rattle.js_schema.specs.SchemaView.{schema_view};
+ghost use Rattle.js_guard.specs.RankedView.{entries_of};
 ghost use Rattle.js_input.specs.OrderOfFiles.{BeginsInOrder};
+ghost use Rattle.js_inclusion.specs.Nothing.{nothing};
+ghost use Rattle.js_commands.specs.IncludeOutcome.{second_file};
 ghost use Rattle.js_commands.specs.IncludeSaying.{InclusionSays, SchemasSay};
 
-use js_decide::Verdict;
 use js_doc::{Memory, Str};
-use js_guard::Ranks;
-use js_inclusion::{Comparison, compare};
+use js_guard::RankedSchema;
+use js_inclusion::{Answer, Comparison, compare, false_schema};
 use js_input::{SchemaInput, load_schema};
 use js_json::Pointer;
 use js_outside::Shelf;
 use js_report::placed_words;
-use js_schema::Schema;
 use std::alloc::Global;
 
-/// What two schema files come to.
+/// What two schemas come to.
 #[derive(Drop)]
 pub enum Inclusion {
     /// Whether a document is valid for the first schema and not for the second.
-    Decided(Verdict),
+    Decided(Answer),
 
     /// The words of the first file's refusal after its role.
     FirstRefused(String),
@@ -37,9 +37,30 @@ pub enum Inclusion {
     ReadFault,
 }
 
-/// Compares the schemas of two files. The first file is read first, and the second only where the first is a schema; a
-/// schema that isn't decided on yet is told after both are read.
+/// Compares the schemas of two files; without a second file, the first file's with the value `false`. The first file is
+/// read first, and the second only where the first is a schema; a schema that isn't decided on yet is told after both
+/// are read.
 pub fn compare_files<H: Shelf>(
+    alloc: Global,
+    shelf: &mut H,
+    first: &Str,
+    second: Option<&Str>,
+) -> Result<Inclusion, Memory>
+    ensures told { H.told shelf.new ≡ H.told shelf.old }
+    ensures says { IfOk result (InclusionSays (H.told shelf.old) first.now (option_map (λ s. s.now) second.entry)
+        (H.faults shelf.old) (H.faults shelf.new)) }
+    ensures memory { OnErr result (H.faults shelf.new ≡ H.faults shelf.old) }
+    ensures begun { BeginsInOrder (H.told shelf.old)
+        (encode_utf8_all first.now ∷ second_file (option_map (λ s. s.now) second.entry)) (H.begun shelf.old)
+        (H.begun shelf.new) }
+{
+    match second {
+        Some(second) => compare_two(alloc, shelf, first, second),
+        None => compare_with_false(alloc, shelf, first),
+    }
+}
+
+fn compare_two<H: Shelf>(
     alloc: Global,
     shelf: &mut H,
     first: &Str,
@@ -47,36 +68,53 @@ pub fn compare_files<H: Shelf>(
 ) -> Result<Inclusion, Memory>
     ensures told { H.told shelf.new ≡ H.told shelf.old }
     ensures says { IfOk result
-        (InclusionSays (H.told shelf.old) first.now second.now (H.faults shelf.old) (H.faults shelf.new)) }
+        (InclusionSays (H.told shelf.old) first.now (Some second.now) (H.faults shelf.old) (H.faults shelf.new)) }
     ensures memory { OnErr result (H.faults shelf.new ≡ H.faults shelf.old) }
     ensures begun { BeginsInOrder (H.told shelf.old) (encode_utf8_all first.now ∷ encode_utf8_all second.now ∷ [])
         (H.begun shelf.old) (H.begun shelf.new) }
 {
-    let (a, a_ranks) = match load_schema(alloc, shelf, first)? {
-        Some(SchemaInput::Read(schema, ranks)) => (schema, ranks),
+    let a = match load_schema(alloc, shelf, first)? {
+        Some(SchemaInput::Read(schema)) => schema,
         Some(SchemaInput::Refused(words)) => return Ok(Inclusion::FirstRefused(words)),
         None => return Ok(Inclusion::ReadFault),
     };
     match load_schema(alloc, shelf, second)? {
-        Some(SchemaInput::Read(b, b_ranks)) => compared(alloc, &a, &a_ranks, &b, &b_ranks),
+        Some(SchemaInput::Read(b)) => compared(alloc, &a, &b),
         Some(SchemaInput::Refused(words)) => Ok(Inclusion::SecondRefused(words)),
         None => Ok(Inclusion::ReadFault),
     }
 }
 
-fn compared(
+fn compare_with_false<H: Shelf>(
     alloc: Global,
-    a: &Schema,
-    a_ranks: &Ranks,
-    b: &Schema,
-    b_ranks: &Ranks,
+    shelf: &mut H,
+    first: &Str,
 ) -> Result<Inclusion, Memory>
-    requires a_ranks { are_ranks (edges (schema_view a.now)) a_ranks.now ≡ true }
-    requires b_ranks { are_ranks (edges (schema_view b.now)) b_ranks.now ≡ true }
-    ensures { IfOk result (SchemasSay (schema_view a.now) (schema_view b.now)) }
+    ensures told { H.told shelf.new ≡ H.told shelf.old }
+    ensures says { IfOk result
+        (InclusionSays (H.told shelf.old) first.now None (H.faults shelf.old) (H.faults shelf.new)) }
+    ensures memory { OnErr result (H.faults shelf.new ≡ H.faults shelf.old) }
+    ensures begun { H.begun shelf.new ≡ H.begun shelf.old ++ encode_utf8_all first.now ∷ [] }
 {
-    match compare(alloc, a, a_ranks, b, b_ranks)? {
-        Comparison::Decided(verdict) => Ok(Inclusion::Decided(verdict)),
+    match load_schema(alloc, shelf, first)? {
+        Some(SchemaInput::Read(a)) => compared_with_false(alloc, &a),
+        Some(SchemaInput::Refused(words)) => Ok(Inclusion::FirstRefused(words)),
+        None => Ok(Inclusion::ReadFault),
+    }
+}
+
+fn compared_with_false(alloc: Global, a: &RankedSchema) -> Result<Inclusion, Memory>
+    ensures { IfOk result (SchemasSay (entries_of a.now) nothing) }
+{
+    let b = false_schema(alloc)?;
+    compared(alloc, a, &b)
+}
+
+fn compared(alloc: Global, a: &RankedSchema, b: &RankedSchema) -> Result<Inclusion, Memory>
+    ensures { IfOk result (SchemasSay (entries_of a.now) (entries_of b.now)) }
+{
+    match compare(alloc, a, b)? {
+        Comparison::Decided(answer) => Ok(Inclusion::Decided(answer)),
         Comparison::FirstUnread(place) => {
             let words = not_yet(alloc, &place)?;
             Ok(Inclusion::FirstRefused(words))

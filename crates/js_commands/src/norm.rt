@@ -1,18 +1,16 @@
 //! `norm`: the file is read, and the table of its schema is written as text.
 
-ghost use Rattle.std.specs.Prelude.{◌≡◌, [], ◌∷◌, ◌++◌, IfOk, OnErr, OnOk, encode_utf8_all, string_bytes, true};
-ghost use Rattle.schemas.specs.Guarded.{edges, are_ranks};
-ghost use Rattle.js_schema.specs.SchemaView.{schema_view};
+ghost use Rattle.std.specs.Prelude.{◌≡◌, [], ◌∷◌, ◌++◌, IfOk, OnErr, OnOk, encode_utf8_all, string_bytes};
+ghost use Rattle.js_guard.specs.RankedView.{entries_of};
 ghost use Rattle.js_commands.specs.NormOutcome.{table_text, MeansValidity};
 ghost use Rattle.js_commands.specs.NormSaying.{ListingSays};
 
 use js_core_text::core_text;
 use js_doc::{Memory, Str};
-use js_guard::Ranks;
+use js_guard::RankedSchema;
 use js_input::{SchemaInput, load_schema};
 use js_normal::normalise;
 use js_outside::Shelf;
-use js_schema::Schema;
 use std::alloc::Global;
 
 /// What a schema file comes to.
@@ -36,9 +34,7 @@ pub fn list_table<H: Shelf>(alloc: Global, shelf: &mut H, name: &Str) -> Result<
     ensures begun { H.begun shelf.new ≡ H.begun shelf.old ++ encode_utf8_all name.now ∷ [] }
 {
     match load_schema(alloc, shelf, name)? {
-        Some(SchemaInput::Read(schema, ranks)) => {
-            Ok(Listing::Text(text_of(alloc, &schema, &ranks)?))
-        }
+        Some(SchemaInput::Read(schema)) => Ok(Listing::Text(text_of(alloc, &schema)?)),
         Some(SchemaInput::Refused(words)) => Ok(Listing::Refused(words)),
         None => Ok(Listing::ReadFault),
     }
@@ -46,11 +42,10 @@ pub fn list_table<H: Shelf>(alloc: Global, shelf: &mut H, name: &Str) -> Result<
 
 /// The text of a schema's table.
 #[tactic(auto, using(crate::proofs::NormTableLemmas::means_validity))]
-fn text_of(alloc: Global, schema: &Schema, ranks: &Ranks) -> Result<String, Memory>
-    requires { are_ranks (edges (schema_view schema.now)) ranks.now ≡ true }
-    ensures text { IfOk result (λ s. string_bytes s ≡ table_text (schema_view schema.now)) }
-    ensures means { OnOk result (MeansValidity (schema_view schema.now)) }
+fn text_of(alloc: Global, schema: &RankedSchema) -> Result<String, Memory>
+    ensures text { IfOk result (λ s. string_bytes s ≡ table_text (entries_of schema.now)) }
+    ensures means { OnOk result (MeansValidity (entries_of schema.now)) }
 {
-    let core = normalise(alloc, schema, ranks)?;
+    let core = normalise(alloc, schema)?;
     core_text(alloc, &core)
 }

@@ -1,24 +1,23 @@
 //! `valid`: the schema is read, then the document, and then its validity is decided.
 
-ghost use Rattle.std.specs.Prelude.{◌≡◌, [], ◌∷◌, true, Ok, IfOk, OnErr, encode_utf8_all};
+ghost use Rattle.std.specs.Prelude.{◌≡◌, ◌<◌, [], ◌∷◌, length, true, Ok, IfOk, OnErr, encode_utf8_all};
 ghost use Rattle.documents.specs.Json.{Json};
 ghost use Rattle.documents.specs.WellFormed.{is_json};
 ghost use Rattle.schemas.specs.Entries.{read};
-ghost use Rattle.schemas.specs.Guarded.{edges, are_ranks};
 ghost use Rattle.js_doc.specs.View.{view};
 ghost use Rattle.js_keywords.specs.Reading.{rules};
-ghost use Rattle.js_schema.specs.SchemaView.{schema_view};
+ghost use Rattle.js_guard.specs.RankedView.{entries_of};
 ghost use Rattle.draft06.specs.Validity.{valid};
+ghost use Rattle.js_input.specs.DocumentReading.{last_document};
 ghost use Rattle.js_input.specs.OrderOfFiles.{BeginsInOrder};
 ghost use Rattle.js_commands.specs.ValidOutcome.{of_test};
 ghost use Rattle.js_commands.specs.ValidSaying.{ValidationSays, outcome_of};
 
-use js_doc::{Doc, Memory, Str};
-use js_guard::Ranks;
+use js_doc::{Doc, Memory, PartId, Parts, Str};
+use js_guard::RankedSchema;
 use js_input::{DocumentInput, SchemaInput, load_document, load_schema};
 use js_outside::Shelf;
-use js_schema::Schema;
-use js_valid::{ValidFault, valid};
+use js_valid::{ValidFault, valid, valid_parts};
 use std::alloc::Global;
 
 /// What a schema file and a document file come to.
@@ -55,24 +54,37 @@ pub fn validate<H: Shelf>(
     ensures begun { BeginsInOrder (H.told shelf.old) (encode_utf8_all schema.now ∷ encode_utf8_all document.now ∷ [])
         (H.begun shelf.old) (H.begun shelf.new) }
 {
-    let (table, ranks) = match load_schema(alloc, shelf, schema)? {
-        Some(SchemaInput::Read(table, ranks)) => (table, ranks),
+    let ranked = match load_schema(alloc, shelf, schema)? {
+        Some(SchemaInput::Read(ranked)) => ranked,
         Some(SchemaInput::Refused(words)) => return Ok(Validation::SchemaRefused(words)),
         None => return Ok(Validation::ReadFault),
     };
     match load_document(alloc, shelf, document)? {
-        Some(DocumentInput::Read(doc)) => judged(alloc, &table, &ranks, &doc),
+        Some(DocumentInput::Read(doc)) => judged(alloc, &ranked, &doc),
+        Some(DocumentInput::Parts(parts)) => judged_parts(alloc, &ranked, &parts),
         Some(DocumentInput::Refused(words)) => Ok(Validation::DocumentRefused(words)),
         None => Ok(Validation::ReadFault),
     }
 }
 
-fn judged(alloc: Global, schema: &Schema, ranks: &Ranks, doc: &Doc) -> Result<Validation, Memory>
-    requires { are_ranks (edges (schema_view schema.now)) ranks.now ≡ true }
-    ensures { IfOk result (λ v. (j : Json) → is_json j ≡ true → read rules j ≡ Ok (schema_view schema.now)
+fn judged(alloc: Global, schema: &RankedSchema, doc: &Doc) -> Result<Validation, Memory>
+    ensures { IfOk result (λ v. (j : Json) → is_json j ≡ true → read rules j ≡ Ok (entries_of schema.now)
         → outcome_of v ≡ of_test (valid rules j (view doc.now))) }
 {
-    match valid(alloc, schema, ranks, doc) {
+    match valid(alloc, schema, doc) {
+        Ok(true) => Ok(Validation::Valid),
+        Ok(false) => Ok(Validation::Invalid),
+        Err(ValidFault::Memory) => Err(Memory),
+    }
+}
+
+/// The same of the document that the last part of a table stands for, which isn't made.
+fn judged_parts(alloc: Global, schema: &RankedSchema, parts: &Parts) -> Result<Validation, Memory>
+    requires some { 0 < length parts.now }
+    ensures { IfOk result (λ v. (j : Json) → is_json j ≡ true → read rules j ≡ Ok (entries_of schema.now)
+        → outcome_of v ≡ of_test (valid rules j (last_document parts.now))) }
+{
+    match valid_parts(alloc, schema, parts, PartId(parts.len() - 1)) {
         Ok(true) => Ok(Validation::Valid),
         Ok(false) => Ok(Validation::Invalid),
         Err(ValidFault::Memory) => Err(Memory),

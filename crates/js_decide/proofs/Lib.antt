@@ -1,5 +1,5 @@
-pub mod VerdictLaws
-pub mod Telling
-pub mod KnownSoFar
-pub mod KindByKind
-mod Examples
+mod Holes
+mod Told
+mod Deciding
+mod NoWords
+mod Truths

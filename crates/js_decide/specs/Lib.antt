@@ -1,8 +1,4 @@
--- What a reader must believe: which verdict a table and two of its positions have, and which one a program's stands
--- for.
-pub mod Verdict
+-- What a reader must believe: the verdicts and decisions that the program's values stand for.
 pub mod View
--- Used inside: how a certificate begins, and what is told of a tree.
-pub mod Heading
-pub mod Outcomes
-pub mod SoFar
+-- Internal: the expander that the tests have.
+pub mod Rows

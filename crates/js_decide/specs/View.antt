@@ -1,10 +1,14 @@
--- The verdict that a program's verdict stands for.
-use Rattle.js_algebra.specs.View.{kind_view}
-use Rattle.js_decide.specs.Verdict as V
-use Rattle.js_decide.specs.declared.decide.Verdict.{Verdict}
-use Rattle.js_decide.specs.declared.decide.Verdict.TheVariants.{Document, Limit, Certificate}
+-- The verdicts and decisions that the program's values stand for.
+use Rattle.decisions.specs.Decision as D
+use Rattle.js_expansion.specs.View.{limit_view}
+use Rattle.js_decide.specs.declared.verdict.Verdict.{Verdict}
+use Rattle.js_decide.specs.declared.verdict.Verdict.TheVariants as V
+use Rattle.js_decide.specs.declared.verdict.Decided.{Decided}
 
-abbrev pub verdict_view : Verdict → V.Verdict
-verdict_view (Document k) = V.Document (kind_view k)
-verdict_view (Limit g) = V.Limit g
-verdict_view (Certificate ls) = V.Certificate ls
+abbrev pub verdict_view : Verdict → D.Verdict
+verdict_view (V.Document ps i) = D.Document ps i.0
+verdict_view (V.Limit k g) = D.Limit (limit_view k) g
+verdict_view V.NoDocument = D.NoDocument
+
+abbrev pub decided_view : Decided → D.Decided
+decided_view d = D.decided (verdict_view d.verdict) d.goals d.rounds

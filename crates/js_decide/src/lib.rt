@@ -1,12 +1,16 @@
-//! Whether some document meets one position of a core table and not another.
+//! Whether some document meets one position of a core table and not another, by a search for goals.
 //!
-//! The list `+a -b` forms a goal, and for each of the six kinds the goal's tree is looked at. A branch is a document:
-//! every document of its kind settles the question, since in a table without typed positions a branch holds only
-//! literals of kinds. Where each tree is closed, their steps are the lines of a certificate. The cost is that of the
-//! trees, of which no set is kept.
+//! From the root, the goal of the two positions, goals are explored and rounds are run. Where a round has the root, its
+//! document is told in parts; else the first limit that may have hidden one, and else that there is none.
 #![tactic(auto)]
 
-mod decide;
-mod told;
+mod pair;
+mod root;
+mod verdict;
 
-pub use decide::{Verdict, make_verdict};
+pub use pair::decide;
+pub use root::decide_root;
+pub use verdict::{Decided, Verdict};
+
+#[cfg(test)]
+mod tests;

@@ -3,8 +3,8 @@ use Rattle.std.proofs.Common.{◌≡◌, ℕ, zero, suc, ◌+◌, ◌<◌, ◌�
 use Rattle.std.proofs.lemmas.List.{take_more, take_all}
 use Rattle.schemas.specs.Entry.{Form, Entry}
 use Rattle.schemas.specs.Schema.{in_place, is_table}
-use Rattle.schemas.specs.Guarded.{edges, targets}
-use Rattle.schema_laws.proofs.Ranks.{edges-below}
+use Rattle.schemas.specs.Guarded.{edges, targets, are_ranks}
+use Rattle.schema_laws.proofs.Ranks.{edges-below, are_ranks-length}
 use Rattle.js_guard.specs.Rows.{AreClosed}
 
 edges-at : (es : List Entry) (x : ℕ) (f : Form) → x < length es → f ≡ get_or (map (λ e. e.form) es) x f
@@ -32,3 +32,7 @@ edges-all es x g l e = e ∙ take_all x (edges es) (omega (arith, edges-length e
 -- the edges of a table lead to its entries
 pub edges-closed : (es : List Entry) → is_table es ≡ true → AreClosed (edges es)
 edges-closed es h x y k = let inside = edges-below es h x y k in omega (arith, edges-length es)
+
+-- ranks are as many as the entries
+pub ranks-counted : (es : List Entry) (ranks : List ℕ) → are_ranks (edges es) ranks ≡ true → length ranks ≡ length es
+ranks-counted es ranks fall = are_ranks-length (edges es) ranks fall ∙ edges-length es

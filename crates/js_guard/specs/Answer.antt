@@ -1,10 +1,13 @@
--- What an answer of the guard means, for the in-place edges of a table.
-use Rattle.std.specs.Prelude.{ℕ, List}
-use Rattle.schemas.specs.Guarded.{IsGuarded, IsLeastCycle}
-use Rattle.js_guard.specs.declared.fault.GuardFault.{GuardFault}
-use Rattle.js_guard.specs.declared.fault.GuardFault.TheVariants.{Cycle, Memory}
+-- What the guard answers on a schema with these entries.
+use Rattle.std.specs.Prelude.{◌≡◌, List}
+use Rattle.schemas.specs.Entry.{Entry}
+use Rattle.schemas.specs.Guarded.{edges, IsGuarded, IsLeastCycle}
+use Rattle.js_schema.specs.SchemaView.{schema_view}
+use Rattle.js_guard.specs.RankedView.{entries_of}
+use Rattle.js_guard.specs.declared.ranked.Guarded.{Guarded}
+use Rattle.js_guard.specs.declared.ranked.Guarded.TheVariants.{Ranked, Circular}
 
--- some entries lead in a circle, and this is the cycle that is told. Want of memory tells nothing
-abbrev pub Tells : List (List ℕ) → GuardFault → Type 0
-Tells g (Cycle l) = (IsGuarded g → ⊥) × IsLeastCycle g l
-Tells g Memory = Unit {0}
+-- no cycle leads through them; or some lead in a circle, and this is the cycle that is told. The schema is handed back
+abbrev pub Answers : List Entry → Guarded → Type 0
+Answers es (Ranked s) = (entries_of s ≡ es) × IsGuarded (edges es)
+Answers es (Circular s cycle) = (schema_view s ≡ es) × (IsGuarded (edges es) → ⊥) × IsLeastCycle (edges es) cycle

@@ -1,5 +1,6 @@
--- What a reader must believe stands in `schemas`: in-place edges, the cycle that is told, and ranks. Here is what an
--- answer of the guard means.
+-- What a reader must believe stands in `schemas`: in-place edges, the cycle that is told, and ranks. Here are the
+-- entries of a schema with ranks, and what the guard answers.
+pub mod RankedView
 pub mod Answer
 -- Internal: edges in flat arrays, what a search keeps and its steps, edges the other way round, and distances.
 pub mod Rows

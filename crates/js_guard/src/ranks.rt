@@ -31,4 +31,10 @@ impl Ranks {
     {
         self.ranks[entry as usize]
     }
+
+    pub fn as_slice(&self) -> &[u32]
+        ensures { result.now ≡ self.now }
+    {
+        self.ranks.as_slice()
+    }
 }

@@ -4,6 +4,7 @@ use Rattle.documents.specs.Tests.{some}
 use Rattle.documents.specs.Kind.{Kind, all_kinds}
 use Rattle.documents.specs.Document.{Document, is_document, kind_of}
 use Rattle.documents.specs.Json.{Json}
+use Rattle.shared_documents.specs.Unshared.{unshared}
 use Rattle.schemas.specs.Entry.{Entry}
 use Rattle.schemas.specs.Guarded.{edges, are_ranks}
 use Rattle.schema_laws.proofs.TableLaws.{is_table-length}
@@ -11,27 +12,31 @@ use Rattle.draft06.specs.Validity.{valid, Included, Separates}
 use Rattle.positions.specs.Position as Q
 use Rattle.positions.specs.Position.{Position}
 use Rattle.positions.specs.Holds.{holds, IsTable}
+use Rattle.position_laws.specs.Plain.{is_plain}
 use Rattle.position_laws.proofs.Joined.{length-joined, joined-IsTable, holds-joined_left, holds-joined_right}
 use Rattle.normal_forms.specs.NormalForm.{ranks_of}
 use Rattle.normal_laws.proofs.TableLaw.{is_table-normal, more_positions}
 use Rattle.goals.specs.Signed.{Signed, Plus, Minus}
 use Rattle.goals.specs.Goal.{form}
 use Rattle.goals.specs.Tree.{first}
+use Rattle.alternatives.specs.Limit.{LimitKind, most_goals, most_total}
 use Rattle.certificates.specs.Line.{Line}
 use Rattle.certificates.specs.TreeLines.{written}
 use Rattle.certificates.specs.Good.{is_good}
 use Rattle.certificate_laws.proofs.GoodSound.{is_good-holds}
+use Rattle.decisions.specs.Decision as S
+use Rattle.decisions.specs.Decision.{decision}
+use Rattle.decisions.specs.Meaning as M
 use Rattle.js_keywords.specs.Reading.{rules}
 use Rattle.js_normal.specs.PatternTrees.{tree_of}
-use Rattle.js_decide.specs.Verdict as V
-use Rattle.js_decide.specs.Verdict.{Verdict, is_over, is_open, of_kinds, of_goal, verdict}
-use Rattle.js_decide.proofs.VerdictLaws.{verdict-document, verdict-good, verdict-text}
-use Rattle.js_inclusion.specs.Unread.{unread}
-use Rattle.js_inclusion.specs.Comparison.{Decided, core_of, both, second_root}
-use Rattle.js_inclusion.specs.Meaning.{IsReadAs, PassesLimit, IsCertificate, Tells, Means, MeansIncluded}
-use Rattle.js_inclusion.specs.Tables.{IsSmallTable}
-use Rattle.js_inclusion.proofs.PlainLaws.{is_plain-both}
-use Rattle.js_inclusion.proofs.ComparisonLaws.{are_good-read}
+use Rattle.js_expander.specs.Found.{finders}
+use Rattle.js_plain.specs.Verdict as V
+use Rattle.js_plain.specs.Verdict.{Verdict, is_over, is_open, of_kinds, of_goal, verdict}
+use Rattle.js_plain.proofs.VerdictLaws.{verdict-document, verdict-good, verdict-text}
+use Rattle.js_inclusion.specs.Comparison.{Answer, Plain, Searched, Decided, core_of, both, second_root, answer}
+use Rattle.js_inclusion.specs.Meaning.{IsReadAs, HasManyEnds, StopsSearch, IsCertificate, AreSeparating, PlainTells, SearchTells, AnswerTells, Means, MeansIncluded}
+use Rattle.js_inclusion.specs.Tables.{IsSmallTable, SearchMeans}
+use Rattle.js_inclusion.proofs.SearchLaws.{answer-plain, answer-searched, stopped}
 use Rattle.js_inclusion.proofs.ReadValues.{holds-read}
 
 -- ---- limits
@@ -70,25 +75,42 @@ limit_goal T h g e = go (first (is_open T h) all_kinds) refl e where
   go None f e = at (some (is_over T h) all_kinds) refl e f
 
 module _ (es fs : List Entry) where
-  limited : (g : List Signed) → verdict (both es fs) 0 (second_root es) ≡ V.Limit g → PassesLimit es fs g
-  limited g e = go (form (both es fs) (Plus 0 ∷ Minus (second_root es) ∷ [])) refl e where
+  limited : is_plain (both es fs) ≡ true → (g : List Signed) → verdict (both es fs) 0 (second_root es) ≡ V.Limit g
+      → HasManyEnds es fs g
+  limited plain g e = go (form (both es fs) (Plus 0 ∷ Minus (second_root es) ∷ [])) refl e where
     go : (o : Option (List Signed)) → form (both es fs) (Plus 0 ∷ Minus (second_root es) ∷ []) ≡ o
-        → of_goal (both es fs) o ≡ V.Limit g → PassesLimit es fs g
+        → of_goal (both es fs) o ≡ V.Limit g → HasManyEnds es fs g
     go None f e = cc
     go (Some h) f e =
         let (same, over, none) = limit_goal (both es fs) h g e in
         record {
+          plain = plain;
           formed = f ∙ ap Some same;
           over = subst (λ k. some (is_over (both es fs) k) all_kinds ≡ true) same over;
           none_open = subst (λ k. some (is_open (both es fs) k) all_kinds ≡ false) same none;
         }
 
-  -- schemas whose trees pass the limit have its verdict
-  pub passes-limit : (g : List Signed) → PassesLimit es fs g → verdict (both es fs) 0 (second_root es) ≡ V.Limit g
+  passes-limit : (g : List Signed) → HasManyEnds es fs g → verdict (both es fs) 0 (second_root es) ≡ V.Limit g
   passes-limit g x =
       ap (of_goal (both es fs)) x.formed
       ∙ ap (of_kinds (both es fs) g) (first-absent (is_open (both es fs) g) all_kinds x.none_open)
       ∙ ap (λ c. cond c (V.Limit g) (V.Certificate (written (both es fs) (Some g)))) x.over
+
+  -- schemas whose trees pass the limit, and those whose search is stopped, have that answer
+
+  pub answer-many_ends : (g : List Signed) → HasManyEnds es fs g
+      → answer (both es fs) 0 (second_root es) ≡ Plain (V.Limit g)
+  answer-many_ends g x =
+      ap (λ c. cond c (Plain (verdict (both es fs) 0 (second_root es))) (Searched (decision (finders (both es fs))
+      (both es fs) 0 (second_root es)).verdict)) x.plain
+      ∙ ap Plain (passes-limit g x)
+
+  pub answer-stopped : (k : LimitKind) (o : Option (List Signed)) → StopsSearch es fs k o
+      → answer (both es fs) 0 (second_root es) ≡ Searched (S.Limit k o)
+  answer-stopped k o x =
+      ap (λ c. cond c (Plain (verdict (both es fs) 0 (second_root es))) (Searched (decision (finders (both es fs))
+      (both es fs) 0 (second_root es)).verdict)) x.typed
+      ∙ ap Searched (stopped (finders (both es fs)) (both es fs) 0 (second_root es) k o x.stops)
 
 -- ---- the table of both
 
@@ -136,12 +158,10 @@ module _ (es fs : List Entry) (t : IsSmallTable es) (u : IsSmallTable fs) (ranks
         ∙ ap (λ p. holds (both es fs) p J) same
 
     -- a kind's documents
-    separated : unread es ≡ None → unread fs ≡ None → (k : Kind)
-        → verdict (both es fs) 0 (second_root es) ≡ V.Document k
+    separated : is_plain (both es fs) ≡ true → (k : Kind) → verdict (both es fs) 0 (second_root es) ≡ V.Document k
         → (J : Document) → is_document J ≡ true → kind_of J ≡ k → Separates rules a b J
-    separated none none' k e J document kind =
-        let (first, second) = verdict-document (both es fs) both-table 0 (second_root es)
-        (is_plain-both tree_of es fs none none') k e J kind in
+    separated plain k e J document kind =
+        let (first, second) = verdict-document (both es fs) both-table 0 (second_root es) plain k e J kind in
         record {
           document = document;
           first = valid-first J document ∙ first;
@@ -154,26 +174,49 @@ module _ (es fs : List Entry) (t : IsSmallTable es) (u : IsSmallTable fs) (ranks
         valid-second J document
         ∙ is_good-holds (both es fs) both-table J 0 (second_root es) ls good (sym (valid-first J document) ∙ h)
 
-    certified : unread es ≡ None → unread fs ≡ None → (ls : List Line)
-        → verdict (both es fs) 0 (second_root es) ≡ V.Certificate ls
+    certified : (ls : List Line) → verdict (both es fs) 0 (second_root es) ≡ V.Certificate ls
         → IsCertificate es fs a b ls
-    certified none none' ls e =
+    certified ls e =
         let good = verdict-good (both es fs) both-table 0 (second_root es) ls in_first in_second e in
         record {
-          good = are_good-read es fs ls none none' ∙ good;
+          good = good;
           in_grammar = verdict-text (both es fs) both-table 0 (second_root es) ls within in_first in_second e;
           included = good-included ls good;
         }
 
-    tells-verdict : unread es ≡ None → unread fs ≡ None → (v : Verdict) → verdict (both es fs) 0 (second_root es) ≡ v
-        → Tells es fs a b (Decided v)
-    tells-verdict none none' (V.Document k) e = separated none none' k e
-    tells-verdict none none' (V.Limit g) e = limited es fs g e
-    tells-verdict none none' (V.Certificate ls) e = certified none none' ls e
+    tells-plain : is_plain (both es fs) ≡ true → (v : Verdict) → verdict (both es fs) 0 (second_root es) ≡ v
+        → PlainTells es fs a b v
+    tells-plain plain (V.Document k) e = separated plain k e
+    tells-plain plain (V.Limit g) e = limited es fs plain g e
+    tells-plain plain (V.Certificate ls) e = certified ls e
 
-  pub means-verdict : unread es ≡ None → unread fs ≡ None → (v : Verdict) → verdict (both es fs) 0 (second_root es) ≡ v
-      → Means es fs (Decided v)
-  means-verdict none none' v e = λ a b is is'. tells-verdict a b is is' none none' v e
+    -- what is found by the search
+    tells-searched : is_plain (both es fs) ≡ false → (v : S.Verdict)
+        → M.Means (finders (both es fs)) (both es fs) most_goals most_total 0 (second_root es) v
+        → SearchTells es fs a b v
+    tells-searched typed (S.Document ps i) means =
+        record {
+          last = means.last;
+          separates = record {
+            document = means.good;
+            first = valid-first (unshared ps i) means.good ∙ means.first;
+            second = valid-second (unshared ps i) means.good ∙ means.second;
+          };
+        }
+    tells-searched typed S.NoDocument means = λ J document h.
+        valid-second J document ∙ means J document (sym (valid-first J document) ∙ h)
+    tells-searched typed (S.Limit k o) means = record { typed = typed; stops = means }
+
+    tells-answer : (x : Answer) → answer (both es fs) 0 (second_root es) ≡ x
+        → SearchMeans (both es fs) 0 (second_root es) x → AnswerTells es fs a b x
+    tells-answer (Plain v) e means =
+        let (plain, is) = answer-plain (both es fs) 0 (second_root es) v e in tells-plain plain v is
+    tells-answer (Searched v) e means =
+        let (typed, is) = answer-searched (both es fs) 0 (second_root es) v e in tells-searched typed v means
+
+  pub means-answer : (x : Answer) → answer (both es fs) 0 (second_root es) ≡ x
+      → SearchMeans (both es fs) 0 (second_root es) x → Means es fs (Decided x)
+  means-answer x e means = λ a b is is'. tells-answer a b is is' x e means
 
   pub means-included : (ls : List Line) (r : Bool) → r ≡ is_good (both es fs) 0 (second_root es) ls
       → MeansIncluded es fs r

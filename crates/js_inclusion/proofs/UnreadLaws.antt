@@ -1,9 +1,11 @@
 -- What it means that nothing of some entries is unread, and how the first place is found.
-use Rattle.std.proofs.Common.{◌≡◌, ℕ, zero, suc, ◌+◌, ◌<◌, ◌≤◌, ◌++◌, List, [], ◌∷◌, map, length, drop, get_or, Bool, true, false, Option, Some, None, option_map, refl, sym, ap, ◌∙◌, arith}
+use Rattle.std.proofs.Common.{◌≡◌, ℕ, zero, suc, ◌+◌, ◌<◌, ◌≤◌, ◌++◌, List, [], ◌∷◌, map, length, drop, get_or, Bool, true, false, ◌||◌, Option, Some, None, option_map, refl, sym, ap, ◌∙◌, arith}
+use Rattle.documents.specs.Tests.{some}
+use Rattle.documents.specs.Document.{Items, no_items, item, elements}
 use Rattle.schemas.specs.Places.{Pointer}
 use Rattle.schemas.specs.Fault.{or_else}
 use Rattle.schemas.specs.Entry.{Form, Entry}
-use Rattle.js_inclusion.specs.Unread.{first_marked, unread_name, unread}
+use Rattle.js_inclusion.specs.Unread.{has_object, items_have_object, first_marked, unread_name, unread}
 
 -- the mark at a place of a list
 abbrev pub mark_at : List (Bool × List ℕ) → ℕ → Bool
@@ -17,6 +19,11 @@ first_marked-none [] h i = refl
 first_marked-none ((true, k) ∷ ns) h i = cc
 first_marked-none ((false, k) ∷ ns) h zero = refl
 first_marked-none ((false, k) ∷ ns) h (suc i) = first_marked-none ns h i
+
+-- an object among elements is one among their list
+pub items_have_object-some : (ds : Items) → items_have_object ds ≡ some has_object (elements ds)
+items_have_object-some no_items = refl
+items_have_object-some (item d ds) = ap (λ b. has_object d || b) (items_have_object-some ds)
 
 -- nothing of an entry, and nothing of those after it
 pub unread-none : (e : Entry) (es : List Entry) → unread (e ∷ es) ≡ None

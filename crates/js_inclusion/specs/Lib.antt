@@ -3,7 +3,9 @@
 pub mod Unread
 pub mod Comparison
 pub mod Meaning
+-- The schema for which no document is valid.
+pub mod Nothing
 -- Which of these the program's values stand for.
 pub mod View
--- Used inside: schemas whose core tables can be joined.
+-- Used inside: schemas whose core tables can be joined, and what a search says of a table.
 pub mod Tables

@@ -1,24 +1,35 @@
 //! The comparison of two schemas.
 
-ghost use Rattle.std.specs.Prelude.{◌≡◌, IfOk, true, None};
-ghost use Rattle.schemas.specs.Guarded.{edges, are_ranks};
-ghost use Rattle.js_schema.specs.SchemaView.{schema_view};
-ghost use Rattle.js_decide.specs.Verdict.{verdict};
-ghost use Rattle.js_decide.specs.View.{verdict_view};
+ghost use Rattle.std.specs.Prelude.{◌≡◌, ◌<◌, IfOk, false, None, length};
+ghost use Rattle.js_guard.specs.RankedView.{entries_of};
+ghost use Rattle.position_laws.specs.Plain.{is_plain};
+ghost use Rattle.finder_laws.specs.Objects.{speaks_of_objects};
 ghost use Rattle.js_inclusion.specs.Unread.{unread};
 ghost use Rattle.js_inclusion.specs.Comparison as C;
 ghost use Rattle.js_inclusion.specs.Comparison.{comparison, both, second_root};
 ghost use Rattle.js_inclusion.specs.Meaning.{Means};
-ghost use Rattle.js_inclusion.specs.View.{comparison_view};
+ghost use Rattle.js_inclusion.specs.Tables.{SearchMeans};
+ghost use Rattle.js_inclusion.specs.View.{answer_view, comparison_view};
 
 use crate::tables::joined_tables;
 use crate::unread::first_unread;
-use js_decide::{Verdict, make_verdict};
+use js_algebra::{Core, Pos};
+use js_decide::decide;
 use js_doc::Memory;
-use js_guard::Ranks;
+use js_guard::RankedSchema;
 use js_json::Pointer;
-use js_schema::Schema;
+use js_plain::make_verdict;
 use std::alloc::Global;
+
+/// What is found of two schemas.
+#[derive(Drop)]
+pub enum Answer {
+    /// Where all that they ask of a document is its kind: a kind of document, or a certificate.
+    Plain(js_plain::Verdict),
+
+    /// Where they ask for more: a document, or that there is none.
+    Searched(js_decide::Verdict),
+}
 
 /// How two schemas compare.
 #[derive(Drop)]
@@ -30,52 +41,65 @@ pub enum Comparison {
     SecondUnread(Pointer),
 
     /// Whether a document is valid for the first schema and not for the second.
-    Decided(Verdict),
+    Decided(Answer),
 }
 
-/// Compares two schemas. The ranks are those that `guard` gives. The cost is that of the core tables and of the trees
-/// that `make_verdict` looks at.
-pub fn compare(
-    alloc: Global,
-    a: &Schema,
-    a_ranks: &Ranks,
-    b: &Schema,
-    b_ranks: &Ranks,
-) -> Result<Comparison, Memory>
-    requires a_ranks { are_ranks (edges (schema_view a.now)) a_ranks.now ≡ true }
-    requires b_ranks { are_ranks (edges (schema_view b.now)) b_ranks.now ≡ true }
-    ensures comparison { IfOk result (λ c. comparison_view c ≡ comparison (schema_view a.now) (schema_view b.now)) }
+/// Compares two schemas. The cost is that of the core tables, and of the trees that `make_verdict` looks at or of the
+/// search that `decide` makes.
+pub fn compare(alloc: Global, a: &RankedSchema, b: &RankedSchema) -> Result<Comparison, Memory>
+    ensures comparison { IfOk result (λ c. comparison_view c ≡ comparison (entries_of a.now) (entries_of b.now)) }
 
     // What the comparison means for the values that the schemas are read from.
-    ensures means { IfOk result (λ c. Means (schema_view a.now) (schema_view b.now) (comparison_view c)) }
+    ensures means { IfOk result (λ c. Means (entries_of a.now) (entries_of b.now) (comparison_view c)) }
 {
-    if let Some(place) = first_unread(alloc, a)? {
+    if let Some(place) = first_unread(alloc, &a.table)? {
         return Ok(Comparison::FirstUnread(place));
     }
-    if let Some(place) = first_unread(alloc, b)? {
+    if let Some(place) = first_unread(alloc, &b.table)? {
         return Ok(Comparison::SecondUnread(place));
     }
-    let verdict = decide(alloc, a, a_ranks, b, b_ranks)?;
-    Ok(Comparison::Decided(verdict))
+    let answer = answer_schemas(alloc, a, b)?;
+    Ok(Comparison::Decided(answer))
 }
 
-/// The verdict on two schemas that are decided on.
-fn decide(
-    alloc: Global,
-    a: &Schema,
-    a_ranks: &Ranks,
-    b: &Schema,
-    b_ranks: &Ranks,
-) -> Result<Verdict, Memory>
-    requires a_ranks { are_ranks (edges (schema_view a.now)) a_ranks.now ≡ true }
-    requires b_ranks { are_ranks (edges (schema_view b.now)) b_ranks.now ≡ true }
-    requires a_read { unread (schema_view a.now) ≡ None }
-    requires b_read { unread (schema_view b.now) ≡ None }
-    ensures verdict { IfOk result
-        (λ v. verdict_view v
-        ≡ verdict (both (schema_view a.now) (schema_view b.now)) 0 (second_root (schema_view a.now))) }
-    ensures means { IfOk result (λ v. Means (schema_view a.now) (schema_view b.now) (C.Decided (verdict_view v))) }
+/// What is found of two schemas that are decided on.
+fn answer_schemas(alloc: Global, a: &RankedSchema, b: &RankedSchema) -> Result<Answer, Memory>
+    requires a_read { unread (entries_of a.now) ≡ None }
+    requires b_read { unread (entries_of b.now) ≡ None }
+    ensures answer { IfOk result
+        (λ x. answer_view x
+        ≡ C.answer (both (entries_of a.now) (entries_of b.now)) 0 (second_root (entries_of a.now))) }
+    ensures means { IfOk result (λ x. Means (entries_of a.now) (entries_of b.now) (C.Decided (answer_view x))) }
 {
-    let (core, at_a, at_b) = joined_tables(alloc, a, a_ranks, b, b_ranks)?;
-    make_verdict(alloc, &core, at_a, at_b)
+    let (core, at_a, at_b) = joined_tables(alloc, a, b)?;
+    answer_positions(alloc, &core, at_a, at_b)
+}
+
+/// What is found of two positions of a table.
+fn answer_positions(alloc: Global, core: &Core, a: Pos, b: Pos) -> Result<Answer, Memory>
+    requires objectless { speaks_of_objects core.now.positions ≡ false }
+    requires a_in { a.0 < length core.now.positions }
+    requires b_in { b.0 < length core.now.positions }
+    ensures answer { IfOk result (λ x. answer_view x ≡ C.answer core.now.positions a.0 b.0) }
+    ensures means { IfOk result (λ x. SearchMeans core.now.positions a.0 b.0 (answer_view x)) }
+{
+    if is_plain(core) {
+        let verdict = make_verdict(alloc, core, a, b)?;
+        Ok(Answer::Plain(verdict))
+    } else {
+        let decided = decide(alloc, core, a, b)?;
+        Ok(Answer::Searched(decided.verdict))
+    }
+}
+
+/// Whether each position of the table speaks of documents of every kind.
+fn is_plain(core: &Core) -> bool
+    ensures { result ≡ is_plain core.now.positions }
+{
+    for p in 0..core.len() {
+        if core.node(Pos(p)).speaks_of().is_some() {
+            return false;
+        }
+    }
+    true
 }

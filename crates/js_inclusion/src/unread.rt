@@ -1,20 +1,23 @@
-//! The first place of a schema that asks for something on which no comparison decides yet: a reference, or a keyword
-//! other than `type`, `not`, `allOf` and `anyOf`.
+//! The first place of a schema that asks for something of objects, on which no comparison decides yet: a keyword of
+//! objects, or a `const` or `enum` with an object among its values.
 
-ghost use Rattle.std.specs.Prelude.{◌≡◌, IfOk, option_map};
+ghost use Rattle.std.specs.Prelude.{◌≡◌, IfOk, option_map, map};
+ghost use Rattle.documents.specs.Document as D;
+ghost use Rattle.js_doc.specs.View.{view, list_view};
 ghost use Rattle.js_keywords.specs.Names.{keyword_name};
 ghost use Rattle.js_schema.specs.SchemaView.{schema_view};
 ghost use Rattle.js_schema.specs.View.{form_view, keywords_view};
-ghost use Rattle.js_inclusion.specs.Unread.{unread, unread_name, first_marked, other_keywords};
+ghost use Rattle.js_inclusion.specs.Unread as U;
+ghost use Rattle.js_inclusion.specs.Unread.{unread, unread_name, object_keywords};
 ghost use Rattle.js_inclusion.specs.View.{named};
 
-use js_doc::Memory;
+use js_doc::{Doc, DocList, Memory};
 use js_json::Pointer;
 use js_schema::{Form, Keyword, Keywords, Schema};
 use std::alloc::Global;
 
 /// The first such place in the order of the entries, and in an entry in the order of names. None where the schema is
-/// decided on. The cost is that of a look at each entry.
+/// decided on. The cost is that of a look at each entry and at the values of `const` and `enum`.
 pub fn first_unread(alloc: Global, schema: &Schema) -> Result<Option<Pointer>, Memory>
     ensures { IfOk result (λ place. place ≡ unread (schema_view schema.now)) }
 {
@@ -32,51 +35,26 @@ fn unread_keyword(form: &Form) -> Option<Keyword>
     ensures { option_map keyword_name result ≡ unread_name (form_view form.now) }
 {
     match form {
-        Form::Always | Form::Never => None,
-        Form::Ref(_) => Some(Keyword::Ref),
-        Form::Keywords(keywords) => first_other(keywords),
+        Form::Always | Form::Never | Form::Ref(_) => None,
+        Form::Keywords(keywords) => first_of_objects(keywords),
     }
 }
 
-fn first_other(k: &Keywords) -> Option<Keyword>
-    ensures { option_map keyword_name result ≡ first_marked (other_keywords (keywords_view k.now)) }
+fn first_of_objects(k: &Keywords) -> Option<Keyword>
+    ensures { option_map keyword_name result ≡ U.first_marked (object_keywords (keywords_view k.now)) }
 {
     let any = &*k.any;
-    let numbers = &*k.numbers;
-    let strings = &*k.strings;
-    let arrays = &*k.arrays;
     let objects = &*k.objects;
-    let in_place = &*k.in_place;
     let marked = [
-        (arrays.additional_items.is_some(), Keyword::AdditionalItems),
         (
             objects.additional_properties.is_some(),
             Keyword::AdditionalProperties,
         ),
-        (any.constant.is_some(), Keyword::Const),
-        (arrays.contains.is_some(), Keyword::Contains),
+        (constant_has_object(&any.constant), Keyword::Const),
         (objects.dependencies.is_some(), Keyword::Dependencies),
-        (any.enumeration.is_some(), Keyword::Enum),
-        (
-            numbers.exclusive_maximum.is_some(),
-            Keyword::ExclusiveMaximum,
-        ),
-        (
-            numbers.exclusive_minimum.is_some(),
-            Keyword::ExclusiveMinimum,
-        ),
-        (arrays.items.is_some(), Keyword::Items),
-        (arrays.max_items.is_some(), Keyword::MaxItems),
-        (strings.max_length.is_some(), Keyword::MaxLength),
+        (some_have_object(&any.enumeration), Keyword::Enum),
         (objects.max_properties.is_some(), Keyword::MaxProperties),
-        (numbers.maximum.is_some(), Keyword::Maximum),
-        (arrays.min_items.is_some(), Keyword::MinItems),
-        (strings.min_length.is_some(), Keyword::MinLength),
         (objects.min_properties.is_some(), Keyword::MinProperties),
-        (numbers.minimum.is_some(), Keyword::Minimum),
-        (numbers.multiple_of.is_some(), Keyword::MultipleOf),
-        (in_place.one_of.is_some(), Keyword::OneOf),
-        (strings.pattern.is_some(), Keyword::Pattern),
         (
             objects.pattern_properties.is_some(),
             Keyword::PatternProperties,
@@ -90,7 +68,7 @@ fn first_other(k: &Keywords) -> Option<Keyword>
 
 /// The first keyword that is marked.
 fn first_marked(keywords: &[(bool, Keyword)]) -> Option<Keyword>
-    ensures { option_map keyword_name result ≡ first_marked (named keywords.now) }
+    ensures { option_map keyword_name result ≡ U.first_marked (named keywords.now) }
 {
     for marked in keywords {
         if marked.0 {
@@ -98,4 +76,46 @@ fn first_marked(keywords: &[(bool, Keyword)]) -> Option<Keyword>
         }
     }
     None
+}
+
+fn constant_has_object(value: &Option<Doc>) -> bool
+    ensures { result ≡ U.constant_has_object (option_map view value.now) }
+{
+    match value {
+        Some(value) => has_object(value),
+        None => false,
+    }
+}
+
+fn some_have_object(values: &Option<DocList>) -> bool
+    ensures { result ≡ U.some_have_object (option_map (λ l. D.elements (list_view l)) values.now) }
+{
+    match values {
+        Some(values) => some_has_object(values.as_slice()),
+        None => false,
+    }
+}
+
+/// Whether it is an object, or an array in which one stands.
+#[cycle(has_object)]
+fn has_object(value: &Doc) -> bool
+    ensures { result ≡ U.has_object (view value.now) }
+{
+    match value {
+        Doc::Null | Doc::Bool(_) | Doc::Num(_) | Doc::Text(_) => false,
+        Doc::List(values) => some_has_object(values.as_slice()),
+        Doc::Members(_) => true,
+    }
+}
+
+#[cycle(has_object)]
+fn some_has_object(values: &[Doc]) -> bool
+    ensures { result ≡ U.items_have_object (D.items_of (map view values.now)) }
+{
+    for value in values {
+        if has_object(value) {
+            return true;
+        }
+    }
+    false
 }

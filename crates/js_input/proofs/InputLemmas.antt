@@ -4,7 +4,6 @@ use Rattle.documents.specs.Json.{Json}
 use Rattle.documents.specs.WellFormed.{is_json}
 use Rattle.schemas.specs.Entry.{Entry}
 use Rattle.schemas.specs.Entries.{read}
-use Rattle.schemas.specs.Guarded.{edges, are_ranks}
 use Rattle.js_keywords.specs.Reading.{rules}
 use Rattle.js_input.specs.SchemaReading.{Read, Refused, IsReadingOfResult}
 use Rattle.js_input.specs.Saying.{EntriesSay, ValueSays}
@@ -13,13 +12,9 @@ use Rattle.js_input.specs.declared.schema.SchemaInput.TheVariants as S
 
 pub ValueSays-entries : (j : Json) (es : List Entry) (input : SchemaInput) → is_json j ≡ true → read rules j ≡ Ok es
     → EntriesSay es input → ValueSays j input
-ValueSays-entries j es (S.Read s ranks) w e says = (
+ValueSays-entries j es (S.Read s) w e says = (
   subst (λ o. IsReadingOfResult j o (Read j)) (sym e) (says.0 j),
-  record {
-    well_formed = w;
-    entries = e ∙ ap Ok (sym says.1);
-    falls = subst (λ l. are_ranks (edges l) ranks ≡ true) (sym says.1) says.2;
-  },
+  record { well_formed = w; entries = e ∙ ap Ok (sym says.1) },
 )
 ValueSays-entries j es (S.Refused words) w e says =
     subst (λ o. IsReadingOfResult j o (Refused (string_bytes words))) (sym e) (says j)

@@ -1,11 +1,11 @@
 -- What was begun is in the order of the names, and what a missing name says of it.
-use Rattle.std.proofs.Common.{◌≡◌, ◌⊎◌, inl, inr, ℕ, ◌+◌, ◌<◌, List, [], ◌∷◌, ◌++◌, cond, Option, Some, None, refl, ap, sym, ◌∙◌, subst, arith, append_assoc, append-nil, zero-add, encode_utf8_all}
-use Rattle.std.specs.Prelude.{min, is_none}
+use Rattle.std.proofs.Common.{◌≡◌, inl, inr, ℕ, ◌+◌, ◌<◌, List, [], ◌∷◌, ◌++◌, cond, Option, Some, None, refl, ap, sym, ◌∙◌, arith, append_assoc, append-nil, zero-add, encode_utf8_all}
+use Rattle.std.specs.Prelude.{is_none}
 use Rattle.std.specs.List.{count_by}
-use Rattle.std.proofs.lemmas.List.Sums.{sum_by-append, sum_by_from}
+use Rattle.std.proofs.lemmas.List.Sums.{sum_by-append}
 use Rattle.js_outside.specs.Counts.{last_count, Rose}
-use Rattle.js_outside.specs.Told.{Files, misses, CountsMisses}
-use Rattle.js_schema.specs.declared.table.Schema.{Schema}
+use Rattle.js_outside.specs.Told.{Files, CountsMisses}
+use Rattle.js_guard.specs.declared.ranked.RankedSchema.{RankedSchema}
 use Rattle.js_input.specs.Saying.{LoadsSchema}
 use Rattle.js_input.specs.OrderOfFiles.{IsSchemaOn, AreInOrder, BeginsInOrder, Misses}
 use Rattle.js_input.specs.declared.schema.SchemaInput.TheVariants as S
@@ -31,9 +31,9 @@ begins_two told name second names before mid after begun then is = (
 )
 
 -- a schema that was loaded
-pub loaded_schema : (told : Option Files) (name : List ℕ) (before after : ℕ) (s : Schema) (ranks : List ℕ)
-    → LoadsSchema told name before after (Some (S.Read s ranks)) → IsSchemaOn told (encode_utf8_all name)
-loaded_schema told name before after s ranks (same, (bytes, has, (j, is, of))) = (bytes, has, (j, is))
+pub loaded_schema : (told : Option Files) (name : List ℕ) (before after : ℕ) (s : RankedSchema)
+    → LoadsSchema told name before after (Some (S.Read s)) → IsSchemaOn told (encode_utf8_all name)
+loaded_schema told name before after s (same, (bytes, has, (j, is, of))) = (bytes, has, (j, is))
 
 -- a name that isn't there was begun, so it is missing and each before it is a schema
 

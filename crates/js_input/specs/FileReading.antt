@@ -4,7 +4,7 @@ use Rattle.documents.specs.Document.{Document}
 use Rattle.documents.specs.Json.{Json}
 use Rattle.js_outside.specs.Told.{Files}
 use Rattle.js_input.specs.SchemaReading.{Refused, Read, IsSchemaReading}
-use Rattle.js_input.specs.DocumentReading.{RefusedDocument, ReadDocument, document_reading}
+use Rattle.js_input.specs.DocumentReading.{RefusedDocument, ReadDocument, IsDocumentReading}
 
 -- the file of that name is a schema, with this value
 pub record IsSchemaFile (files : Files) (name : List ℕ) (j : Json) : Type 0 where
@@ -22,10 +22,10 @@ pub record IsSchemaRefusal (files : Files) (name words : List ℕ) : Type 0 wher
 pub record IsDocumentFile (files : Files) (name : List ℕ) (d : Document) : Type 0 where
   pub bytes : List ℕ
   pub told : files (encode_utf8_all name) ≡ Some bytes
-  pub is_read : document_reading bytes ≡ ReadDocument d
+  pub is_read : IsDocumentReading bytes (ReadDocument d)
 
 -- the file of that name is refused as a document, with these words
 pub record IsDocumentRefusal (files : Files) (name words : List ℕ) : Type 0 where
   pub bytes : List ℕ
   pub told : files (encode_utf8_all name) ≡ Some bytes
-  pub is_refused : document_reading bytes ≡ RefusedDocument words
+  pub is_refused : IsDocumentReading bytes (RefusedDocument words)

@@ -3,56 +3,68 @@ use Rattle.std.specs.Prelude.{◌≡◌, ℕ, List, true, Option, Some, None, Ok
 use Rattle.documents.specs.Document.{is_document}
 use Rattle.documents.specs.Json.{Json}
 use Rattle.documents.specs.WellFormed.{is_json}
+use Rattle.document_texts.specs.PartsRead.{IsRead, IsFault}
 use Rattle.schemas.specs.Entry.{Entry}
 use Rattle.schemas.specs.Entries.{read}
-use Rattle.schemas.specs.Guarded.{edges, are_ranks}
 use Rattle.js_doc.specs.View.{view}
 use Rattle.js_json.specs.Documents.{unwhole_places}
 use Rattle.js_outside.specs.Counts.{Rose}
 use Rattle.js_outside.specs.Told.{Files}
 use Rattle.js_report.specs.WholeFile.{HasBytes}
 use Rattle.js_keywords.specs.Reading.{rules}
-use Rattle.js_schema.specs.declared.table.Schema.{Schema}
-use Rattle.js_schema.specs.SchemaView.{schema_view}
+use Rattle.js_guard.specs.declared.ranked.RankedSchema.{RankedSchema}
+use Rattle.js_guard.specs.RankedView.{entries_of}
 use Rattle.js_input.specs.SchemaReading.{Refused, Read, IsReadingOfEntries, IsReadingOfResult, IsSchemaReading}
-use Rattle.js_input.specs.DocumentReading.{RefusedDocument, ReadDocument, of_unwhole, document_reading}
+use Rattle.js_input.specs.DocumentReading.{RefusedDocument, ReadDocument, of_unwhole, document_reading, parts_words, last_document, IsDocumentReading}
 use Rattle.js_input.specs.declared.schema.SchemaInput.{SchemaInput}
 use Rattle.js_input.specs.declared.schema.SchemaInput.TheVariants as S
 use Rattle.js_input.specs.declared.document.DocumentInput.{DocumentInput}
 use Rattle.js_input.specs.declared.document.DocumentInput.TheVariants as D
 
--- the program's schema is the table of the value, and its ranks fall in place
-pub record IsSchemaOf (s : Schema) (ranks : List ℕ) (j : Json) : Type 0 where
+-- the program's schema is the table of the value
+pub record IsSchemaOf (s : RankedSchema) (j : Json) : Type 0 where
   pub well_formed : is_json j ≡ true
-  pub entries : read rules j ≡ Ok (schema_view s)
-  pub falls : are_ranks (edges (schema_view s)) ranks ≡ true
+  pub entries : read rules j ≡ Ok (entries_of s)
 
 -- what bytes are read as, as a schema
 abbrev pub SchemaSays : List ℕ → SchemaInput → Type 0
-SchemaSays bytes (S.Read s ranks) = (j : Json) × IsSchemaReading bytes (Read j) × IsSchemaOf s ranks j
+SchemaSays bytes (S.Read s) = (j : Json) × IsSchemaReading bytes (Read j) × IsSchemaOf s j
 SchemaSays bytes (S.Refused words) = IsSchemaReading bytes (Refused (string_bytes words))
 
 -- the same of a value
 abbrev pub ValueSays : Json → SchemaInput → Type 0
-ValueSays j (S.Read s ranks) = IsReadingOfResult j (read rules j) (Read j) × IsSchemaOf s ranks j
+ValueSays j (S.Read s) = IsReadingOfResult j (read rules j) (Read j) × IsSchemaOf s j
 ValueSays j (S.Refused words) = IsReadingOfResult j (read rules j) (Refused (string_bytes words))
 
 -- and of entries, whatever value has them
 abbrev pub EntriesSay : List Entry → SchemaInput → Type 0
-EntriesSay es (S.Read s ranks) =
-    ((j : Json) → IsReadingOfEntries j es (Read j)) × (schema_view s ≡ es) × (are_ranks (edges es) ranks ≡ true)
+EntriesSay es (S.Read s) = ((j : Json) → IsReadingOfEntries j es (Read j)) × (entries_of s ≡ es)
 EntriesSay es (S.Refused words) = (j : Json) → IsReadingOfEntries j es (Refused (string_bytes words))
 
--- what bytes are read as, as a document
+-- what bytes are read as, as a document; parts come as the table whose text the bytes are
 abbrev pub DocumentSays : List ℕ → DocumentInput → Type 0
-DocumentSays bytes (D.Read d) = (document_reading bytes ≡ ReadDocument (view d)) × (is_document (view d) ≡ true)
-DocumentSays bytes (D.Refused words) = document_reading bytes ≡ RefusedDocument (string_bytes words)
+DocumentSays bytes (D.Read d) = IsDocumentReading bytes (ReadDocument (view d)) × (is_document (view d) ≡ true)
+DocumentSays bytes (D.Parts ps) = IsDocumentReading bytes (ReadDocument (last_document ps)) × IsRead ps bytes
+DocumentSays bytes (D.Refused words) = IsDocumentReading bytes (RefusedDocument (string_bytes words))
 
--- the same of a value
+-- the same of bytes that hold JSON text
+abbrev pub TextSays : List ℕ → DocumentInput → Type 0
+TextSays bytes (D.Read d) = (document_reading bytes ≡ ReadDocument (view d)) × (is_document (view d) ≡ true)
+TextSays bytes (D.Parts ps) = ⊥
+TextSays bytes (D.Refused words) = document_reading bytes ≡ RefusedDocument (string_bytes words)
+
+-- of a value
 abbrev pub DocumentValueSays : Json → DocumentInput → Type 0
 DocumentValueSays j (D.Read d) =
     (of_unwhole j (unwhole_places j) ≡ ReadDocument (view d)) × (is_document (view d) ≡ true)
+DocumentValueSays j (D.Parts ps) = ⊥
 DocumentValueSays j (D.Refused words) = of_unwhole j (unwhole_places j) ≡ RefusedDocument (string_bytes words)
+
+-- and of bytes that begin as a table's text does
+abbrev pub PartsSay : List ℕ → DocumentInput → Type 0
+PartsSay bytes (D.Read d) = ⊥
+PartsSay bytes (D.Parts ps) = IsRead ps bytes
+PartsSay bytes (D.Refused words) = (line : ℕ) × IsFault line bytes × (string_bytes words ≡ parts_words line)
 
 -- what a file of a shelf is read as, where it could be read
 abbrev pub LoadsSchema : Option Files → List ℕ → ℕ → ℕ → Option SchemaInput → Type 0

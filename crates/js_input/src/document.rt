@@ -1,22 +1,28 @@
 //! Documents from bytes.
 //!
-//! The length comes first, then the line `document`, which a file need not have, then the JSON text after it, and then
-//! the first number that isn't whole.
+//! The length comes first. Bytes that begin with the word `parts` are then read as a table of parts. Others may have
+//! the line `document`, then the JSON text after it is read, and then the first number that isn't whole is told.
 
-ghost use Rattle.std.specs.Prelude.{◌≡◌, IfOk};
+ghost use Rattle.std.specs.Prelude.{◌≡◌, ◌≤◌, length, IfOk};
 ghost use Rattle.js_doc.specs.JsonView.{view};
+ghost use Rattle.js_report.specs.WholeFile.{longest_file};
 ghost use Rattle.js_input.specs.DocumentReading.{json_text};
-ghost use Rattle.js_input.specs.Saying.{DocumentSays, DocumentValueSays};
+ghost use Rattle.js_input.specs.Saying.{DocumentSays, TextSays, DocumentValueSays, PartsSay};
 
-use js_doc::{Doc, Json, Memory};
+use js_doc::{Doc, Json, Memory, Parts};
 use js_json::{JsonFault, read_json, to_doc};
 use js_report::{LONGEST_FILE, placed_words};
+use js_text::{PartsLineFault, parts_read};
 use std::alloc::Global;
 
 /// What the bytes of a document file are read as.
 #[derive(Drop)]
 pub enum DocumentInput {
     Read(Doc),
+
+    /// A table of parts, of which the last one stands for the document. That document isn't made: it may be
+    /// exponentially larger than the table.
+    Parts(Parts),
 
     /// The words of the refusal after the file's role.
     Refused(String),
@@ -29,6 +35,30 @@ pub fn read_document_bytes(alloc: Global, bytes: &[u8]) -> Result<DocumentInput,
     if bytes.len() > LONGEST_FILE {
         return Ok(DocumentInput::Refused(String::from_str(alloc, "toolong")?));
     }
+    if bytes.starts_with(b"parts") {
+        read_parts(alloc, bytes)
+    } else {
+        read_text(alloc, bytes)
+    }
+}
+
+fn read_parts(alloc: Global, bytes: &[u8]) -> Result<DocumentInput, Memory>
+    ensures { IfOk result (PartsSay bytes.now) }
+{
+    match parts_read(alloc, bytes) {
+        Ok((parts, _)) => Ok(DocumentInput::Parts(parts)),
+        Err(PartsLineFault::NotAPart(line)) => {
+            let words = format!(in alloc; "parts {line}")?;
+            Ok(DocumentInput::Refused(words))
+        }
+        Err(PartsLineFault::Memory) => Err(Memory),
+    }
+}
+
+fn read_text(alloc: Global, bytes: &[u8]) -> Result<DocumentInput, Memory>
+    requires { length bytes.now ≤ longest_file }
+    ensures { IfOk result (TextSays bytes.now) }
+{
     match read_json(alloc, json_text(bytes)) {
         Ok(json) => read_value(alloc, &json),
         // `read_json` never answers `NotWhole`

@@ -9,7 +9,7 @@ ghost use Rattle.js_schema.specs.SchemaView.{schema_view};
 ghost use Rattle.js_input.specs.Saying.{SchemaSays, ValueSays, EntriesSay};
 
 use js_doc::{Json, Memory};
-use js_guard::{GuardFault, Ranks, guard};
+use js_guard::{Guarded, RankedSchema, guard};
 use js_json::{JsonFault, read_json};
 use js_keywords::SchemaFault;
 use js_report::{LONGEST_FILE, cycle_words, schema_words};
@@ -19,8 +19,8 @@ use std::alloc::Global;
 /// What the bytes of a schema file are read as.
 #[derive(Drop)]
 pub enum SchemaInput {
-    /// A schema without a cycle, and its ranks.
-    Read(Schema, Ranks),
+    /// A schema without a cycle.
+    Read(RankedSchema),
 
     /// The words of the refusal after the file's role.
     Refused(String),
@@ -60,12 +60,11 @@ fn read_value(alloc: Global, json: &Json) -> Result<SchemaInput, Memory>
 fn guarded(alloc: Global, schema: Schema) -> Result<SchemaInput, Memory>
     ensures { IfOk result (EntriesSay (schema_view schema)) }
 {
-    match guard(alloc, &schema) {
-        Ok(ranks) => Ok(SchemaInput::Read(schema, ranks)),
-        Err(GuardFault::Cycle(cycle)) => {
+    match guard(alloc, schema)? {
+        Guarded::Ranked(schema) => Ok(SchemaInput::Read(schema)),
+        Guarded::Circular(schema, cycle) => {
             let words = cycle_words(alloc, &schema, &cycle)?;
             Ok(SchemaInput::Refused(words))
         }
-        Err(GuardFault::Memory) => Err(Memory),
     }
 }

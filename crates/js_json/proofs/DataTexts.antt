@@ -1,5 +1,6 @@
 -- Data whose texts are UTF-8, with members in order: what of_json gives of such JSON, and what its value is.
 use Rattle.std.proofs.Common.{◌≡◌, ℕ, List, Bool, true, ◌&&◌, Option, Some, None, option_map, option_and_then, Ordering, Less, Equal, Greater, nat_cmp, chars, IsUtf8, refl, ap, ◌∙◌}
+use Rattle.std.proofs.lemmas.Bool.{and_from}
 use Rattle.std.proofs.lemmas.Cmp.{nat_list_cmp_total}
 use Rattle.std.specs.Cmp.Lexicographic.{slice_cmp}
 use Rattle.std.specs.Ordering.{match_ordering, ordering_reverse}
@@ -134,9 +135,6 @@ mutual
 
 -- ---- the value of such data is well formed
 
-all : (a b : Bool) → a ≡ true → b ≡ true → (a && b) ≡ true
-all a b p q = rw (p, q) refl
-
 is_json-json_number : (n : AnyNum) → is_json (json_number n) ≡ true
 is_json-json_number (Num.unsigned n) = refl
 is_json-json_number (Num.negative z) = refl
@@ -158,10 +156,10 @@ mutual
 
   are_items-json_items : (ds : Items) → AreRead ds → are_items (json_items ds) ≡ true
   are_items-json_items no_items h = refl
-  are_items-json_items (item d ds) h = all _ _ (is_json-json_of d h.0) (are_items-json_items ds h.1)
+  are_items-json_items (item d ds) h = and_from _ _ (is_json-json_of d h.0) (are_items-json_items ds h.1)
 
   are_members-json_members : (ms : Members) → AreMembersRead ms → are_members (json_members ms) ≡ true
   are_members-json_members no_members h = refl
   are_members-json_members (member k d ms) h =
-      all _ _ (all _ _ (all _ _ (every-chars k h.0) (is_json-json_of d h.1))
+      and_from _ _ (and_from _ _ (and_from _ _ (every-chars k h.0) (is_json-json_of d h.1))
       (is_before-json_members k ms h.0 h.2 h.3)) (are_members-json_members ms h.3)

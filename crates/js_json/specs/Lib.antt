@@ -5,5 +5,6 @@ pub mod Value
 pub mod Documents
 pub mod Pointer
 pub mod Reference
+pub mod ReferentView
 pub mod Making
 pub mod Steps

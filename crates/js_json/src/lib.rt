@@ -23,4 +23,4 @@ pub use members::member;
 pub use place::{at_pointer, element_index};
 pub use pointer::Pointer;
 pub use read::read_json;
-pub use reference::target;
+pub use reference::{Referent, target};

@@ -45,7 +45,8 @@ fn element<'a>(list: &'a JsonList, token: &str) -> Option<&'a Json>
     items.get(element_index(token)?)
 }
 
-/// The index that the token is, where it is one. An index that no machine has is beyond every list, and is told as none.
+/// The index that the token is, where it is one. An index that no machine has is beyond every list, and is told as
+/// none.
 pub fn element_index(token: &str) -> Option<usize>
     ensures { MatchOption result
         ((i : ℕ) → place.index_of (chars token.now) ≡ Some i → 2 ^ 64 ≤ i)

@@ -3,9 +3,11 @@
 //! A reference is cut at its first `#`: what stands before says which file, and the fragment after it is a pointer
 //! into this one. It takes time in proportion to the text, and a look-up for each token.
 
-ghost use Rattle.std.specs.Prelude.{◌≡◌, chars, option_map};
+ghost use Rattle.std.specs.Prelude.{◌≡◌, Some, chars, option_map, IfOk};
+ghost use Rattle.documents.specs.Place.{value_at};
 ghost use Rattle.js_doc.specs.JsonView.{view};
 ghost use Rattle.js_json.specs.Reference as refers;
+ghost use Rattle.js_json.specs.ReferentView.{place_told};
 
 use crate::fault::RefFault;
 use crate::fragment::read_fragment;
@@ -14,26 +16,37 @@ use crate::pointer::Pointer;
 use js_doc::Json;
 use std::alloc::Global;
 
-/// The place of the schema that `text` refers to in the file that `json` is. `root_id` is the file's own `$id`,
-/// where it has one that is a string. The faults are tried in the order of `RefFault`.
-pub fn target(
+/// Where a reference leads: a place of the file, and the value there.
+#[derive(Drop)]
+pub struct Referent<'a> {
+    pub place: Pointer,
+    pub value: &'a Json,
+}
+
+/// The schema that `text` refers to in the file that `json` is. `root_id` is the file's own `$id`, where it has one
+/// that is a string. The faults are tried in the order of `RefFault`.
+pub fn target<'a>(
     alloc: Global,
-    json: &Json,
+    json: &'a Json,
     text: &str,
     root_id: Option<&str>,
-) -> Result<Pointer, RefFault>
-    ensures { refers.Answers
-        (refers.target_of (view json.now) (chars text.now) (option_map (λ id. chars id.now) root_id.entry)) result }
+) -> Result<Referent<'a>, RefFault>
+    ensures place { refers.Answers
+        (refers.target_of (view json.now) (chars text.now) (option_map (λ id. chars id.now) root_id.entry))
+        (place_told result) }
+    ensures value { IfOk result (λ t. value_at t.place (view json.now) ≡ Some (view t.value.now)) }
 {
     let (base, fragment) = cut(text);
     if !is_own(base, root_id) {
         return Err(RefFault::Remote);
     }
-    let pointer = read_fragment(alloc, fragment)?;
-    match at_pointer(json, &pointer) {
-        Some(Json::Bool(_) | Json::Members(_)) => Ok(pointer),
-        Some(_) => Err(RefFault::NotASchema),
-        None => Err(RefFault::Missing),
+    let place = read_fragment(alloc, fragment)?;
+    let Some(value) = at_pointer(json, &place) else {
+        return Err(RefFault::Missing);
+    };
+    match value {
+        Json::Bool(_) | Json::Members(_) => Ok(Referent { place, value }),
+        _ => Err(RefFault::NotASchema),
     }
 }
 

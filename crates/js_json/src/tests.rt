@@ -149,9 +149,9 @@ fn resolves_references(rt: HostRuntime) -> Result<(), Fail> {
     for (text, expected) in cases {
         for id in ["s.json", "s.json#"] {
             match target(alloc, json, text, Some(id)) {
-                Ok(place) => {
-                    assert_eq!(rt; Ok(place.text(alloc)?.as_str()), expected, "{text}");
-                    assert!(rt; at_pointer(json, &place).is_some(), "{text}");
+                Ok(target) => {
+                    assert_eq!(rt; Ok(target.place.text(alloc)?.as_str()), expected, "{text}");
+                    assert!(rt; at_pointer(json, &target.place).is_some(), "{text}");
                 }
                 Err(fault) => assert_eq!(rt; Err(fault), expected, "{text}"),
             }

@@ -1,5 +1,7 @@
 -- What the shapes of values ask for, by the parts of the values.
-use Rattle.std.proofs.Common.{◌≡◌, ℕ, suc, List, [], ◌∷◌, ◌++◌, length, Bool, true, false, cond, Option, Some, None, option_map, refl, sym, ap, subst, ◌∙◌, arith}
+use Rattle.std.proofs.Common.{◌≡◌, ℕ, suc, ◌+◌, List, [], ◌∷◌, ◌++◌, map, length, Bool, true, false, not, cond, Option, Some, None, option_map, position, refl, sym, ap, subst, ◌∙◌, add-one, arith}
+use Rattle.std.specs.List.{position_from}
+use Rattle.std.proofs.lemmas.Iterator.Adapters.{position_from-zero}
 use Rattle.documents.specs.Json as D
 use Rattle.schemas.specs.Places.{Pointer, index_token}
 use Rattle.schemas.specs.Fault.{Fault, Rules, EmptyList, WrongShape, or_else, first_failing, schema_list_fault}
@@ -22,6 +24,24 @@ module _ {P R : Type 0} (rules : Rules P R) (k : List ℕ) (q : Pointer) where
   schema_list_fault-filled (D.item v vs) h = refl
 
 pub ruleset filled_lists = (schema_list_fault-empty, schema_list_fault-filled)
+
+-- what `position` finds
+failing-position : {J : Type 0} (test : D.Json → Bool) (view : J → D.Json) (i : ℕ) (vs : List J)
+    → position_from (λ v. not (test (view v))) i vs ≡ failing test i (D.items_of (map view vs))
+failing-position test view i [] = refl
+failing-position test view i (v ∷ vs) =
+    either (test (view v)) (position_from (λ v. not (test (view v))) (i + 1) vs)
+    ∙ ap (λ o. cond (test (view v)) o (Some i))
+    (failing-position test view (i + 1) vs ∙ ap (λ n. failing test n (D.items_of (map view vs))) (add-one i))
+  where
+    either : (b : Bool) (o : Option ℕ) → cond (not b) (Some i) o ≡ cond b o (Some i)
+    either true o = refl
+    either false o = refl
+
+pub position-failing : {J : Type 0} (test : D.Json → Bool) (view : J → D.Json) (vs : List J)
+    → position (λ v. not (test (view v))) vs ≡ failing test 0 (D.items_of (map view vs))
+position-failing test view vs =
+    position_from-zero (λ v. not (test (view v))) vs ∙ failing-position test view 0 vs
 
 first_failing-failing : (test : D.Json → Bool) (q : Pointer) (i : ℕ) (vs : D.Items)
     → first_failing test q i vs ≡ option_map (λ n. q ++ index_token n ∷ []) (failing test i vs)

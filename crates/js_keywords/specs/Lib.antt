@@ -5,5 +5,6 @@ pub mod Reading
 pub mod FaultView
 -- Internal: which keyword a name is, and what is wrong in a member by it.
 pub mod Words
+pub mod ValuePlaceView
 pub mod Member
 pub mod Failing

@@ -1,10 +1,11 @@
 //! The keywords of draft-06, the faults of schemas, and what is wrong first in one member of a schema's object.
 //!
-//! `specs/Reading.antt` gives the rules by which schemas are read: what a pattern is, where a reference leads, and what a
-//! schema may weigh. A check takes time in proportion to the value that it looks at. The reader of schemas, `js_schema`,
-//! stands on this crate.
+//! `specs/Reading.antt` gives the rules by which schemas are read: what a pattern is, where a reference leads, and what
+//! a schema may weigh. A check takes time in proportion to the value that it looks at. The reader of schemas,
+//! `js_schema`, stands on this crate.
 #![tactic(auto)]
 
+mod elements;
 mod fault;
 mod keyword;
 mod member;
@@ -12,10 +13,11 @@ mod shapes;
 #[cfg(test)]
 mod tests;
 mod type_name;
+mod value_place;
 mod whole;
 
 pub use fault::SchemaFault;
 pub use keyword::Keyword;
-pub use member::check_member;
-pub use shapes::wrong_shape;
+pub use member::{ObjectPlace, check_member};
 pub use type_name::TypeName;
+pub use value_place::wrong_shape;

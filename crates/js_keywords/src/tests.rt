@@ -1,8 +1,7 @@
 //! What no clause says: that ample memory is enough, and what the words and pointers look like.
 
-use crate::member::check_member;
-use crate::{Keyword, SchemaFault, TypeName};
-use js_doc::Str;
+use crate::{Keyword, ObjectPlace, SchemaFault, TypeName, check_member};
+use js_doc::Json;
 use js_json::{Pointer, RefFault, read_json};
 use js_pattern::PatternFault;
 use std::alloc::Global;
@@ -75,11 +74,21 @@ fn tells_the_first_fault_of_a_member(rt: HostRuntime) -> Result<(), Fail> {
 }
 
 fn told(alloc: Global, name: &str, text: &str) -> Result<String, Fail> {
+    let text = format!(in alloc; "{{\"{name}\":{text}}}")?;
     let json = read_json(alloc, text.as_bytes())?;
-    let name = Str::from_text(alloc, name)?;
-    let mut place = Pointer::root(alloc);
-    place.push_name("a")?;
-    match check_member(alloc, &place, true, &name, &json) {
+    let Json::Members(members) = &json else {
+        return Err("no object".into());
+    };
+    let Some(member) = members.as_slice().first() else {
+        return Err("no member".into());
+    };
+    let mut pointer = Pointer::root(alloc);
+    pointer.push_name("a")?;
+    let object = ObjectPlace {
+        pointer: &pointer,
+        listed: true,
+    };
+    match check_member(alloc, &object, member) {
         Ok(()) => Ok(String::from_str(alloc, "none")?),
         Err(SchemaFault::WrongShape(_, at)) => line(alloc, "shape", &at),
         Err(SchemaFault::NotWhole(at)) => line(alloc, "whole", &at),

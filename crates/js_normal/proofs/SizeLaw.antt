@@ -1,5 +1,5 @@
 -- The core table of a schema has no more positions than its entries weigh, so fewer than 2^31.
-use Rattle.std.proofs.Common.{◌≡◌, ℕ, suc, ◌+◌, ◌*◌, ◌^◌, ◌<◌, ◌≤◌, List, [], ◌∷◌, length, Bool, true, false, cond, not, Option, Some, None, filter, refl, ap, arith, nat_le, length-append}
+use Rattle.std.proofs.Common.{◌≡◌, ℕ, suc, ◌+◌, ◌*◌, ◌^◌, ◌<◌, ◌≤◌, List, [], ◌∷◌, length, Bool, true, false, cond, not, Option, Some, None, filter, refl, arith, nat_le, length-append}
 use Rattle.std.proofs.lemmas.Bool.{and_parts}
 use Rattle.std.specs.List.{filter_map}
 use Rattle.std.specs.Ordering.{int_eq}
@@ -16,6 +16,7 @@ use Rattle.normal_forms.specs.Values.{items_of, names_of, value_node, item_nodes
 use Rattle.normal_forms.specs.KeywordNodes as W
 use Rattle.normal_forms.specs.KeywordNodes.{kinds_of, once, is_null, truth_in, number_in, word_in, is_container, one_of_kind, truths, groups, items_node, depends_of, need_node, dependency_node, pattern_of, others_of, any_nodes, number_nodes, string_nodes, array_nodes, count_nodes, in_place_nodes, keyword_nodes}
 use Rattle.normal_forms.specs.NormalForm.{form_nodes, entry_positions, all_nodes, table_of}
+use Rattle.normal_laws.proofs.NormalLaw.{length-entry_positions}
 
 -- a maker appends no more than m positions, wherever it begins
 record Takes (f : Maker) (m : ℕ) : Type 0 where
@@ -228,7 +229,8 @@ takes-dependencies (d ∷ ds) =
     taking (each dependency_node (d ∷ ds)) (8 * needs_size (d ∷ ds)) (λ n.
     let some_need = need-size d.1 in
     let h : length (each dependency_node (d ∷ ds) n).added ≤ (1 + need_size d.1 + 1) + 8 * needs_size ds =
-    (takes-both (takes-above depends_of (takes-both (takes-one (Has d.0)) (takes-need d.1))) (takes-dependencies ds)).takes n in
+    (takes-both (takes-above depends_of (takes-both (takes-one (Has d.0)) (takes-need d.1)))
+    (takes-dependencies ds)).takes n in
     omega (arith, h, some_need))
 
 module _ (tree_of : List ℕ → Tree) (k : Keywords) where
@@ -283,7 +285,8 @@ module _ (tree_of : List ℕ → Tree) (k : Keywords) where
   takes-counts = takes-both (takes-plain PropsMin k.min_properties) (takes-plain PropsMax k.max_properties)
 
   takes-in_place : Takes (in_place_nodes tree_of k)
-      (8 * sizes several k.all_of + (8 * sizes several k.any_of + (8 * sizes several k.one_of + 8 * sizes single k.not)))
+      (8 * sizes several k.all_of
+      + (8 * sizes several k.any_of + (8 * sizes several k.one_of + 8 * sizes single k.not)))
   takes-in_place =
       takes-both (takes-if (λ es. node (All es)) several k.all_of (listed All))
       (takes-both (takes-if (λ es. node (Any es)) several k.any_of (listed Any))
@@ -305,10 +308,6 @@ module _ (tree_of : List ℕ → Tree) where
   form-size (Ref e) n = omega arith
   form-size (Asks k) n = let h = (takes-keywords tree_of k).takes n in omega (arith, h)
 
-  length-entry_positions : (n : ℕ) (es : List Entry) → length (entry_positions tree_of n es) ≡ length es
-  length-entry_positions n [] = refl
-  length-entry_positions n (e ∷ es) = ap suc (length-entry_positions (after n (form_nodes tree_of e.form n)) es)
-
   nodes-size : (n : ℕ) (es : List Entry) → length (all_nodes tree_of n es) + length es ≤ total_size es
   nodes-size n [] = omega arith
   nodes-size n (e ∷ es) =
@@ -321,7 +320,7 @@ module _ (tree_of : List ℕ → Tree) where
   pub table-size : (es : List Entry) → length (table_of tree_of es) ≤ total_size es
   unfolding table_of
   table-size es =
-      let heads = length-entry_positions (length es) es in
+      let heads = length-entry_positions tree_of (length es) es in
       let nodes = nodes-size (length es) es in
       let seam = length-append (entry_positions tree_of (length es) es) (all_nodes tree_of (length es) es) in
       omega (arith, heads, nodes, seam)

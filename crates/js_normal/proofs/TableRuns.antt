@@ -1,31 +1,24 @@
 -- A table that is made entry by entry is the normal form.
-use Rattle.std.proofs.Common.{◌≡◌, ℕ, zero, suc, ◌+◌, ◌-◌, ◌<◌, ◌≤◌, List, [], ◌∷◌, ◌++◌, length, map, drop, get_or, true, nat_lt, refl, sym, ap, ap₂, ◌∙◌, arith, append_assoc, length-append, add-zero}
+use Rattle.std.proofs.Common.{◌≡◌, ℕ, zero, suc, ◌+◌, ◌<◌, ◌≤◌, List, [], ◌∷◌, ◌++◌, length, map, drop, get_or, true, nat_lt, sym, ap, ap₂, ◌∙◌, arith, append_assoc, length-append, add-zero}
 use Rattle.std.proofs.lemmas.Bool.{and_parts, ltb-true}
 use Rattle.std.proofs.lemmas.List.{append-nil, length-map, drop_more, drop_all}
 use Rattle.documents.specs.Tests.{every}
 use Rattle.schemas.specs.Entry.{Keywords, Form, Asks, Entry}
-use Rattle.schemas.specs.Guarded.{edges, are_ranks}
 use Rattle.schemas.specs.Schema.{form_in_range, names_below, is_table}
-use Rattle.schema_laws.proofs.Ranks.{are_ranks-length}
 use Rattle.positions.specs.Position.{Position, All}
-use Rattle.normal_forms.specs.Nodes.{after}
+use Rattle.normal_forms.specs.Nodes.{nothing, after}
 use Rattle.normal_forms.specs.KeywordNodes.{keyword_nodes}
-use Rattle.normal_forms.specs.NormalForm.{form_nodes, entry_position, entry_positions, all_nodes, node_rank, entry_rank, numbered, node_ranks, table_of, ranks_of}
-use Rattle.js_algebra.specs.View.{node_view, places}
-use Rattle.js_algebra.specs.declared.node.Node.{Node}
-use Rattle.js_algebra.specs.declared.node.Pos.{Pos}
-use Rattle.js_normal.specs.declared.builder.Builder.{Builder}
-use Rattle.js_normal.specs.Runs.{run}
-use Rattle.js_normal.specs.BuilderView.{state_of}
+use Rattle.normal_forms.specs.NormalForm.{form_nodes, entry_position, entry_positions, all_nodes, entry_rank, numbered, node_ranks, table_of, ranks_of}
+use Rattle.js_values.specs.Runs.{State, next, with_named, of_entry, run}
+use Rattle.js_values.proofs.RunLemmas.{run-nothing}
 use Rattle.js_normal.specs.PatternTrees.{tree_of}
-use Rattle.js_normal.specs.Tables.{Made, next_of, with_entry, with_all, counted}
-use Rattle.js_guard.proofs.EdgesLemmas.{edges-length}
+use Rattle.js_normal.specs.Tables.{Made, next_of, with_entry, with_all}
 
 abbrev pub made : ℕ → List Position → List Position → List ℕ → List ℕ → Made
 made k es ns rs qs = record { first = k; entries = es; nodes = ns; entry_ranks = rs; node_ranks = qs }
 
-pub made-same : (k : ℕ) (es es' ns ns' : List Position) (rs rs' qs qs' : List ℕ) → es ≡ es' → ns ≡ ns' → rs ≡ rs' → qs ≡ qs'
-    → made k es ns rs qs ≡ made k es' ns' rs' qs'
+pub made-same : (k : ℕ) (es es' ns ns' : List Position) (rs rs' qs qs' : List ℕ) → es ≡ es' → ns ≡ ns' → rs ≡ rs'
+    → qs ≡ qs' → made k es ns rs qs ≡ made k es' ns' rs' qs'
 made-same k es es' ns ns' rs rs' qs qs' a b c d =
     ap₂ (λ x y. made k x y rs qs) a b ∙ ap₂ (λ x y. made k es' ns' x y) c d
 
@@ -97,93 +90,47 @@ pub all-end : (fs : List Form) (rs : List ℕ) (i : ℕ) (m u : Made) → length
     → u ≡ with_all (drop i fs) (drop i rs) m → m ≡ u
 all-end fs rs i m u l a = sym (a ∙ ap (λ xs. with_all xs (drop i rs) m) (drop_all i fs l))
 
--- ranks of nodes by their number
-pub counted-numbered : (r n : ℕ) (Ps : List Position) → counted r n (length Ps) ≡ numbered r n Ps
-counted-numbered r n [] = refl
-counted-numbered r n (P ∷ Ps) = ap (λ xs. node_rank r n ∷ xs) (counted-numbered r (suc n) Ps)
-
-pub counted-more : (r n t : ℕ) → n < t → counted r n (t - n) ≡ node_rank r n ∷ counted r (n + 1) (t - (n + 1))
-counted-more r n t l =
-    let one : t - n ≡ suc (t - (n + 1)) = omega (arith, l) in
-    let next : suc n ≡ n + 1 = omega arith in
-    ap (counted r n) one ∙ ap (λ k. node_rank r n ∷ counted r k (t - (n + 1))) next
-
-pub counted-none : (r n t : ℕ) → t ≤ n → counted r n (t - n) ≡ []
-counted-none r n t l = let none : t - n ≡ 0 = omega (arith, l) in ap (counted r n) none
-
--- one rank more
-pub ranks-step : (r n t : ℕ) (made more whole : List ℕ) → n < t → more ≡ made ++ node_rank r n ∷ []
-    → made ++ counted r n (t - n) ≡ whole → more ++ counted r (n + 1) (t - (n + 1)) ≡ whole
-ranks-step r n t made more whole l e a =
-    ap (λ xs. xs ++ counted r (n + 1) (t - (n + 1))) e
-    ∙ append_assoc made (node_rank r n ∷ []) (counted r (n + 1) (t - (n + 1)))
-    ∙ ap (λ xs. made ++ xs) (sym (counted-more r n t l)) ∙ a
-
 -- an entry is added once its nodes are there
-pub entry-made : (f : Form) (r from to first : ℕ) (m : Made) (entries nodes : List Position)
-    (entry_ranks node_ranks : List ℕ) → first ≡ m.first
-    → from ≡ next_of m → to ≡ first + length nodes
-    → entries ≡ m.entries ++ entry_position tree_of f (form_nodes tree_of f from) ∷ []
-    → nodes ≡ m.nodes ++ (form_nodes tree_of f from).added → entry_ranks ≡ m.entry_ranks ++ entry_rank r ∷ []
-    → node_ranks ≡ m.node_ranks ++ counted r from (to - from)
-    → made first entries nodes entry_ranks node_ranks ≡ with_entry f r m
-unfolding with_entry
-entry-made f r from to first m entries nodes entry_ranks node_ranks z a b c d e g =
-    let n = next_of m in
+pub entry-made : (f : Form) (r : ℕ) (s begun t : State) (es entries : List Position) (rs ranks : List ℕ)
+    → begun ≡ of_entry r s → t ≡ with_named [] (run (form_nodes tree_of f) begun)
+    → entries ≡ es ++ entry_position tree_of f (form_nodes tree_of f (next begun)) ∷ []
+    → ranks ≡ rs ++ entry_rank r ∷ []
+    → made t.first entries t.nodes ranks t.ranks ≡ with_entry f r (made s.first es s.nodes rs s.ranks)
+unfolding with_entry run
+entry-made f r s begun t es entries rs ranks a b c d =
+    let n = next s in
     let added = (form_nodes tree_of f n).added in
-    let here = d ∙ ap (λ k. m.nodes ++ (form_nodes tree_of f k).added) a in
-    let size : to - from ≡ length added =
-    (let both = length-append m.nodes added in let all = ap length here in omega (arith, z, a, b, both, all)) in
-    ap (λ k. made k entries nodes entry_ranks node_ranks) z
-    ∙ made-same m.first _ _ _ _ _ _ _ _
-    (c ∙ ap (λ k. m.entries ++ entry_position tree_of f (form_nodes tree_of f k) ∷ []) a)
-    here e
-    (g ∙ ap₂ (λ k j. m.node_ranks ++ counted r k j) a size ∙ ap (λ xs. m.node_ranks ++ xs) (counted-numbered r n added))
+    ap (λ u. made u.first entries u.nodes ranks u.ranks)
+    (b ∙ ap (λ u. with_named [] (run (form_nodes tree_of f) u)) a)
+    ∙ ap₂ (λ xs ys. made s.first xs (s.nodes ++ added) ys (s.ranks ++ numbered r n added))
+    (c ∙ ap (λ u. es ++ entry_position tree_of f (form_nodes tree_of f (next u)) ∷ []) a) d
 
 -- an object's nodes are made, and what they are for its entry
-pub asked-named : (f : Form) (k : Keywords) (b after : Builder) (fresh named : List Pos) → f ≡ Asks k → fresh ≡ []
-    → state_of after named ≡ run (keyword_nodes tree_of k) (state_of b fresh)
-    → All (places named) ≡ entry_position tree_of f (form_nodes tree_of f (b.first + length b.nodes.items))
+pub asked-named : (f : Form) (k : Keywords) (s t : State) (named : List ℕ) → f ≡ Asks k → s.named ≡ []
+    → t ≡ run (keyword_nodes tree_of k) s → named ≡ t.named
+    → All named ≡ entry_position tree_of f (form_nodes tree_of f (next s))
 unfolding run
-asked-named f k b after fresh named e none a =
-    rw e (ap (λ s. All s.named) a
-    ∙ ap₂ (λ ps n. All (places ps ++ (keyword_nodes tree_of k (b.first + n)).named)) none
-    (length-map b.nodes.items node_view))
+asked-named f k s t named e none a b =
+    rw e (ap All (b ∙ ap (λ u. u.named) a ∙ ap (λ qs. qs ++ (keyword_nodes tree_of k (next s)).named) none))
 
-pub asked-first : (k : Keywords) (b after : Builder) (fresh named : List Pos)
-    → state_of after named ≡ run (keyword_nodes tree_of k) (state_of b fresh) → after.first ≡ b.first
-unfolding run
-asked-first k b after fresh named a = ap (λ s. s.first) a
+pub asked-nodes : (f : Form) (k : Keywords) (s t u : State) → f ≡ Asks k → t ≡ run (keyword_nodes tree_of k) s
+    → u ≡ with_named [] t → u ≡ with_named [] (run (form_nodes tree_of f) s)
+asked-nodes f k s t u e a b = rw e (b ∙ ap (with_named []) a)
 
-pub asked-nodes : (f : Form) (k : Keywords) (b after : Builder) (fresh named : List Pos) → f ≡ Asks k
-    → state_of after named ≡ run (keyword_nodes tree_of k) (state_of b fresh)
-    → map node_view after.nodes.items
-    ≡ map node_view b.nodes.items ++ (form_nodes tree_of f (b.first + length b.nodes.items)).added
-unfolding run
-asked-nodes f k b after fresh named e a =
-    rw e (ap (λ s. s.nodes) a
-    ∙ ap (λ n. map node_view b.nodes.items ++ (keyword_nodes tree_of k (b.first + n)).added)
-    (length-map b.nodes.items node_view))
-
--- the number of a node does not fall
-pub more-nodes : (first : ℕ) (old new : List Node) (added : List Position)
-    → map node_view new ≡ map node_view old ++ added → first + length old ≤ first + length new
-more-nodes first old new added e =
-    let a = length-map old node_view in
-    let b = length-map new node_view in
-    let both = length-append (map node_view old) added in
-    let all = ap length e in omega (arith, a, b, both, all)
-
-pub ranks-count : (es : List Entry) (rs : List ℕ) → are_ranks (edges es) rs ≡ true → length rs ≡ length es
-ranks-count es rs h = are_ranks-length (edges es) rs h ∙ edges-length es
+-- other entries need none
+pub needs-nothing : (f : Form) (s : State) → form_nodes tree_of f ≡ nothing → s.named ≡ []
+    → s ≡ with_named [] (run (form_nodes tree_of f) s)
+needs-nothing f s e none =
+    ap (λ qs. with_named qs s) none
+    ∙ ap (with_named []) (sym (run-nothing s) ∙ ap (λ g. run g s) (sym e))
 
 -- at the end of a loop over the entries
-pub whole : (es : List Entry) (rs : List ℕ) (i : ℕ) (m : Made) → are_ranks (edges es) rs ≡ true → length es ≤ i
+pub whole : (es : List Entry) (rs : List ℕ) (i : ℕ) (m : Made) → length rs ≡ length es → length es ≤ i
     → with_all (forms es) rs (start es) ≡ with_all (drop i (forms es)) (drop i rs) m → IsWhole es rs m
 whole es rs i m h l a =
     let count = length-map es (λ e. e.form) in
     let past : length (forms es) ≤ i = omega (arith, count, l) in
-    is_whole es rs m (ranks-count es rs h) (all-end (forms es) rs i m (with_all (forms es) rs (start es)) past a)
+    is_whole es rs m h (all-end (forms es) rs i m (with_all (forms es) rs (start es)) past a)
 
 -- the form of an entry has its range
 pub form-ranged : (es : List Entry) (i : ℕ) (f : Form) → every (λ e. form_in_range e.form) es ≡ true → i < length es

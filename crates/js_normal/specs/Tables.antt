@@ -1,8 +1,8 @@
 -- A table that is made entry by entry: the entries' positions and the nodes apart, each with their ranks.
-use Rattle.std.specs.Prelude.{ℕ, suc, zero, ◌+◌, List, [], ◌∷◌, ◌++◌, length, map}
+use Rattle.std.specs.Prelude.{ℕ, ◌+◌, List, [], ◌∷◌, ◌++◌, length, map}
 use Rattle.schemas.specs.Entry.{Form}
 use Rattle.positions.specs.Position.{Position}
-use Rattle.normal_forms.specs.NormalForm.{form_nodes, entry_position, entry_rank, node_rank, numbered}
+use Rattle.normal_forms.specs.NormalForm.{form_nodes, entry_position, entry_rank, numbered}
 use Rattle.js_algebra.specs.View.{node_view}
 use Rattle.js_normal.specs.PatternTrees.{tree_of}
 use Rattle.js_normal.specs.declared.normal.Parts.{Parts}
@@ -34,16 +34,11 @@ abbrev pub with_all : List Form → List ℕ → Made → Made
 with_all (f ∷ fs) (r ∷ rs) m = with_all fs rs (with_entry f r m)
 with_all _ _ m = m
 
--- ranks of nodes that are numbered from n on
-abbrev pub counted : ℕ → ℕ → ℕ → List ℕ
-counted r n zero = []
-counted r n (suc k) = node_rank r n ∷ counted r (suc n) k
-
 abbrev pub made_of : Parts → Made
 made_of p = record {
-  first = p.builder.first;
+  first = p.sink.first;
   entries = map node_view p.entries.items;
-  nodes = map node_view p.builder.nodes.items;
-  entry_ranks = p.entry_ranks.items;
-  node_ranks = p.node_ranks.items;
+  nodes = p.sink.nodes;
+  entry_ranks = p.ranks.items;
+  node_ranks = p.sink.ranks;
 }

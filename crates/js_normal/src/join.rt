@@ -1,6 +1,7 @@
 //! Two core tables in one.
 //!
-//! The first table stands as it is, and the positions of the second are moved up by its length. Each keeps what it means.
+//! The first table stands as it is, and the positions of the second are moved up by its length. Each keeps what it
+//! means.
 //! The cost is that of a copy.
 
 ghost use Rattle.std.specs.Prelude.{ℕ, true, ◌≡◌, ◌+◌, ◌^◌, ◌<◌, ◌++◌, IfOk, length, map};

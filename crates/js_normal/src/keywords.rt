@@ -17,17 +17,12 @@ ghost use Rattle.normal_forms.specs.KeywordNodes as W;
 ghost use Rattle.js_algebra.specs.View.{node_view, pattern_view, name_set_view, places};
 ghost use Rattle.js_doc.specs.View.{view, list_view};
 ghost use Rattle.js_schema.specs.View.{keywords_view, items_view, property_view, pattern_properties_view, needs_view, dependency_view};
-ghost use Rattle.js_normal.specs.Runs.{run};
-ghost use Rattle.js_normal.specs.BuilderView.{state_of};
+ghost use Rattle.js_values.specs.Runs.{run};
 ghost use Rattle.js_normal.specs.PatternTrees.{tree_of};
 
-use crate::builder::Builder;
-use crate::distinct::distinct;
-use crate::groups::groups;
-use crate::lists::{depends_of, positions, the_one};
+use crate::lists::{depends_of, positions};
 use crate::single;
 use crate::single::{optional, pattern_of};
-use crate::values::value_node;
 use js_algebra::{NameList, NameSet, Node, PatternList, Pos, PosList};
 use js_doc::{Doc, DocList, Memory, StrList};
 use js_schema::{
@@ -35,388 +30,245 @@ use js_schema::{
     Keywords, Needs, NumberKeywords, ObjectKeywords, PatternPropertyList, PropertyList,
     StringKeywords,
 };
+use js_values::{Sink, distinct, group_nodes, the_one, value_node};
 use std::alloc::Global;
 
-pub(crate) fn keyword_nodes(
-    alloc: Global,
-    keywords: &Keywords,
-    builder: &mut Builder,
-    named: &mut Vec<Pos>,
-) -> Result<(), Memory>
+pub(crate) fn keyword_nodes(keywords: &Keywords, sink: &mut Sink) -> Result<(), Memory>
     requires { is_in_range (keywords_view keywords.now) ≡ true }
-    ensures { OnOk result (state_of builder.new named.new.items
-        ≡ run (W.keyword_nodes tree_of (keywords_view keywords.now)) (state_of builder.old named.old.items)) }
+    ensures { OnOk result (sink.new ≡ run (W.keyword_nodes tree_of (keywords_view keywords.now)) sink.old) }
 {
-    any_nodes(alloc, keywords, builder, named)?;
-    number_nodes(keywords, builder, named)?;
-    string_nodes(alloc, keywords, builder, named)?;
-    array_nodes(alloc, keywords, builder, named)?;
-    member_nodes(alloc, keywords, builder, named)?;
-    count_nodes(keywords, builder, named)?;
-    in_place_nodes(alloc, keywords, builder, named)
+    any_nodes(keywords, sink)?;
+    number_nodes(keywords, sink)?;
+    string_nodes(keywords, sink)?;
+    array_nodes(keywords, sink)?;
+    member_nodes(keywords, sink)?;
+    count_nodes(keywords, sink)?;
+    in_place_nodes(keywords, sink)
 }
 
 /// Of each kind of document.
-fn any_nodes(
-    alloc: Global,
-    keywords: &Keywords,
-    builder: &mut Builder,
-    named: &mut Vec<Pos>,
-) -> Result<(), Memory>
-    ensures { OnOk result (state_of builder.new named.new.items
-        ≡ run (W.any_nodes tree_of (keywords_view keywords.now)) (state_of builder.old named.old.items)) }
+fn any_nodes(keywords: &Keywords, sink: &mut Sink) -> Result<(), Memory>
+    ensures { OnOk result (sink.new ≡ run (W.any_nodes tree_of (keywords_view keywords.now)) sink.old) }
 {
     let any: &AnyKeywords = &keywords.any;
-    optional(single::types(alloc, &any.types)?, builder, named)?;
-    enumeration(alloc, &any.enumeration, builder, named)?;
-    constant(alloc, &any.constant, builder, named)
+    let types = single::types(sink.alloc(), &any.types)?;
+    optional(types, sink)?;
+    enumeration(&any.enumeration, sink)?;
+    constant(&any.constant, sink)
 }
 
-fn number_nodes(
-    keywords: &Keywords,
-    builder: &mut Builder,
-    named: &mut Vec<Pos>,
-) -> Result<(), Memory>
+fn number_nodes(keywords: &Keywords, sink: &mut Sink) -> Result<(), Memory>
     requires least { meets is_held keywords.now.numbers.value.exclusive_minimum ≡ true }
     requires most { meets is_held keywords.now.numbers.value.exclusive_maximum ≡ true }
-    ensures { OnOk result (state_of builder.new named.new.items
-        ≡ run (W.number_nodes tree_of (keywords_view keywords.now)) (state_of builder.old named.old.items)) }
+    ensures { OnOk result (sink.new ≡ run (W.number_nodes tree_of (keywords_view keywords.now)) sink.old) }
 {
     let numbers: &NumberKeywords = &keywords.numbers;
-    optional(single::multiple_of(numbers.multiple_of), builder, named)?;
-    optional(single::minimum(numbers.minimum), builder, named)?;
-    optional(
-        single::exclusive_minimum(numbers.exclusive_minimum),
-        builder,
-        named,
-    )?;
-    optional(single::maximum(numbers.maximum), builder, named)?;
-    optional(
-        single::exclusive_maximum(numbers.exclusive_maximum),
-        builder,
-        named,
-    )
+    optional(single::multiple_of(numbers.multiple_of), sink)?;
+    optional(single::minimum(numbers.minimum), sink)?;
+    optional(single::exclusive_minimum(numbers.exclusive_minimum), sink)?;
+    optional(single::maximum(numbers.maximum), sink)?;
+    optional(single::exclusive_maximum(numbers.exclusive_maximum), sink)
 }
 
-fn string_nodes(
-    alloc: Global,
-    keywords: &Keywords,
-    builder: &mut Builder,
-    named: &mut Vec<Pos>,
-) -> Result<(), Memory>
-    ensures { OnOk result (state_of builder.new named.new.items
-        ≡ run (W.string_nodes tree_of (keywords_view keywords.now)) (state_of builder.old named.old.items)) }
+fn string_nodes(keywords: &Keywords, sink: &mut Sink) -> Result<(), Memory>
+    ensures { OnOk result (sink.new ≡ run (W.string_nodes tree_of (keywords_view keywords.now)) sink.old) }
 {
     let strings: &StringKeywords = &keywords.strings;
-    optional(single::min_length(strings.min_length), builder, named)?;
-    optional(single::max_length(strings.max_length), builder, named)?;
-    optional(single::pattern(alloc, &strings.pattern)?, builder, named)
+    optional(single::min_length(strings.min_length), sink)?;
+    optional(single::max_length(strings.max_length), sink)?;
+    let pattern = single::pattern(sink.alloc(), &strings.pattern)?;
+    optional(pattern, sink)
 }
 
-fn array_nodes(
-    alloc: Global,
-    keywords: &Keywords,
-    builder: &mut Builder,
-    named: &mut Vec<Pos>,
-) -> Result<(), Memory>
-    ensures { OnOk result (state_of builder.new named.new.items
-        ≡ run (W.array_nodes tree_of (keywords_view keywords.now)) (state_of builder.old named.old.items)) }
+fn array_nodes(keywords: &Keywords, sink: &mut Sink) -> Result<(), Memory>
+    ensures { OnOk result (sink.new ≡ run (W.array_nodes tree_of (keywords_view keywords.now)) sink.old) }
 {
     let arrays: &ArrayKeywords = &keywords.arrays;
-    items(
-        alloc,
-        &arrays.items,
-        arrays.additional_items,
-        builder,
-        named,
-    )?;
-    optional(single::contains(arrays.contains), builder, named)?;
-    optional(single::min_items(arrays.min_items), builder, named)?;
-    optional(single::max_items(arrays.max_items), builder, named)
+    items(&arrays.items, arrays.additional_items, sink)?;
+    optional(single::contains(arrays.contains), sink)?;
+    optional(single::min_items(arrays.min_items), sink)?;
+    optional(single::max_items(arrays.max_items), sink)
 }
 
-fn member_nodes(
-    alloc: Global,
-    keywords: &Keywords,
-    builder: &mut Builder,
-    named: &mut Vec<Pos>,
-) -> Result<(), Memory>
-    ensures { OnOk result (state_of builder.new named.new.items
-        ≡ run (W.member_nodes tree_of (keywords_view keywords.now)) (state_of builder.old named.old.items)) }
+fn member_nodes(keywords: &Keywords, sink: &mut Sink) -> Result<(), Memory>
+    ensures { OnOk result (sink.new ≡ run (W.member_nodes tree_of (keywords_view keywords.now)) sink.old) }
 {
     let objects: &ObjectKeywords = &keywords.objects;
-    required(alloc, &objects.required, builder, named)?;
-    properties(alloc, &objects.properties, builder, named)?;
-    pattern_properties(alloc, &objects.pattern_properties, builder, named)?;
-    optional(additional_properties(alloc, keywords)?, builder, named)?;
-    optional(
-        single::property_names(objects.property_names),
-        builder,
-        named,
-    )?;
-    dependencies(alloc, &objects.dependencies, builder, named)
+    required(&objects.required, sink)?;
+    properties(&objects.properties, sink)?;
+    pattern_properties(&objects.pattern_properties, sink)?;
+    let additional = additional_properties(sink.alloc(), keywords)?;
+    optional(additional, sink)?;
+    optional(single::property_names(objects.property_names), sink)?;
+    dependencies(&objects.dependencies, sink)
 }
 
-fn count_nodes(
-    keywords: &Keywords,
-    builder: &mut Builder,
-    named: &mut Vec<Pos>,
-) -> Result<(), Memory>
-    ensures { OnOk result (state_of builder.new named.new.items
-        ≡ run (W.count_nodes tree_of (keywords_view keywords.now)) (state_of builder.old named.old.items)) }
+fn count_nodes(keywords: &Keywords, sink: &mut Sink) -> Result<(), Memory>
+    ensures { OnOk result (sink.new ≡ run (W.count_nodes tree_of (keywords_view keywords.now)) sink.old) }
 {
     let objects: &ObjectKeywords = &keywords.objects;
-    optional(
-        single::min_properties(objects.min_properties),
-        builder,
-        named,
-    )?;
-    optional(
-        single::max_properties(objects.max_properties),
-        builder,
-        named,
-    )
+    optional(single::min_properties(objects.min_properties), sink)?;
+    optional(single::max_properties(objects.max_properties), sink)
 }
 
 /// Of schemas that are asked of the same document.
-fn in_place_nodes(
-    alloc: Global,
-    keywords: &Keywords,
-    builder: &mut Builder,
-    named: &mut Vec<Pos>,
-) -> Result<(), Memory>
-    ensures { OnOk result (state_of builder.new named.new.items
-        ≡ run (W.in_place_nodes tree_of (keywords_view keywords.now)) (state_of builder.old named.old.items)) }
+fn in_place_nodes(keywords: &Keywords, sink: &mut Sink) -> Result<(), Memory>
+    ensures { OnOk result (sink.new ≡ run (W.in_place_nodes tree_of (keywords_view keywords.now)) sink.old) }
 {
     let in_place: &InPlaceKeywords = &keywords.in_place;
-    optional(single::all_of(alloc, &in_place.all_of)?, builder, named)?;
-    optional(single::any_of(alloc, &in_place.any_of)?, builder, named)?;
-    optional(single::one_of(alloc, &in_place.one_of)?, builder, named)?;
-    optional(single::not(in_place.not), builder, named)
+    let all_of = single::all_of(sink.alloc(), &in_place.all_of)?;
+    optional(all_of, sink)?;
+    let any_of = single::any_of(sink.alloc(), &in_place.any_of)?;
+    optional(any_of, sink)?;
+    let one_of = single::one_of(sink.alloc(), &in_place.one_of)?;
+    optional(one_of, sink)?;
+    optional(single::not(in_place.not), sink)
 }
 
 /// One of the values, by groups.
-fn enumeration(
-    alloc: Global,
-    values: &Option<DocList>,
-    builder: &mut Builder,
-    named: &mut Vec<Pos>,
-) -> Result<(), Memory>
-    ensures { OnOk result (state_of builder.new named.new.items
-        ≡ run (M.if_some (λ ds. M.above P.Any (W.groups ds)) (option_map (λ ds. D.elements (list_view ds)) values.now))
-        (state_of builder.old named.old.items)) }
+fn enumeration(values: &Option<DocList>, sink: &mut Sink) -> Result<(), Memory>
+    ensures { OnOk result (sink.new
+        ≡ run (M.if_some (λ ds. M.above P.Any (W.groups ds))
+        (option_map (λ ds. D.elements (list_view ds)) values.now)) sink.old) }
 {
     match values {
-        Some(values) => enum_node(alloc, values, builder, named),
+        Some(values) => enum_node(values, sink),
         None => Ok(()),
     }
 }
 
-fn enum_node(
-    alloc: Global,
-    values: &DocList,
-    builder: &mut Builder,
-    named: &mut Vec<Pos>,
-) -> Result<(), Memory>
-    ensures { OnOk result (state_of builder.new named.new.items
-        ≡ run (M.above P.Any (W.groups (D.elements (list_view values.now)))) (state_of builder.old named.old.items)) }
+fn enum_node(values: &DocList, sink: &mut Sink) -> Result<(), Memory>
+    ensures { OnOk result (sink.new ≡ run (M.above P.Any (W.groups (D.elements (list_view values.now)))) sink.old) }
 {
-    let mut below = Vec::new(alloc);
-    groups(alloc, values, builder, &mut below)?;
-    builder.push(Node::Any(PosList::from_vec(below)), named)
+    let outer = sink.take_named();
+    group_nodes(values, sink)?;
+    let below = sink.swap_named(outer);
+    sink.push(Node::Any(PosList::from_vec(below)))
 }
 
-fn constant(
-    alloc: Global,
-    value: &Option<Doc>,
-    builder: &mut Builder,
-    named: &mut Vec<Pos>,
-) -> Result<(), Memory>
-    ensures { OnOk result (state_of builder.new named.new.items
-        ≡ run (M.if_some V.value_node (option_map view value.now)) (state_of builder.old named.old.items)) }
+fn constant(value: &Option<Doc>, sink: &mut Sink) -> Result<(), Memory>
+    ensures { OnOk result (sink.new ≡ run (M.if_some V.value_node (option_map view value.now)) sink.old) }
 {
     match value {
-        Some(value) => value_node(alloc, value, builder, named),
+        Some(value) => value_node(value, sink),
         None => Ok(()),
     }
 }
 
-fn items(
-    alloc: Global,
-    items: &Option<ItemsPart>,
-    rest: Option<u32>,
-    builder: &mut Builder,
-    named: &mut Vec<Pos>,
-) -> Result<(), Memory>
-    ensures { OnOk result (state_of builder.new named.new.items
-        ≡ run (M.if_some (W.items_node rest) (option_map items_view items.now))
-        (state_of builder.old named.old.items)) }
+fn items(items: &Option<ItemsPart>, rest: Option<u32>, sink: &mut Sink) -> Result<(), Memory>
+    ensures { OnOk result (sink.new ≡ run (M.if_some (W.items_node rest) (option_map items_view items.now)) sink.old) }
 {
     match items {
-        Some(items) => items_node(alloc, items, rest, builder, named),
+        Some(items) => items_node(items, rest, sink),
         None => Ok(()),
     }
 }
 
-fn items_node(
-    alloc: Global,
-    items: &ItemsPart,
-    rest: Option<u32>,
-    builder: &mut Builder,
-    named: &mut Vec<Pos>,
-) -> Result<(), Memory>
-    ensures { OnOk result (state_of builder.new named.new.items
-        ≡ run (W.items_node rest (items_view items.now)) (state_of builder.old named.old.items)) }
+fn items_node(items: &ItemsPart, rest: Option<u32>, sink: &mut Sink) -> Result<(), Memory>
+    ensures { OnOk result (sink.new ≡ run (W.items_node rest (items_view items.now)) sink.old) }
 {
     match items {
         ItemsPart::Each(entry) => {
-            let prefix = PosList::from_vec(Vec::new(alloc));
-            builder.push(Node::Items(prefix, Pos(*entry)), named)
+            let prefix = PosList::from_vec(Vec::new(sink.alloc()));
+            sink.push(Node::Items(prefix, Pos(*entry)))
         }
-        ItemsPart::Listed(entries) => listed_items(alloc, entries, rest, builder, named),
+        ItemsPart::Listed(entries) => listed_items(entries, rest, sink),
     }
 }
 
 /// Schemas in order, and what is asked of all further elements.
-fn listed_items(
-    alloc: Global,
-    entries: &EntryList,
-    rest: Option<u32>,
-    builder: &mut Builder,
-    named: &mut Vec<Pos>,
-) -> Result<(), Memory>
-    ensures { OnOk result (state_of builder.new named.new.items
-        ≡ run (W.items_node rest (E.Listed entries.now)) (state_of builder.old named.old.items)) }
+fn listed_items(entries: &EntryList, rest: Option<u32>, sink: &mut Sink) -> Result<(), Memory>
+    ensures { OnOk result (sink.new ≡ run (W.items_node rest (E.Listed entries.now)) sink.old) }
 {
-    let prefix = positions(alloc, entries)?;
+    let prefix = positions(sink.alloc(), entries)?;
     match rest {
-        Some(entry) => builder.push(Node::Items(prefix, Pos(entry)), named),
-        None => free_items(alloc, prefix, builder, named),
+        Some(entry) => sink.push(Node::Items(prefix, Pos(entry))),
+        None => free_items(prefix, sink),
     }
 }
 
 /// Nothing is asked of further elements.
-fn free_items(
-    alloc: Global,
-    prefix: PosList,
-    builder: &mut Builder,
-    named: &mut Vec<Pos>,
-) -> Result<(), Memory>
-    ensures { OnOk result (state_of builder.new named.new.items
-        ≡ run (W.items_node None (E.Listed (places prefix))) (state_of builder.old named.old.items)) }
+fn free_items(prefix: PosList, sink: &mut Sink) -> Result<(), Memory>
+    ensures { OnOk result (sink.new ≡ run (W.items_node None (E.Listed (places prefix))) sink.old) }
 {
-    let mut below = Vec::new(alloc);
-    builder.push(Node::True, &mut below)?;
-    builder.push(Node::Items(prefix, the_one(below.as_slice())), named)
+    let outer = sink.take_named();
+    sink.push(Node::True)?;
+    let below = sink.swap_named(outer);
+    sink.push(Node::Items(prefix, the_one(below.as_slice())))
 }
 
-fn required(
-    alloc: Global,
-    words: &Option<StrList>,
-    builder: &mut Builder,
-    named: &mut Vec<Pos>,
-) -> Result<(), Memory>
-    ensures { OnOk result (state_of builder.new named.new.items
-        ≡ run (M.if_some (λ ws. M.each (λ w. M.node (P.Has w)) (W.once same_word ws)) words.now)
-        (state_of builder.old named.old.items)) }
+fn required(words: &Option<StrList>, sink: &mut Sink) -> Result<(), Memory>
+    ensures { OnOk result (sink.new
+        ≡ run (M.if_some (λ ws. M.each (λ w. M.node (P.Has w)) (W.once same_word ws)) words.now) sink.old) }
 {
     match words {
-        Some(words) => required_nodes(alloc, words, builder, named),
+        Some(words) => required_nodes(words, sink),
         None => Ok(()),
     }
 }
 
 /// Repeats are dropped.
-fn required_nodes(
-    alloc: Global,
-    words: &StrList,
-    builder: &mut Builder,
-    named: &mut Vec<Pos>,
-) -> Result<(), Memory>
-    ensures { OnOk result (state_of builder.new named.new.items
-        ≡ run (M.each (λ w. M.node (P.Has w)) (W.once same_word words.now)) (state_of builder.old named.old.items)) }
+fn required_nodes(words: &StrList, sink: &mut Sink) -> Result<(), Memory>
+    ensures { OnOk result (sink.new ≡ run (M.each (λ w. M.node (P.Has w)) (W.once same_word words.now)) sink.old) }
 {
-    let words = distinct(alloc, words)?;
-    has_nodes(alloc, &words, builder, named)
+    let words = distinct(sink.alloc(), words)?;
+    has_nodes(&words, sink)
 }
 
-fn has_nodes(
-    alloc: Global,
-    words: &StrList,
-    builder: &mut Builder,
-    named: &mut Vec<Pos>,
-) -> Result<(), Memory>
-    ensures { OnOk result (state_of builder.new named.new.items
-        ≡ run (M.each (λ w. M.node (P.Has w)) words.now) (state_of builder.old named.old.items)) }
+fn has_nodes(words: &StrList, sink: &mut Sink) -> Result<(), Memory>
+    ensures { OnOk result (sink.new ≡ run (M.each (λ w. M.node (P.Has w)) words.now) sink.old) }
 {
     for word in words.as_slice() {
-        builder.push(Node::Has(word.copy(alloc)?), named)?;
+        let has = Node::Has(word.copy(sink.alloc())?);
+        sink.push(has)?;
     }
     Ok(())
 }
 
-fn properties(
-    alloc: Global,
-    properties: &Option<PropertyList>,
-    builder: &mut Builder,
-    named: &mut Vec<Pos>,
-) -> Result<(), Memory>
-    ensures { OnOk result (state_of builder.new named.new.items
+fn properties(properties: &Option<PropertyList>, sink: &mut Sink) -> Result<(), Memory>
+    ensures { OnOk result (sink.new
         ≡ run (M.if_some (M.each (λ p. M.node (P.MembersOf (P.Named p.0) p.1)))
-        (option_map (λ ps. map property_view ps) properties.now)) (state_of builder.old named.old.items)) }
+        (option_map (λ ps. map property_view ps) properties.now)) sink.old) }
 {
     match properties {
-        Some(properties) => property_nodes(alloc, properties, builder, named),
+        Some(properties) => property_nodes(properties, sink),
         None => Ok(()),
     }
 }
 
-fn property_nodes(
-    alloc: Global,
-    properties: &PropertyList,
-    builder: &mut Builder,
-    named: &mut Vec<Pos>,
-) -> Result<(), Memory>
-    ensures { OnOk result (state_of builder.new named.new.items
-        ≡ run (M.each (λ p. M.node (P.MembersOf (P.Named p.0) p.1)) (map property_view properties.now))
-        (state_of builder.old named.old.items)) }
+fn property_nodes(properties: &PropertyList, sink: &mut Sink) -> Result<(), Memory>
+    ensures { OnOk result (sink.new
+        ≡ run (M.each (λ p. M.node (P.MembersOf (P.Named p.0) p.1)) (map property_view properties.now)) sink.old) }
 {
     for property in properties.as_slice() {
-        let set = NameSet::Named(property.name.copy(alloc)?);
-        builder.push(Node::MembersOf(set, Pos(property.entry)), named)?;
+        let set = NameSet::Named(property.name.copy(sink.alloc())?);
+        sink.push(Node::MembersOf(set, Pos(property.entry)))?;
     }
     Ok(())
 }
 
 fn pattern_properties(
-    alloc: Global,
     properties: &Option<PatternPropertyList>,
-    builder: &mut Builder,
-    named: &mut Vec<Pos>,
+    sink: &mut Sink,
 ) -> Result<(), Memory>
-    ensures { OnOk result (state_of builder.new named.new.items
+    ensures { OnOk result (sink.new
         ≡ run (M.if_some (M.each (λ p. M.node (P.MembersOf (P.Matching (W.pattern_of tree_of p.0)) p.1)))
-        (option_map pattern_properties_view properties.now)) (state_of builder.old named.old.items)) }
+        (option_map pattern_properties_view properties.now)) sink.old) }
 {
     match properties {
-        Some(properties) => pattern_property_nodes(alloc, properties, builder, named),
+        Some(properties) => pattern_property_nodes(properties, sink),
         None => Ok(()),
     }
 }
 
-fn pattern_property_nodes(
-    alloc: Global,
-    properties: &PatternPropertyList,
-    builder: &mut Builder,
-    named: &mut Vec<Pos>,
-) -> Result<(), Memory>
-    ensures { OnOk result (state_of builder.new named.new.items
+fn pattern_property_nodes(properties: &PatternPropertyList, sink: &mut Sink) -> Result<(), Memory>
+    ensures { OnOk result (sink.new
         ≡ run (M.each (λ p. M.node (P.MembersOf (P.Matching (W.pattern_of tree_of p.0)) p.1))
-        (pattern_properties_view properties.now)) (state_of builder.old named.old.items)) }
+        (pattern_properties_view properties.now)) sink.old) }
 {
     for property in properties.as_slice() {
-        let set = NameSet::Matching(pattern_of(alloc, &property.pattern)?);
-        builder.push(Node::MembersOf(set, Pos(property.entry)), named)?;
+        let set = NameSet::Matching(pattern_of(sink.alloc(), &property.pattern)?);
+        sink.push(Node::MembersOf(set, Pos(property.entry)))?;
     }
     Ok(())
 }
@@ -485,82 +337,52 @@ fn copied_patterns(alloc: Global, properties: &PatternPropertyList) -> Result<Pa
     Ok(PatternList::from_vec(patterns))
 }
 
-fn dependencies(
-    alloc: Global,
-    dependencies: &Option<DependencyList>,
-    builder: &mut Builder,
-    named: &mut Vec<Pos>,
-) -> Result<(), Memory>
-    ensures { OnOk result (state_of builder.new named.new.items
-        ≡ run (M.if_some (M.each W.dependency_node) (option_map (λ ds. map dependency_view ds) dependencies.now))
-        (state_of builder.old named.old.items)) }
+fn dependencies(dependencies: &Option<DependencyList>, sink: &mut Sink) -> Result<(), Memory>
+    ensures { OnOk result (sink.new
+        ≡ run (M.if_some (M.each W.dependency_node)
+        (option_map (λ ds. map dependency_view ds) dependencies.now)) sink.old) }
 {
     match dependencies {
-        Some(dependencies) => dependency_nodes(alloc, dependencies, builder, named),
+        Some(dependencies) => dependency_nodes(dependencies, sink),
         None => Ok(()),
     }
 }
 
-fn dependency_nodes(
-    alloc: Global,
-    dependencies: &DependencyList,
-    builder: &mut Builder,
-    named: &mut Vec<Pos>,
-) -> Result<(), Memory>
-    ensures { OnOk result (state_of builder.new named.new.items
-        ≡ run (M.each W.dependency_node (map dependency_view dependencies.now))
-        (state_of builder.old named.old.items)) }
+fn dependency_nodes(dependencies: &DependencyList, sink: &mut Sink) -> Result<(), Memory>
+    ensures { OnOk result (sink.new ≡ run (M.each W.dependency_node (map dependency_view dependencies.now)) sink.old) }
 {
     for dependency in dependencies.as_slice() {
-        dependency_node(alloc, dependency, builder, named)?;
+        dependency_node(dependency, sink)?;
     }
     Ok(())
 }
 
-fn dependency_node(
-    alloc: Global,
-    dependency: &Dependency,
-    builder: &mut Builder,
-    named: &mut Vec<Pos>,
-) -> Result<(), Memory>
-    ensures { OnOk result (state_of builder.new named.new.items
-        ≡ run (W.dependency_node (dependency_view dependency.now)) (state_of builder.old named.old.items)) }
+fn dependency_node(dependency: &Dependency, sink: &mut Sink) -> Result<(), Memory>
+    ensures { OnOk result (sink.new ≡ run (W.dependency_node (dependency_view dependency.now)) sink.old) }
 {
-    let mut below = Vec::new(alloc);
-    builder.push(Node::Has(dependency.key.copy(alloc)?), &mut below)?;
-    need_node(alloc, &dependency.needs, builder, &mut below)?;
-    builder.push(depends_of(below.as_slice()), named)
+    let outer = sink.take_named();
+    let has = Node::Has(dependency.key.copy(sink.alloc())?);
+    sink.push(has)?;
+    need_node(&dependency.needs, sink)?;
+    let below = sink.swap_named(outer);
+    sink.push(depends_of(below.as_slice()))
 }
 
-fn need_node(
-    alloc: Global,
-    needs: &Needs,
-    builder: &mut Builder,
-    named: &mut Vec<Pos>,
-) -> Result<(), Memory>
-    ensures { OnOk result (state_of builder.new named.new.items
-        ≡ run (W.need_node (needs_view needs.now)) (state_of builder.old named.old.items)) }
+fn need_node(needs: &Needs, sink: &mut Sink) -> Result<(), Memory>
+    ensures { OnOk result (sink.new ≡ run (W.need_node (needs_view needs.now)) sink.old) }
 {
     match needs {
-        Needs::Names(words) => names_node(alloc, words, builder, named),
-        Needs::Whole(entry) => {
-            named.push(Pos(*entry))?;
-            Ok(())
-        }
+        Needs::Names(words) => names_node(words, sink),
+        Needs::Whole(entry) => sink.name(Pos(*entry)),
     }
 }
 
 /// All of the names are there.
-fn names_node(
-    alloc: Global,
-    words: &StrList,
-    builder: &mut Builder,
-    named: &mut Vec<Pos>,
-) -> Result<(), Memory>
-    ensures { OnOk result (state_of builder.new named.new.items
-        ≡ run (W.need_node (E.Names words.now)) (state_of builder.old named.old.items)) }
+fn names_node(words: &StrList, sink: &mut Sink) -> Result<(), Memory>
+    ensures { OnOk result (sink.new ≡ run (W.need_node (E.Names words.now)) sink.old) }
 {
-    let mut below = Vec::new(alloc);
-    has_nodes(alloc, words, builder, &mut below)?;
-    builder.push(Node::All(PosList::from_vec(below)), named)
+    let outer = sink.take_named();
+    has_nodes(words, sink)?;
+    let below = sink.swap_named(outer);
+    sink.push(Node::All(PosList::from_vec(below)))
 }

@@ -4,15 +4,11 @@
 //! The search and the text of tables stand on this crate.
 #![tactic(auto)]
 
-mod builder;
-mod distinct;
-mod groups;
 mod join;
 mod keywords;
 mod lists;
 mod normal;
 mod single;
-mod values;
 
 pub use join::join_tables;
 pub use normal::normalise;

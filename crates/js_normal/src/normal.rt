@@ -4,10 +4,9 @@
 //! nodes are made side by side and put together at the end, so nothing is moved. A node's rank is that of its entry,
 //! and among an entry's nodes its number; the entry itself lies above its nodes.
 
-ghost use Rattle.std.specs.Prelude.{◌≡◌, ◌+◌, ◌-◌, ◌^◌, ◌<◌, ◌≤◌, ◌++◌, [], true, map, length, IfOk, OnOk};
+ghost use Rattle.std.specs.Prelude.{◌≡◌, ◌^◌, ◌<◌, ◌++◌, [], true, length, IfOk, OnOk};
 ghost use Rattle.documents.specs.Document.{Document, is_document};
 ghost use Rattle.patterns.specs.Decision.{finds};
-ghost use Rattle.schemas.specs.Guarded.{edges, are_ranks};
 ghost use Rattle.schemas.specs.Schema.{form_in_range};
 ghost use Rattle.draft06.specs.EntryValidity.{entry_valid};
 ghost use Rattle.positions.specs.Holds.{holds};
@@ -15,73 +14,68 @@ ghost use Rattle.positions.specs.Position.{is_table};
 ghost use Rattle.normal_forms.specs.NormalForm as N;
 ghost use Rattle.js_algebra.specs.View.{node_view};
 ghost use Rattle.js_schema.specs.View.{form_view};
-ghost use Rattle.js_schema.specs.SchemaView.{schema_view};
+ghost use Rattle.js_guard.specs.RankedView.{entries_of};
 ghost use Rattle.js_normal.specs.PatternTrees.{tree_of};
-ghost use Rattle.js_normal.specs.Tables.{counted, made_of, with_entry};
+ghost use Rattle.js_values.specs.Runs.{empty, next, run, with_named};
+ghost use Rattle.js_normal.specs.Tables.{made_of, with_entry};
 
-use crate::builder::Builder;
 use crate::keywords::keyword_nodes;
 use js_algebra::{Core, Node, NodeList, Pos, PosList, RankList};
 use js_doc::Memory;
-use js_guard::Ranks;
-use js_schema::{Form, Schema};
+use js_guard::RankedSchema;
+use js_schema::Form;
+use js_values::Sink;
 use std::alloc::Global;
 
-/// The core table of a schema whose entries have these ranks. Position `e` is that of entry `e`, so position 0 is the
-/// schema itself. It takes time and memory in proportion to the schema, and to a copy of the names and patterns beside
-/// each `additionalProperties`.
-pub fn normalise(alloc: Global, schema: &Schema, ranks: &Ranks) -> Result<Core, Memory>
-    requires { are_ranks (edges (schema_view schema.now)) ranks.now ≡ true }
-    ensures positions { IfOk result (λ c. c.positions ≡ N.table_of tree_of (schema_view schema.now)) }
-    ensures ranks { IfOk result (λ c. c.ranks ≡ N.ranks_of tree_of (schema_view schema.now) ranks.now) }
+/// The core table of a schema. Position `e` is that of entry `e`, so position 0 is the schema itself. It takes time and
+/// memory in proportion to the schema, and to a copy of the names and patterns beside each `additionalProperties`.
+pub fn normalise(alloc: Global, schema: &RankedSchema) -> Result<Core, Memory>
+    ensures positions { IfOk result (λ c. c.positions ≡ N.table_of tree_of (entries_of schema.now)) }
+    ensures ranks { IfOk result (λ c. c.ranks ≡ N.ranks_of tree_of (entries_of schema.now) schema.now.ranks) }
     ensures small { IfOk result (λ c. length c.positions < 2 ^ 31) }
     ensures valid { IfOk result (λ c. (J : Document) → is_document J ≡ true → holds c.positions 0 J
-        ≡ entry_valid (λ t. finds (tree_of t)) (schema_view schema.now) 0 J) }
+        ≡ entry_valid (λ t. finds (tree_of t)) (entries_of schema.now) 0 J) }
 {
-    let mut parts = Parts::new(alloc, schema.len());
-    for entry in 0..schema.len() {
-        parts.add_entry(alloc, schema.form(entry), ranks.rank(entry))?;
+    let table = &schema.table;
+    let mut parts = Parts::new(alloc, table.len());
+    for entry in 0..table.len() {
+        parts.add_entry(table.form(entry), schema.ranks.rank(entry))?;
     }
     parts.into_core(alloc)
 }
 
-/// The positions of some entries, and the nodes that these need, with their ranks.
+/// The positions of some entries with their ranks, and the nodes that these need.
 #[derive(Drop)]
 pub(crate) struct Parts {
     entries: Vec<Node>,
-    entry_ranks: Vec<u64>,
-    builder: Builder,
-    node_ranks: Vec<u64>,
+    ranks: Vec<u64>,
+    sink: Sink,
 }
 
 impl Parts {
     /// Nothing yet, for so many entries.
     fn new(alloc: Global, count: u32) -> Parts
-        ensures first { result.builder.first ≡ count }
         ensures entries { result.entries.items ≡ [] }
-        ensures nodes { result.builder.nodes.items ≡ [] }
-        ensures entry_ranks { result.entry_ranks.items ≡ [] }
-        ensures node_ranks { result.node_ranks.items ≡ [] }
+        ensures ranks { result.ranks.items ≡ [] }
+        ensures sink { result.sink ≡ empty count }
     {
         Parts {
             entries: Vec::new(alloc),
-            entry_ranks: Vec::new(alloc),
-            builder: Builder::new(alloc, count),
-            node_ranks: Vec::new(alloc),
+            ranks: Vec::new(alloc),
+            sink: Sink::new(alloc, count),
         }
     }
 
     /// Adds an entry with its nodes.
-    fn add_entry(&mut self, alloc: Global, form: &Form, rank: u32) -> Result<(), Memory>
+    fn add_entry(&mut self, form: &Form, rank: u32) -> Result<(), Memory>
         requires { form_in_range (form_view form.now) ≡ true }
         ensures { OnOk result (made_of self.new ≡ with_entry (form_view form.now) rank (made_of self.old)) }
     {
-        let from = self.builder.next()?;
-        let entry = entry_node(alloc, form, &mut self.builder)?;
-        let to = self.builder.next()?;
+        self.sink.begin_entry(rank);
+        let entry = entry_node(form, &mut self.sink)?;
         self.entries.push(entry)?;
-        self.entry_ranks.push(entry_rank(rank))?;
-        add_ranks(rank, from, to, &mut self.node_ranks)
+        self.ranks.push(entry_rank(rank))?;
+        Ok(())
     }
 
     /// The table of the entries and then the nodes.
@@ -94,44 +88,38 @@ impl Parts {
     {
         let Parts {
             mut entries,
-            mut entry_ranks,
-            builder,
-            mut node_ranks,
+            mut ranks,
+            sink,
         } = self;
-        entries.append(&mut builder.into_nodes())?;
-        entry_ranks.append(&mut node_ranks)?;
-        let nodes = NodeList::from_vec(entries);
-        Core::make(alloc, nodes, RankList::from_vec(entry_ranks))
+        let (mut nodes, mut node_ranks) = sink.into_nodes_and_ranks();
+        entries.append(&mut nodes)?;
+        ranks.append(&mut node_ranks)?;
+        Core::make(
+            alloc,
+            NodeList::from_vec(entries),
+            RankList::from_vec(ranks),
+        )
     }
 }
 
 /// What an entry is, once its nodes are made.
-fn entry_node(alloc: Global, form: &Form, builder: &mut Builder) -> Result<Node, Memory>
-    requires { form_in_range (form_view form.now) ≡ true }
-    ensures entry { IfOk result (λ n. node_view n ≡ N.entry_position tree_of (form_view form.now)
-        (N.form_nodes tree_of (form_view form.now) (builder.old.first + length builder.old.nodes.items))) }
-    ensures first { OnOk result (builder.new.first ≡ builder.old.first) }
-    ensures nodes { OnOk result (map node_view builder.new.nodes.items ≡ map node_view builder.old.nodes.items
-        ++ (N.form_nodes tree_of (form_view form.now)
-        (builder.old.first + length builder.old.nodes.items)).added) }
+fn entry_node(form: &Form, sink: &mut Sink) -> Result<Node, Memory>
+    requires form { form_in_range (form_view form.now) ≡ true }
+    requires named { sink.old.named ≡ [] }
+    ensures entry { IfOk result (λ n. node_view n
+        ≡ N.entry_position tree_of (form_view form.now) (N.form_nodes tree_of (form_view form.now) (next sink.old))) }
+    ensures nodes { OnOk result
+        (sink.new ≡ with_named [] (run (N.form_nodes tree_of (form_view form.now)) sink.old)) }
 {
     match form {
         Form::Always => Ok(Node::True),
         Form::Never => Ok(Node::False),
         Form::Ref(entry) => Ok(Node::Same(Pos(*entry))),
         Form::Keywords(keywords) => {
-            let mut named = Vec::new(alloc);
-            keyword_nodes(alloc, keywords, builder, &mut named)?;
-            Ok(Node::All(PosList::from_vec(named)))
+            keyword_nodes(keywords, sink)?;
+            Ok(Node::All(PosList::from_vec(sink.take_named())))
         }
     }
-}
-
-/// The rank of an entry's node.
-fn node_rank(rank: u32, number: u32) -> u64
-    ensures { result ≡ N.node_rank rank number }
-{
-    u64::from(rank) * 4_294_967_296 + u64::from(number)
 }
 
 /// The rank of an entry, above its nodes.
@@ -139,15 +127,4 @@ fn entry_rank(rank: u32) -> u64
     ensures { result ≡ N.entry_rank rank }
 {
     u64::from(rank) * 4_294_967_296 + 4_294_967_295
-}
-
-/// Adds the ranks of nodes with numbers from `from` up to `to`.
-fn add_ranks(rank: u32, from: u32, to: u32, ranks: &mut Vec<u64>) -> Result<(), Memory>
-    requires { from ≤ to }
-    ensures { OnOk result (ranks.new.items ≡ ranks.old.items ++ counted rank from (to - from)) }
-{
-    for number in from..to {
-        ranks.push(node_rank(rank, number))?;
-    }
-    Ok(())
 }

@@ -12,16 +12,15 @@ ghost use Rattle.normal_forms.specs.KeywordNodes as W;
 ghost use Rattle.js_algebra.specs.View.{node_view, kind_view, pattern_view};
 ghost use Rattle.js_keywords.specs.TypeView.{type_view};
 ghost use Rattle.js_schema.specs.Patterns.{source_of};
-ghost use Rattle.js_normal.specs.Runs.{run};
-ghost use Rattle.js_normal.specs.BuilderView.{state_of};
+ghost use Rattle.js_values.specs.Runs.{run};
 ghost use Rattle.js_normal.specs.PatternTrees.{tree_of};
 
-use crate::builder::Builder;
 use crate::lists::positions;
 use js_algebra::{JsonKind, KindList, Node, Pattern, Pos};
 use js_doc::Memory;
 use js_keywords::TypeName;
 use js_schema::{EntryList, PatternText, TypeList};
+use js_values::Sink;
 use std::alloc::Global;
 
 /// The kinds, in the order in which they are always taken.
@@ -35,16 +34,11 @@ const KINDS: [JsonKind; 6] = [
 ];
 
 /// Appends a node where there is one.
-pub(crate) fn optional(
-    node: Option<Node>,
-    builder: &mut Builder,
-    named: &mut Vec<Pos>,
-) -> Result<(), Memory>
-    ensures { OnOk result (state_of builder.new named.new.items
-        ≡ run (M.if_some M.node (option_map node_view node)) (state_of builder.old named.old.items)) }
+pub(crate) fn optional(node: Option<Node>, sink: &mut Sink) -> Result<(), Memory>
+    ensures { OnOk result (sink.new ≡ run (M.if_some M.node (option_map node_view node)) sink.old) }
 {
     match node {
-        Some(node) => builder.push(node, named),
+        Some(node) => sink.push(node),
         None => Ok(()),
     }
 }

@@ -9,7 +9,7 @@ use Rattle.js_doc.specs.declared.json.Json as JJ
 use Rattle.js_doc.specs.declared.json.Json.TheVariants as JV
 use Rattle.js_doc.specs.JsonView.{view}
 use Rattle.js_keywords.specs.Reading.{rules}
-use Rattle.js_walk.specs.Table.{Leads}
+use Rattle.js_pointers.specs.Table.{Leads}
 use Rattle.js_walk.specs.PlacesView.{RefersTo}
 use Rattle.js_schema.specs.declared.numbers.Numbers.{Numbers}
 use Rattle.js_schema.specs.NumbersView.{numbered, pointers_in}

@@ -2,7 +2,7 @@
 use Rattle.std.proofs.Common.{◌≡◌, ℕ, List, [], ◌∷◌, ◌++◌, Option, sym, ap, subst, ◌∙◌}
 use Rattle.schemas.specs.Places.{Pointer}
 use Rattle.schemas.specs.Entries.{number_of}
-use Rattle.js_walk.specs.Table.{Leads}
+use Rattle.js_pointers.specs.Table.{Leads}
 use Rattle.js_schema.specs.declared.numbers.Numbers.{Numbers}
 use Rattle.js_schema.specs.NumbersView.{numbered, pointers_in}
 

@@ -2,7 +2,7 @@
 use Rattle.std.specs.Prelude.{ℕ, List, Option, Some, None}
 use Rattle.std.proofs.Props.{props}
 use Rattle.schemas.specs.Places.{Pointer}
-use Rattle.js_walk.specs.Table.{Leads}
+use Rattle.js_pointers.specs.Table.{Leads}
 
 pub Leads-prop : (ps : List Pointer) (o : Option ℕ) (p : Pointer) → IsProp (Leads ps o p)
 Leads-prop ps (Some n) p = Prim.hlevel props

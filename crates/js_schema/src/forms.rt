@@ -1,7 +1,7 @@
 //! What a place of a schema accepts, as the form of its entry.
 //!
-//! It takes time and memory in proportion to the object, and two look-ups for each schema in it. Where a reference leads
-//! is known from the walk.
+//! It takes time and memory in proportion to the object, and two look-ups for each schema in it. Where a reference
+//! leads is known from the walk.
 
 ghost use Rattle.std.specs.Prelude.{◌≡◌, ◌<◌, None, Some, length, IfOk};
 ghost use Rattle.documents.specs.Json as D;

@@ -6,7 +6,7 @@ ghost use Rattle.std.specs.Prelude.{◌≡◌, ◌++◌, ◌∷◌, [], chars, I
 ghost use Rattle.schemas.specs.Places.{index_token};
 ghost use Rattle.schemas.specs.Entries.{number_of};
 ghost use Rattle.js_keywords.specs.Names.{keyword_name};
-ghost use Rattle.js_walk.specs.Table.{Leads};
+ghost use Rattle.js_pointers.specs.Table.{Leads};
 ghost use Rattle.js_schema.specs.LeadsProp.{Leads-prop};
 ghost use Rattle.js_schema.specs.NumbersView.{numbered, pointers_in};
 ghost use Rattle.js_schema.specs.ObjectView.{numbers_of, place_of};
@@ -23,8 +23,8 @@ pub(crate) struct KeywordPlace<'a> {
     keyword: Keyword,
     pointer: Option<u32>,
     ghost leads: { Leads (pointers_in (numbers_of object.now)) pointer
-        (place_of object.now ++ keyword_name keyword ∷ []) } by { Leads-prop (pointers_in (numbers_of object.now)) pointer
-            (place_of object.now ++ keyword_name keyword ∷ []) },
+        (place_of object.now ++ keyword_name keyword ∷ []) } by { Leads-prop (pointers_in (numbers_of object.now))
+            pointer (place_of object.now ++ keyword_name keyword ∷ []) },
 }
 
 impl<'a> KeywordPlace<'a> {

@@ -1,7 +1,7 @@
 //! All keywords of an object, read in groups.
 //!
-//! Each field takes a binary search among the members, and then what its value takes. A group without a keyword takes no
-//! memory: it is that of an object without members.
+//! Each field takes a binary search among the members, and then what its value takes. A group without a keyword takes
+//! no memory: it is that of an object without members.
 
 ghost use Rattle.std.specs.Prelude.{◌≡◌, true, map, codes, option_map, option_and_then, IfOk};
 ghost use Rattle.documents.specs.Document as D;
@@ -50,7 +50,8 @@ pub(crate) fn keywords(
 ) -> Result<Rc<Keywords>, Memory>
     requires { HasNone none.now.value }
     ensures { IfOk result (λ k. keywords_view k.value
-        ≡ E.keywords_of (E.number_of (numbered (numbers_of object.now))) (place_of object.now) (members_of object.now)) }
+        ≡ E.keywords_of (E.number_of (numbered (numbers_of object.now))) (place_of object.now)
+        (members_of object.now)) }
 {
     if object.is_empty() {
         Ok(none.clone()?)
@@ -63,7 +64,8 @@ pub(crate) fn keywords(
 fn read_keywords(alloc: Global, none: &Keywords, object: &Object) -> Result<Keywords, Memory>
     requires { HasNone none.now }
     ensures { IfOk result (λ k. keywords_view k
-        ≡ E.keywords_of (E.number_of (numbered (numbers_of object.now))) (place_of object.now) (members_of object.now)) }
+        ≡ E.keywords_of (E.number_of (numbered (numbers_of object.now))) (place_of object.now)
+        (members_of object.now)) }
 {
     let any = read_any(alloc, object)?;
     let numbers = read_numbers(object);

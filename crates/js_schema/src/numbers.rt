@@ -4,12 +4,13 @@ ghost use Rattle.std.specs.Prelude.{◌≡◌, ◌≤◌, ◌<◌, ◌++◌, ◌
 ghost use Rattle.schemas.specs.Places.{Pointer, index_token};
 ghost use Rattle.schemas.specs.Entries.{number_of};
 ghost use Rattle.js_doc.specs.JsonView.{view};
-ghost use Rattle.js_walk.specs.PointersView.{pointers_of};
-ghost use Rattle.js_walk.specs.Table.{Leads};
+ghost use Rattle.js_pointers.specs.PointersView.{pointers_of};
+ghost use Rattle.js_pointers.specs.Table.{Leads};
 ghost use Rattle.js_walk.specs.PlacesView.{places_view};
 
 use js_doc::{Json, Memory};
-use js_walk::{Places, Pointers};
+use js_pointers::Pointers;
+use js_walk::Places;
 
 /// All places of a schema. There are few enough for 32 bits.
 #[derive(Drop)]

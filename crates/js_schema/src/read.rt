@@ -79,7 +79,8 @@ fn entry<'a>(
     requires number { number < length (numbered numbers.now) }
     ensures placed { IfOk result (λ e. e.pointer < length (pointers_in numbers.now)) }
     ensures entry { IfOk result (λ e. entry_view (pointers_in numbers.now) e ≡ get_or
-        (E.entries_at rules (root_of file.now) (numbered numbers.now)) number (entry_view (pointers_in numbers.now) e)) }
+        (E.entries_at rules (root_of file.now) (numbered numbers.now)) number
+        (entry_view (pointers_in numbers.now) e)) }
 {
     let (pointer, value) = numbers.place(number);
     let target = numbers.target(number);

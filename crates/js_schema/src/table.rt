@@ -4,13 +4,13 @@
 
 ghost use Rattle.std.specs.Prelude.{◌≡◌, true, map};
 ghost use Rattle.schemas.specs.Schema.{is_table};
-ghost use Rattle.js_walk.specs.PointersView.{pointers_of};
+ghost use Rattle.js_pointers.specs.PointersView.{pointers_of};
 ghost use Rattle.js_schema.specs.View.{are_placed, entry_view};
 
 use crate::entry::{Entry, Form};
 use js_doc::Memory;
 use js_json::Pointer;
-use js_walk::Pointers;
+use js_pointers::Pointers;
 use std::alloc::Global;
 
 /// A table of entries. Entry 0 is the root, each entry that is named is there, and each number has its range.
@@ -25,7 +25,7 @@ pub struct Schema {
 impl Schema {
     ghost use Rattle.std.specs.Prelude.{◌≡◌, ◌<◌, length, map, get_or, true, IfOk};
     ghost use Rattle.schemas.specs.Schema.{is_table};
-    ghost use Rattle.js_walk.specs.PointersView.{pointers_of};
+    ghost use Rattle.js_pointers.specs.PointersView.{pointers_of};
     ghost use Rattle.js_schema.specs.View.{are_placed, entry_view, form_view};
     ghost use Rattle.js_schema.specs.SchemaView.{schema_view};
 

@@ -9,3 +9,4 @@ pub mod ListReading
 pub mod NumberReading
 pub mod PartReading
 pub mod TableReading
+pub mod ToldLemmas

@@ -5,3 +5,4 @@ pub mod Kept
 pub mod Summed
 pub mod Commas
 pub mod Reads
+pub mod Scalars

@@ -19,7 +19,7 @@ pub fn doc_text(alloc: Global, doc: &Doc) -> Result<Vec<u8>, Memory>
 }
 
 #[cycle(push_doc)]
-fn push_doc(alloc: Global, out: &mut String, doc: &Doc) -> Result<(), Memory>
+pub(crate) fn push_doc(alloc: Global, out: &mut String, doc: &Doc) -> Result<(), Memory>
     ensures { OnOk result (string_bytes out.new ≡ string_bytes out.old ++ document_text (view doc.now)) }
 {
     match doc {

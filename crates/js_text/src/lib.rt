@@ -7,14 +7,17 @@
 #![tactic(auto)]
 
 mod document;
+mod found;
 mod measures;
 mod part_reader;
 mod scalars;
 mod scanner;
 mod table;
 mod table_reader;
+mod told;
 
 pub use document::doc_text;
+pub use found::found_text;
 pub use measures::{Measure, Measures};
 pub use table::parts_text;
 pub use table_reader::{PartsLineFault, parts_read};

@@ -1,6 +1,6 @@
 //! Texts of a small table and of its documents, what is measured of them, and which texts are read.
 
-use crate::{Measures, PartsLineFault, doc_text, parts_read, parts_text};
+use crate::{Measures, PartsLineFault, doc_text, found_text, parts_read, parts_text};
 use js_doc::{Part, PartId, PartIds, PartMap, PartMember, Parts, Str, unshare};
 use std::alloc::Global;
 use std::test::Fail;
@@ -116,4 +116,55 @@ fn lines_that_are_told(rt: HostRuntime) -> Result<(), Fail> {
         assert!(rt; fault == Some(PartsLineFault::NotAPart(*line)));
     }
     Ok(())
+}
+
+/// The document of the last part is printed by that text.
+fn is_found(alloc: Global, parts: &Parts, text: &str) -> Result<bool, Fail> {
+    let count = parts.len();
+    if count == 0 {
+        return Ok(false);
+    }
+    let written = found_text(alloc, parts, PartId(count - 1))?;
+    Ok(written.as_slice() == text.as_bytes())
+}
+
+/// A number alone.
+fn of_number(alloc: Global, number: i128) -> Result<Parts, Fail> {
+    let mut parts = Parts::new(alloc);
+    let _ = parts.push(Part::Num(number))?;
+    Ok(parts)
+}
+
+/// An array in an array, so many deep.
+fn nest(alloc: Global, depth: usize) -> Result<Parts, Fail> {
+    let mut parts = Parts::new(alloc);
+    let mut last = parts.push(Part::List(PartIds::from_vec(vec![in alloc;]?)))?;
+    for _ in 1..depth {
+        last = parts.push(Part::List(PartIds::from_vec(vec![in alloc; last]?)))?;
+    }
+    Ok(parts)
+}
+
+#[test]
+fn texts_of_what_is_found(rt: HostRuntime) -> Result<(), Fail> {
+    let alloc = rt.alloc();
+    let plain = "document\n{\"é\\n\":[-5,[]]}\n";
+    assert!(rt; is_found(alloc, &table(alloc)?, plain)?);
+    let greatest = of_number(alloc, 18446744073709551615)?;
+    assert!(rt; is_found(alloc, &greatest, "document\n18446744073709551615\n")?);
+    let greater = of_number(alloc, 18446744073709551616)?;
+    assert!(rt; is_found(alloc, &greater, "parts 1\n0 18446744073709551616\n")?);
+    let deep = found_of(alloc, &nest(alloc, 121)?)?;
+    assert!(rt; deep.starts_with(b"parts 121\n0 []\n1 [#0]\n"));
+    let shallow = found_of(alloc, &nest(alloc, 120)?)?;
+    assert!(rt; shallow.starts_with(b"document\n[[["));
+    Ok(())
+}
+
+fn found_of(alloc: Global, parts: &Parts) -> Result<Vec<u8>, Fail> {
+    let count = parts.len();
+    if count == 0 {
+        return Ok(Vec::new(alloc));
+    }
+    Ok(found_text(alloc, parts, PartId(count - 1))?)
 }

@@ -1,6 +1,6 @@
 -- Worked examples of reports, each computed from the definitions.
 use Rattle.std.specs.Fmt.{digits}
-use Rattle.std.specs.Prelude.{◌≡◌, ℕ, zero, suc, List, [], ◌∷◌, ◌++◌, flat_map, None, pos, true, false, refl, codes}
+use Rattle.std.specs.Prelude.{◌≡◌, ℕ, zero, suc, List, [], ◌∷◌, ◌++◌, flat_map, Some, None, pos, true, false, refl, codes}
 use Rattle.documents.specs.Kind.{Kind, Null, Boolean, Number, Text, Array, Object}
 use Rattle.documents.specs.Json as J
 use Rattle.documents.specs.Json.{Json}
@@ -13,32 +13,71 @@ use Rattle.goals.specs.Signed.{Plus, Minus}
 use Rattle.goals.specs.Goal.{follow}
 use Rattle.goals.specs.Tree.{steps}
 use Rattle.js_json.proofs.OnTexts.{json_on_texts}
-use Rattle.js_decide.specs.Verdict.{Document, Certificate}
+use Rattle.shared_documents.specs.Part as Part
+use Rattle.shared_documents.specs.Unshared.{unshared}
+use Rattle.alternatives.specs.Limit as L
+use Rattle.decisions.specs.Decision as D
+use Rattle.js_plain.specs.Verdict.{Document, Certificate, Limit}
 use Rattle.certificates.specs.Line.{Line, Version, Goals, Goal, Entry, At, Rule, OfKind, End}
 use Rattle.certificates.specs.TreeLines.{written}
+use Rattle.js_inclusion.specs.Comparison.{Plain, Searched}
 use Rattle.js_commands.specs.IncludeOutcome.{SecondRefused, ReadFault, of_values}
 use Rattle.js_top.specs.Accepting.{IsAccepted}
-use Rattle.js_top.specs.Report.{Report, verdict_report, compared_report}
+use Rattle.js_top.specs.Report.{Report, answer_report, compared_report}
 use Rattle.js_top.specs.declared.status.Status.TheVariants as S
 
-text_document : verdict_report (Document Text) ≡ record { text = codes "document\n\"\"\n"; status = S.Other }
+text_document : answer_report false (Plain (Document Text))
+    ≡ record { text = codes "document\n\"\"\n"; status = S.Other }
 text_document = refl
 
-no_goals : verdict_report (Certificate (written [] None)) ≡ record
+-- `sat` asks for a document
+text_document_of_sat : answer_report true (Plain (Document Text))
+    ≡ record { text = codes "document\n\"\"\n"; status = S.Done }
+text_document_of_sat = refl
+
+no_goals : answer_report false (Plain (Certificate (written [] None))) ≡ record
     { text = codes "certificate 1\ngoals 0\nend\n"; status = S.Done }
 unfolding digits
 no_goals = refl
 
-refused_second : compared_report (SecondRefused (codes "notjson"))
+many_ends : answer_report false (Plain (Limit (Plus 0 ∷ Minus 2 ∷ []))) ≡ record
+    { text = codes "limit branches +0 -2\n"; status = S.Limit }
+unfolding digits
+many_ends = refl
+
+no_document : answer_report true (Searched D.NoDocument) ≡ record { text = codes "nodocument\n"; status = S.Other }
+no_document = refl
+
+limit_of_a_goal : answer_report true (Searched (D.Limit L.Multiples (Some (Plus 0 ∷ [])))) ≡ record
+    { text = codes "limit multiples +0\n"; status = S.Limit }
+unfolding digits
+limit_of_a_goal = refl
+
+limit_of_all_goals : answer_report false (Searched (D.Limit L.Total None)) ≡ record
+    { text = codes "limit total\n"; status = S.Limit }
+limit_of_all_goals = refl
+
+found_plain : answer_report true (Searched (D.Document (Part.number (pos 6) ∷ []) 0)) ≡ record
+    { text = codes "document\n6\n"; status = S.Done }
+unfolding digits unshared
+found_plain = refl
+
+-- a number of more than 64 bits is printed as a table of one part
+found_as_parts : answer_report true (Searched (D.Document (Part.number (pos 18446744073709551616) ∷ []) 0)) ≡ record
+    { text = codes "parts 1\n0 18446744073709551616\n"; status = S.Done }
+unfolding digits unshared
+found_as_parts = refl
+
+refused_second : compared_report false (SecondRefused (codes "notjson"))
     ≡ record { text = codes "refused second notjson\n"; status = S.Refused }
 refused_second = refl
 
-missing_file : compared_report ReadFault ≡ record { text = codes "readfault\n"; status = S.ReadFault }
+missing_file : compared_report false ReadFault ≡ record { text = codes "readfault\n"; status = S.ReadFault }
 missing_file = refl
 
 -- the report of `include` on two schemas that are read
 answer : Json → Json → Report
-answer a b = compared_report (of_values a b)
+answer a b = compared_report false (of_values a b)
 
 everything_in_nothing : answer (J.object J.no_members) (J.boolean false) ≡ record
     { text = codes "document\nnull\n"; status = S.Other }
@@ -51,8 +90,8 @@ unfolding answer places walk shape_of table_of follow steps digits
 everything_in_itself = refl
 
 -- the first place that isn't decided on
-first_is_refused : answer (J.object (J.member (codes "minimum") (J.number (pos 1)) J.no_members)) (J.boolean true)
-    ≡ record { text = codes "refused first notyet \"/minimum\"\n"; status = S.Refused }
+first_is_refused : answer (J.object (J.member (codes "minProperties") (J.number (pos 1)) J.no_members)) (J.boolean true)
+    ≡ record { text = codes "refused first notyet \"/minProperties\"\n"; status = S.Refused }
 unfolding answer json_on_texts places walk shape_of
 first_is_refused = refl
 

@@ -1,52 +1,80 @@
 -- What a report on files says: of the two schemas where it is a verdict, and of the first refusal.
-use Rattle.std.proofs.Common.{◌≡◌, ◌⊎◌, inl, inr, ℕ, List, [], ◌∷◌, ◌++◌, Bool, true, false, Option, Some, None, codes, refl, ap, sym, ◌∙◌, subst, arith}
+use Rattle.std.proofs.Common.{◌≡◌, ◌⊎◌, inl, inr, ℕ, List, [], ◌∷◌, ◌++◌, Bool, true, false, is_none, Option, Some, None, codes, refl, ap, sym, ◌∙◌, subst, arith}
 use Rattle.std.specs.Prelude.{IsSome}
-use Rattle.documents.specs.Json.{Json}
+use Rattle.documents.specs.Json.{Json, boolean}
 use Rattle.js_outside.specs.Counts.{Rose, Stays}
 use Rattle.js_outside.specs.Told.{Files}
-use Rattle.js_decide.specs.Verdict.{Verdict, Document, Limit, Certificate, verdict}
-use Rattle.js_words.specs.Commands.{Command, Include, Valid, Norm, command}
-use Rattle.js_inclusion.specs.Comparison.{both, second_root}
+use Rattle.js_words.specs.Commands.{Command, Sat, Include, Valid, Norm, command}
+use Rattle.js_input.specs.SchemaReading.{Read, IsSchemaReading}
+use Rattle.js_inclusion.specs.Comparison.{Answer}
 use Rattle.js_commands.specs.IncludeOutcome as Compared
-use Rattle.js_commands.specs.ReadEntries.{entries_read}
 use Rattle.js_commands.specs.IncludeOutcome.{IsComparison}
-use Rattle.js_commands.specs.IncludeMeaning.{AreSchemas, IsDecided, MeansFor}
+use Rattle.js_commands.specs.IncludeMeaning.{IsSecond, AreSchemas, AreDecidedOn, answer_of, ValuesTell, IsDecided, MeansFor}
 use Rattle.js_commands.proofs.IncludeMeaningLaws.{told-values, told-same, decided-values, first-refusal, second-refusal}
 use Rattle.js_commands.specs.NormOutcome as N
 use Rattle.js_commands.specs.ValidOutcome as V
 use Rattle.js_commands.specs.ValidOutcome.{Outcome}
-use Rattle.js_top.specs.Names.{of_include, include_names, IsInclude}
-use Rattle.js_top.specs.Report.{Report, printed, verdict_report, compared_report, IsIncludeReport, IsReportOf, outcome_report, listed_report, IsReport}
-use Rattle.js_top.specs.Meaning.{AreNamed, WhereTold, PassLimit, IsCertificate, Settles, IsRefusal}
-use Rattle.js_top.specs.Accepting.{IsAcceptedFor}
+use Rattle.js_report.specs.Lines.{line}
+use Rattle.js_top.specs.Names.{of_sat, of_include, of_compared, sat_name, compared_names, IsSat, IsInclude, IsCompared}
+use Rattle.js_top.specs.Report.{Report, printed, answer_text, finding_of, finding_status, answer_report, compared_report, IsReadBack, IsOutcomeReadBack, IsComparedReport, IsReportOf, outcome_report, listed_report, IsReport}
+use Rattle.js_top.specs.Meaning.{AreNamed, WhereTold, PassLimit, IsCounterexample, IsGoodText, IsInclusion, IsLimit, Settles, IsAsked, IsWitness, IsRefutation, IsRefusal}
+use Rattle.js_top.specs.Accepting.{IsAcceptedAgainst, IsAcceptedFor}
 use Rattle.js_top.specs.Preparing.{report_of, PreparedSays}
+use Rattle.js_top.specs.declared.finding.Finding.{Finding}
+use Rattle.js_top.specs.declared.finding.Finding.TheVariants as F
 use Rattle.js_top.specs.declared.prepare.Prepared.{Prepared}
 use Rattle.js_top.specs.declared.prepare.Prepared.TheVariants.{Usage, ReadFault, Made}
 use Rattle.js_top.specs.declared.status.Status.{Status}
 use Rattle.js_top.specs.declared.status.Status.TheVariants as S
-use Rattle.js_top.proofs.MeaningLaws.{IsVerdict, VerdictTells, OfStatus, verdict_report-means, verdict_report-settles, passes-report}
+use Rattle.js_top.proofs.MeaningLaws.{finding_in, Shows, status-shows, passes-report, answer-settles, counterexample-witness, inclusion-refutation}
 
--- the two names of `include`
-names_of : (words : List (List ℕ)) → IsInclude words
-    → (a : List ℕ) × (b : List ℕ) × (include_names words ≡ Some (a, b))
-names_of words include = go (include_names words) refl include where
-  go : (o : Option (List ℕ × List ℕ)) → include_names words ≡ o → IsSome o
-      → (a : List ℕ) × (b : List ℕ) × (include_names words ≡ Some (a, b))
-  go (Some (a, b)) e i = (a, b, e)
+-- the names of what is compared
+
+compared_of : (words : List (List ℕ)) → IsCompared words
+    → (a : List ℕ) × (second : Option (List ℕ)) × (compared_names words ≡ Some (a, second))
+compared_of words compared = go (compared_names words) refl compared where
+  go : (o : Option (List ℕ × Option (List ℕ))) → compared_names words ≡ o → IsSome o
+      → (a : List ℕ) × (second : Option (List ℕ)) × (compared_names words ≡ Some (a, second))
+  go (Some (a, second)) e i = (a, second, e)
   go None e i = cc
 
--- the report of these words is that of `include`
-report-include : (told : Option Files) (words : List (List ℕ)) (r : Report) (a b : List ℕ)
-    → include_names words ≡ Some (a, b) → IsReport told words r → IsIncludeReport told a b r
-report-include told words r a b named is = go (command words) named is where
-  go : (c : Option Command) → of_include c ≡ Some (a, b) → IsReportOf told c r → IsIncludeReport told a b r
+compared-include : (words : List (List ℕ)) → IsInclude words
+    → (a : List ℕ) × (b : List ℕ) × (compared_names words ≡ Some (a, Some b))
+compared-include words include = go (command words) include where
+  go : (c : Option Command) → IsSome (of_include c)
+      → (a : List ℕ) × (b : List ℕ) × (of_compared c ≡ Some (a, Some b))
+  go None i = cc
+  go (Some (Sat a)) i = cc
+  go (Some (Include a b)) i = (a, b, refl)
+  go (Some (Valid a d)) i = cc
+  go (Some (Norm a)) i = cc
+
+compared-sat : (words : List (List ℕ)) → IsSat words
+    → (a : List ℕ) × (sat_name words ≡ Some a) × (compared_names words ≡ Some (a, None))
+compared-sat words sat = go (command words) sat where
+  go : (c : Option Command) → IsSome (of_sat c) → (a : List ℕ) × (of_sat c ≡ Some a) × (of_compared c ≡ Some (a, None))
+  go None i = cc
+  go (Some (Sat a)) i = (a, refl, refl)
+  go (Some (Include a b)) i = cc
+  go (Some (Valid a d)) i = cc
+  go (Some (Norm a)) i = cc
+
+-- the report of these words is that of a comparison
+report-compared : (told : Option Files) (words : List (List ℕ)) (r : Report) (a : List ℕ) (second : Option (List ℕ))
+    → compared_names words ≡ Some (a, second) → IsReport told words r → IsComparedReport told a second r
+report-compared told words r a second named is = go (command words) named is where
+  go : (c : Option Command) → of_compared c ≡ Some (a, second) → IsReportOf told c r → IsComparedReport told a second r
   go None e is = cc
+  go (Some (Sat x)) e is =
+      let same : ◌≡◌ {A = List ℕ × Option (List ℕ)} (x, None) (a, second) = cc in
+      subst (λ n. IsComparedReport told n.0 n.1 r) same is
+  go (Some (Include x y)) e is =
+      let same : ◌≡◌ {A = List ℕ × Option (List ℕ)} (x, Some y) (a, second) = cc in
+      subst (λ n. IsComparedReport told n.0 n.1 r) same is
   go (Some (Valid x y)) e is = cc
   go (Some (Norm x)) e is = cc
-  go (Some (Include x y)) e is =
-      let same : ◌≡◌ {A = List ℕ × List ℕ} (x, y) (a, b) = cc in subst (λ n. IsIncludeReport told n.0 n.1 r) same is
 
--- the statuses of a verdict, and that of a refusal
+-- the statuses of an answer on two schemas, and that of a refusal
 
 abbrev is_verdict : Status → Bool
 is_verdict S.Done = true
@@ -74,56 +102,74 @@ unlimited_norm (N.Listed text) = refl
 unlimited_norm (N.SchemaRefused words) = refl
 unlimited_norm N.ReadFault = refl
 
--- a limit is a report of `include`
-limit-include : (told : Option Files) (words : List (List ℕ)) (text : List ℕ)
-    → IsReport told words (record { text = text; status = S.Limit }) → IsInclude words
-limit-include told words text is = go (command words) is where
-  go : (c : Option Command) → IsReportOf told c (record { text = text; status = S.Limit }) → IsSome (of_include c)
+-- a limit is a report of a comparison
+limit-compared : (told : Option Files) (words : List (List ℕ)) (text : List ℕ)
+    → IsReport told words (record { text = text; status = S.Limit }) → IsCompared words
+limit-compared told words text is = go (command words) is where
+  go : (c : Option Command) → IsReportOf told c (record { text = text; status = S.Limit }) → IsSome (of_compared c)
   go None is = let wrong = ap (λ s. is_limit s.status) is in cc
+  go (Some (Sat a)) is = refl
   go (Some (Include a b)) is = refl
   go (Some (Valid a d)) (o, v, e) = let wrong = sym (unlimited o) ∙ ap (λ s. is_limit s.status) e in cc
   go (Some (Norm a)) (o, v, e) = let wrong = sym (unlimited_norm o) ∙ ap (λ s. is_limit s.status) e in cc
 
--- a report with the status of a verdict is that of two schemas
-record IsOfSchemas (told : Option Files) (words : List (List ℕ)) (r : Report) : Type 0 where
+-- a report with the status of an answer is that of two schemas
+record IsOfSchemas (told : Option Files) (a : List ℕ) (second : Option (List ℕ)) (r : Report) : Type 0 where
   first : Json
-  second : Json
-  are : AreNamed told words first second
-  v : Verdict
-  is : IsVerdict first second v
-  tells : VerdictTells first second v
-  report : verdict_report v ≡ r
+  other : Json
+  are : AreSchemas told a second first other
+  decided_on : AreDecidedOn first other
+  x : Answer
+  is : answer_of first other ≡ x
+  tells : ValuesTell first other x
+  back : IsReadBack x r.text
+  report : answer_report (is_none second) x ≡ r
 
-module _ (told : Option Files) (words : List (List ℕ)) (r : Report) (a b : List ℕ)
-    (named : include_names words ≡ Some (a, b)) (answers : is_verdict r.status ≡ true) where
-  outcome-schemas : (o : Compared.Outcome) → MeansFor told a b o → compared_report o ≡ r → IsOfSchemas told words r
-  outcome-schemas (Compared.Decided v) of e =
+module _ (told : Option Files) (r : Report) (a : List ℕ) (second : Option (List ℕ))
+    (answers : is_verdict r.status ≡ true) where
+  outcome-schemas : (o : Compared.Outcome) → MeansFor told a second o → IsOutcomeReadBack o r.text
+      → compared_report (is_none second) o ≡ r → IsOfSchemas told a second r
+  outcome-schemas (Compared.Decided x) of back e =
       record {
         first = of.a;
-        second = of.b;
-        are = record { first = a; second = b; named = named; are = of.are; decided_on = of.decided_on };
-        v = v;
+        other = of.b;
+        are = of.are;
+        decided_on = of.decided_on;
+        x = x;
         is = of.is;
         tells = of.tells;
+        back = back;
         report = e;
       }
-  outcome-schemas (Compared.FirstRefused ws) of e = let wrong = ap (λ s. is_verdict s.status) e ∙ answers in cc
-  outcome-schemas (Compared.SecondRefused ws) of e = let wrong = ap (λ s. is_verdict s.status) e ∙ answers in cc
-  outcome-schemas Compared.ReadFault of e = let wrong = ap (λ s. is_verdict s.status) e ∙ answers in cc
+  outcome-schemas (Compared.FirstRefused ws) of back e = let wrong = ap (λ s. is_verdict s.status) e ∙ answers in cc
+  outcome-schemas (Compared.SecondRefused ws) of back e = let wrong = ap (λ s. is_verdict s.status) e ∙ answers in cc
+  outcome-schemas Compared.ReadFault of back e = let wrong = ap (λ s. is_verdict s.status) e ∙ answers in cc
 
 -- what such a report means
-means : (told : Option Files) (words : List (List ℕ)) (text : List ℕ) (status : Status)
-    → IsReport told words (record { text = text; status = status }) → is_verdict status ≡ true → IsInclude words
-    → (a : Json) × (b : Json) × AreNamed told words a b × OfStatus a b status text
-means told words text status is answers include =
-    let (a, b, named) = names_of words include in
-    let (o, comes, meant, e) = report-include told words (record { text = text; status = status }) a b named is in
-    let of = outcome-schemas told words (record { text = text; status = status }) a b named answers o meant e in (
-      of.first,
-      of.second,
-      of.are,
-      verdict_report-means of.first of.second of.v of.tells text status of.report,
-    )
+record Means (told : Option Files) (a : List ℕ) (second : Option (List ℕ)) (status : Status) (text : List ℕ) : Type 0
+  where
+    first : Json
+    other : Json
+    are : AreSchemas told a second first other
+    decided_on : AreDecidedOn first other
+    shows : Shows first other (finding_in (is_none second) status) text
+
+means : (told : Option Files) (words : List (List ℕ)) (text : List ℕ) (status : Status) (a : List ℕ)
+    (second : Option (List ℕ)) → compared_names words ≡ Some (a, second)
+    → IsReport told words (record { text = text; status = status }) → is_verdict status ≡ true
+    → Means told a second status text
+means told words text status a second named is answers =
+    let (o, comes, meant, back, e) =
+    report-compared told words (record { text = text; status = status }) a second named is in
+    let of = outcome-schemas told (record { text = text; status = status }) a second answers o meant back e in
+    record {
+      first = of.first;
+      other = of.other;
+      are = of.are;
+      decided_on = of.decided_on;
+      shows = status-shows of.first of.other (is_none second) status of.x (ap (λ r. r.status) of.report) of.is of.tells
+          text (ap (λ r. r.text) of.report) of.back;
+    }
 
 -- an answer that was prepared is a report
 
@@ -146,28 +192,118 @@ prepared-report told words before after (Made bytes s) text status says t e n =
     subst (λ x. IsReport told words (record { text = x; status = status })) (sym t)
     (subst (λ x. IsReport told words (record { text = bytes.items; status = x })) e says.2)
 
+-- two schemas that the words name, which are decided on, and a fact of them
+abbrev pub Named : Option Files → List (List ℕ) → (Json → Json → Type 0) → Type 0
+Named told words P = (a : Json) × (b : Json) × AreNamed told words a b × P a b
+
+-- a schema that the words of `sat` name
+abbrev pub Asked : Option Files → List (List ℕ) → (Json → Type 0) → Type 0
+Asked told words P = (a : Json) × IsAsked told words a × P a
+
+named_of : (told : Option Files) (words : List (List ℕ)) (a : List ℕ) (second : Option (List ℕ))
+    → compared_names words ≡ Some (a, second) → (status : Status) (text : List ℕ) → Means told a second status text
+    → Named told words (λ x y. Shows x y (finding_in (is_none second) status) text)
+named_of told words a second named status text m = (
+  m.first,
+  m.other,
+  record { first = a; second = second; named = named; are = m.are; decided_on = m.decided_on },
+  m.shows,
+)
+
+asked_of : (told : Option Files) (words : List (List ℕ)) (a : List ℕ) → sat_name words ≡ Some a → (status : Status)
+    (text : List ℕ) → Means told a None status text
+    → Asked told words (λ x. Shows x (boolean false) (finding_in true status) text)
+asked_of told words a named status text m = (
+  m.first,
+  record {
+    name = a;
+    named = named;
+    files = m.are.files;
+    later = m.are.later;
+    are_files = m.are.are_files;
+    is_schema = m.are.is_first;
+    decided_on = m.decided_on.first;
+  },
+  subst (λ y. Shows m.first y (finding_in true status) text) m.are.is_second m.shows,
+)
+
 module _ (told : Option Files) (words : List (List ℕ)) (before after : ℕ) (p : Prepared) (text : List ℕ)
     (says : PreparedSays told words before after p) (t : text ≡ (report_of p).text) where
-  pub prepared-means : (status : Status) → (report_of p).status ≡ status → is_verdict status ≡ true
-      → IsInclude words
-      → (a : Json) × (b : Json) × AreNamed told words a b × OfStatus a b status text
-  prepared-means status e answers include =
-      means told words text status
+  prepared-means : (status : Status) → (report_of p).status ≡ status → is_verdict status ≡ true → (a : List ℕ)
+      (second : Option (List ℕ)) → compared_names words ≡ Some (a, second) → Means told a second status text
+  prepared-means status e answers a second named =
+      means told words text status a second named
       (prepared-report told words before after p text status says t e
-      (λ h. let wrong = sym answers ∙ ap is_verdict h in cc)) answers include
+      (λ h. let wrong = sym answers ∙ ap is_verdict h in cc)) answers
+
+  -- of the words of `include`
+
+  pub prepared-document : (report_of p).status ≡ S.Other → IsInclude words
+      → Named told words (λ a b. IsCounterexample a b text)
+  prepared-document e include =
+      let (a, b, named) = compared-include words include in
+      named_of told words a (Some b) named S.Other text (prepared-means S.Other e refl a (Some b) named)
+
+  pub prepared-inclusion : (report_of p).status ≡ S.Done → IsInclude words
+      → Named told words (λ a b. IsInclusion a b text)
+  prepared-inclusion e include =
+      let (a, b, named) = compared-include words include in
+      named_of told words a (Some b) named S.Done text (prepared-means S.Done e refl a (Some b) named)
+
+  -- of those of `sat`
+
+  pub prepared-satisfied : (report_of p).status ≡ S.Done → IsSat words → Asked told words (λ a. IsWitness a text)
+  prepared-satisfied e sat =
+      let (a, named, compared) = compared-sat words sat in
+      let (x, asked, shows) =
+      asked_of told words a named S.Done text (prepared-means S.Done e refl a None compared) in
+      (x, asked, counterexample-witness x text shows)
+
+  pub prepared-unsatisfied : (report_of p).status ≡ S.Other → IsSat words
+      → Asked told words (λ a. IsRefutation a text)
+  prepared-unsatisfied e sat =
+      let (a, named, compared) = compared-sat words sat in
+      let (x, asked, shows) =
+      asked_of told words a named S.Other text (prepared-means S.Other e refl a None compared) in
+      (x, asked, inclusion-refutation x text shows)
+
+  pub prepared-refuted : (report_of p).status ≡ S.Other → IsSat words
+      → Named told words (λ a b. IsInclusion a b text)
+  prepared-refuted e sat =
+      let (a, named, compared) = compared-sat words sat in
+      named_of told words a None compared S.Other text (prepared-means S.Other e refl a None compared)
 
   -- no other command has a limit
-  pub prepared-limit : (report_of p).status ≡ S.Limit
-      → (a : Json) × (b : Json) × AreNamed told words a b × OfStatus a b S.Limit text
+  pub prepared-limit : (report_of p).status ≡ S.Limit → Named told words (λ a b. IsLimit a b text)
   prepared-limit e =
       let is = prepared-report told words before after p text S.Limit says t e (λ h. cc) in
-      means told words text S.Limit is refl (limit-include told words text is)
+      let (a, second, named) = compared_of words (limit-compared told words text is) in
+      named_of told words a second named S.Limit text (means told words text S.Limit a second named is refl)
 
--- and where it is a certificate, it is accepted for the bytes of the files
-pub means-accepted : (told : Option Files) (words : List (List ℕ)) (text : List ℕ)
-    → (a : Json) × (b : Json) × AreNamed told words a b × IsCertificate a b text → IsAcceptedFor told words text
-means-accepted told words text (a, b, s, is) =
+-- and where it is a certificate, it is accepted for the bytes of the schemas
+
+accepted-against : (later : Files) (second : Option (List ℕ)) (a text : List ℕ) (x y : Json)
+    → IsSchemaReading a (Read x) → IsSecond later second y → IsGoodText x y text → IsAcceptedAgainst later second a text
+accepted-against later None a text x y reads is good = λ b reads'.
     record {
+      first = x;
+      second = boolean false;
+      is_first = reads;
+      is_second = reads';
+      good = subst (λ z. IsGoodText x z text) is good;
+    }
+accepted-against later (Some name) a text x y reads is good = (
+  is.bytes,
+  is.told,
+  record { first = x; second = y; is_first = reads; is_second = is.is_read; good = good },
+)
+
+pub means-accepted : (told : Option Files) (words : List (List ℕ)) (text : List ℕ)
+    → Named told words (λ a b. IsInclusion a b text)
+    → (line (codes "nodocument") ≡ text) ⊎ IsAcceptedFor told words text
+means-accepted told words text (a, b, s, inr n) = inl n.written
+means-accepted told words text (a, b, s, inl c) =
+    inr (record {
       first = s.first;
       second = s.second;
       named = s.named;
@@ -175,17 +311,10 @@ means-accepted told words text (a, b, s, is) =
       later = s.are.later;
       are_files = s.are.are_files;
       a = s.are.is_first.bytes;
-      b = s.are.is_second.bytes;
       told_first = s.are.is_first.told;
-      told_second = s.are.is_second.told;
-      accepted = record {
-        first = a;
-        second = b;
-        is_first = s.are.is_first.is_read;
-        is_second = s.are.is_second.is_read;
-        good = is.good;
-      };
-    }
+      accepted = accepted-against s.are.later s.second s.are.is_first.bytes text a b s.are.is_first.is_read
+          s.are.is_second c.good;
+    })
 
 -- the report that was begun to be written: that of a failed read, or that of files
 pub prepared-part : (told : Option Files) (words : List (List ℕ)) (before after : ℕ) (p : Prepared)
@@ -198,57 +327,60 @@ prepared-part told words before after (Made bytes s) says = inr (says.0, says.2)
 
 -- the report of two schemas settles their question
 
--- where files are told, this is the verdict on the schemas that the words name, and its report is written
-record IsToldVerdict (a b : Json) (r : Report) : Type 0 where
-  v : Verdict
-  is : IsVerdict a b v
-  tells : VerdictTells a b v
-  report : verdict_report v ≡ r
+-- where files are told, this is what is found of the schemas that the words name, and its report is written
+record IsToldAnswer (a b : Json) (second : Option (List ℕ)) (r : Report) : Type 0 where
+  x : Answer
+  is : answer_of a b ≡ x
+  tells : ValuesTell a b x
+  back : IsReadBack x r.text
+  report : answer_report (is_none second) x ≡ r
 
-told-tells : (files : Files) (first second : List ℕ) (a b : Json) (v : Verdict)
-    → AreSchemas (Some files) first second a b → IsDecided (Some files) first second v → VerdictTells a b v
-told-tells files first second a b v are of =
+told-tells : (files : Files) (first : List ℕ) (second : Option (List ℕ)) (a b : Json) (x : Answer)
+    → AreSchemas (Some files) first second a b → IsDecided (Some files) first second x → ValuesTell a b x
+told-tells files first second a b x are of =
     let same = told-same files first second of.a of.b a b of.are are in
-    subst (λ y. VerdictTells a y v) same.1 (subst (λ x. VerdictTells x of.b v) same.0 of.tells)
+    subst (λ y. ValuesTell a y x) same.1 (subst (λ z. ValuesTell z of.b x) same.0 of.tells)
 
-told-verdict : (files : Files) (words : List (List ℕ)) (r : Report) (a b : Json)
-    → (s : AreNamed (Some files) words a b) → IsIncludeReport (Some files) s.first s.second r → IsToldVerdict a b r
-told-verdict files words r a b s (o, comes, meant, e) =
-    let v = verdict (both (entries_read a) (entries_read b)) 0 (second_root (entries_read a)) in
-    let same : o ≡ Compared.Decided v =
+told-answer : (files : Files) (words : List (List ℕ)) (r : Report) (a b : Json)
+    → (s : AreNamed (Some files) words a b) → IsComparedReport (Some files) s.first s.second r
+    → IsToldAnswer a b s.second r
+told-answer files words r a b s (o, comes, meant, back, e) =
+    let same : o ≡ Compared.Decided (answer_of a b) =
     told-values files s.first s.second o a b comes s.are ∙ decided-values a b s.decided_on in
     record {
-      v = v;
+      x = answer_of a b;
       is = refl;
-      tells = told-tells files s.first s.second a b v s.are (subst (MeansFor (Some files) s.first s.second) same meant);
-      report = ap compared_report (sym same) ∙ e;
+      tells = told-tells files s.first s.second a b (answer_of a b) s.are
+          (subst (MeansFor (Some files) s.first s.second) same meant);
+      back = subst (λ p. IsOutcomeReadBack p r.text) same back;
+      report = ap (compared_report (is_none s.second)) (sym same) ∙ e;
     }
 
 told-report : (files : Files) (words : List (List ℕ)) (r : Report) → IsReport (Some files) words r
-    → (a b : Json) → AreNamed (Some files) words a b → IsToldVerdict a b r
+    → (a b : Json) → (s : AreNamed (Some files) words a b) → IsToldAnswer a b s.second r
 told-report files words r is a b s =
-    told-verdict files words r a b s (report-include (Some files) words r s.first s.second s.named is)
+    told-answer files words r a b s (report-compared (Some files) words r s.first s.second s.named is)
 
 pub prepared-settles : (told : Option Files) (words : List (List ℕ)) (before after : ℕ) (p : Prepared) (text : List ℕ)
     → PreparedSays told words before after p → text ≡ (report_of p).text → Stays before after
     → WhereTold told words (λ a b. Settles a b text)
 prepared-settles None words before after p text says t stays = tt
 prepared-settles (Some files) words before after Usage text says t stays = λ a b s.
-    let wrong = sym s.named ∙ ap of_include says.1 in cc
+    let wrong = sym s.named ∙ ap of_compared says.1 in cc
 prepared-settles (Some files) words before after ReadFault text says t stays = λ a b s.
     absurd (omega (arith, says.0, stays))
 prepared-settles (Some files) words before after (Made bytes status) text says t stays = λ a b s.
     let of = told-report files words (record { text = bytes.items; status = status }) says.2 a b s in
-    verdict_report-settles a b of.v of.is of.tells text status
-    (of.report ∙ ap (λ x. record { text = x; status = status }) (sym t))
+    subst (Settles a b) (sym t)
+    (answer-settles a b of.x of.is of.tells bytes.items (ap (λ r. r.text) of.report) of.back)
 
--- two schemas that pass the limit have its report
+-- two schemas that pass a limit have its report
 
 report-limited : (files : Files) (words : List (List ℕ)) (r : Report) → IsReport (Some files) words r
     → WhereTold (Some files) words (λ a b. PassLimit a b → r.status ≡ S.Limit)
 report-limited files words r is = λ a b s passes.
     let of = told-report files words r is a b s in
-    ap (λ x. x.status) (sym of.report) ∙ passes-report a b of.v of.is passes
+    ap (λ x. x.status) (sym of.report) ∙ passes-report a b (is_none s.second) of.x of.is passes
 
 pub prepared-limited : (told : Option Files) (words : List (List ℕ)) (before after : ℕ) (p : Prepared)
     → PreparedSays told words before after p
@@ -261,43 +393,48 @@ prepared-limited (Some files) words before after p says n =
 
 -- the first refusal
 
-unrefused : (v : Verdict) → is_refused (verdict_report v).status ≡ false
-unrefused (Document t) = refl
-unrefused (Limit g) = refl
-unrefused (Certificate ls) = refl
+unrefused : (is_sat : Bool) (f : Finding) → is_refused (finding_status is_sat f) ≡ false
+unrefused true F.Document = refl
+unrefused true F.Nothing = refl
+unrefused true F.Limit = refl
+unrefused false F.Document = refl
+unrefused false F.Nothing = refl
+unrefused false F.Limit = refl
 
-module _ (told : Option Files) (words : List (List ℕ)) (text a b : List ℕ)
-    (named : include_names words ≡ Some (a, b)) where
-  refusal_of : (o : Compared.Outcome) → IsComparison told a b o
-      → compared_report o ≡ record { text = text; status = S.Refused } → IsRefusal told words text
-  refusal_of (Compared.Decided v) is e = let wrong = sym (unrefused v) ∙ ap (λ r. is_refused r.status) e in cc
+module _ (told : Option Files) (words : List (List ℕ)) (text a : List ℕ) (second : Option (List ℕ))
+    (named : compared_names words ≡ Some (a, second)) where
+  refusal_of : (o : Compared.Outcome) → IsComparison told a second o
+      → compared_report (is_none second) o ≡ record { text = text; status = S.Refused } → IsRefusal told words text
+  refusal_of (Compared.Decided x) is e =
+      let wrong = sym (unrefused (is_none second) (finding_of x)) ∙ ap (λ r. is_refused r.status) e in cc
   refusal_of (Compared.FirstRefused ws) is e =
       record {
         first = a;
-        second = b;
+        second = second;
         named = named;
         files = is.files;
         later = is.later;
         are_files = is.are_files;
-        refusal = inl (ws, first-refusal told a b ws is, ap (λ r. r.text) e);
+        refusal = inl (ws, first-refusal told a second ws is, ap (λ r. r.text) e);
       }
   refusal_of (Compared.SecondRefused ws) is e =
       record {
         first = a;
-        second = b;
+        second = second;
         named = named;
         files = is.files;
         later = is.later;
         are_files = is.are_files;
-        refusal = inr (ws, second-refusal told a b ws is, ap (λ r. r.text) e);
+        refusal = inr (ws, second-refusal told a second ws is, ap (λ r. r.text) e);
       }
   refusal_of Compared.ReadFault is e = let wrong = ap (λ r. is_refused r.status) e in cc
 
 -- a report of the status of refusals is the first refusal
 pub means-refusal : (told : Option Files) (words : List (List ℕ)) (text : List ℕ)
-    → IsReport told words (record { text = text; status = S.Refused }) → IsInclude words
+    → IsReport told words (record { text = text; status = S.Refused }) → IsCompared words
     → IsRefusal told words text
-means-refusal told words text is include =
-    let (a, b, named) = names_of words include in
-    let (o, comes, meant, e) = report-include told words (record { text = text; status = S.Refused }) a b named is in
-    refusal_of told words text a b named o comes e
+means-refusal told words text is compared =
+    let (a, second, named) = compared_of words compared in
+    let (o, comes, meant, back, e) =
+    report-compared told words (record { text = text; status = S.Refused }) a second named is in
+    refusal_of told words text a second named o comes e

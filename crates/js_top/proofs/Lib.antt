@@ -1,3 +1,4 @@
+pub mod PrintedLaws
 pub mod Includes
 pub mod MeaningLaws
 pub mod FileLaws

@@ -1,14 +1,14 @@
 -- Where files are told: a read fault is told where a file isn't there and each before it is a schema.
-use Rattle.std.proofs.Common.{◌≡◌, inl, inr, ℕ, ◌<◌, List, [], ◌∷◌, true, Option, Some, None, encode_utf8_all, refl, ap, sym, ◌∙◌, subst}
+use Rattle.std.proofs.Common.{◌≡◌, inl, inr, ℕ, ◌<◌, List, [], ◌∷◌, true, false, Option, Some, None, encode_utf8_all, refl, ap, sym, ◌∙◌, subst}
 use Rattle.js_outside.specs.Counts.{last_count, Rose}
 use Rattle.js_outside.specs.Told.{Files, CountsMisses}
-use Rattle.js_words.specs.Commands.{Command, Include, Valid, Norm, command}
+use Rattle.js_words.specs.Commands.{Command, Sat, Include, Valid, Norm, command}
 use Rattle.js_input.specs.SchemaReading.{Read}
 use Rattle.js_input.specs.OrderOfFiles.{BeginsInOrder, Misses}
 use Rattle.js_input.proofs.SchemaReadingLemmas.{IsSchemaReading-one}
 use Rattle.js_input.proofs.OrderLaws.{rose-misses}
 use Rattle.js_commands.specs.IncludeOutcome as C
-use Rattle.js_commands.specs.IncludeOutcome.{IsComparison}
+use Rattle.js_commands.specs.IncludeOutcome.{IsComparison, second_file}
 use Rattle.js_commands.specs.ValidOutcome as V
 use Rattle.js_commands.specs.ValidOutcome.{IsValidation}
 use Rattle.js_commands.specs.NormOutcome as N
@@ -21,20 +21,22 @@ use Rattle.js_top.specs.declared.prepare.Prepared.TheVariants.{Usage, ReadFault,
 use Rattle.js_top.specs.declared.status.Status.{Status}
 use Rattle.js_top.specs.declared.status.Status.TheVariants as S
 
--- two files, of which one isn't there, come to no answer
-comparison-missing : (files : Files) (a b : List ℕ) (o : C.Outcome) → IsComparison (Some files) a b o
-    → Misses files (encode_utf8_all a ∷ encode_utf8_all b ∷ []) → o ≡ C.ReadFault
-comparison-missing files a b o is (inl none) =
+-- schemas of which a file isn't there come to no answer
+comparison-missing : (files : Files) (a : List ℕ) (second : Option (List ℕ)) (o : C.Outcome)
+    → IsComparison (Some files) a second o → Misses files (encode_utf8_all a ∷ second_file second) → o ≡ C.ReadFault
+comparison-missing files a second o is (inl none) =
     let e : is.files (encode_utf8_all a) ≡ None = ap (λ f. f (encode_utf8_all a)) is.are_files.0 ∙ none in
-    subst (λ t. C.IsOutcomeOf t (is.later (encode_utf8_all b)) o) e is.outcome
-comparison-missing files a b o is (inr ((bytes, has, (j, reads)), inl none)) =
+    subst (λ t. C.IsOutcomeOf t (C.IsAgainst is.later second) o) e is.outcome
+comparison-missing files a None o is (inr (first, rest)) = absurd rest
+comparison-missing files a (Some b) o is (inr ((bytes, has, (j, reads)), inl none)) =
     let e : is.files (encode_utf8_all a) ≡ Some bytes = ap (λ f. f (encode_utf8_all a)) is.are_files.0 ∙ has in
     let e' : is.later (encode_utf8_all b) ≡ None = ap (λ f. f (encode_utf8_all b)) is.are_files.1 ∙ none in
-    let (r, reads', of) =
-    subst (λ t. C.IsOutcomeOf t None o) e
-    (subst (λ t. C.IsOutcomeOf (is.files (encode_utf8_all a)) t o) e' is.outcome) in
-    subst (λ r. C.IsOfFirst None r o) (IsSchemaReading-one bytes r (Read j) reads' reads) of
-comparison-missing files a b o is (inr (first, inr (second, rest))) = absurd rest
+    let (r, reads', of) = subst (λ t. C.IsOutcomeOf t (C.IsAgainst is.later (Some b)) o) e is.outcome in
+    let against : C.IsAgainst is.later (Some b) j o =
+    subst (λ r. C.IsOfFirst (C.IsAgainst is.later (Some b)) r o) (IsSchemaReading-one bytes r (Read j) reads' reads) of
+    in
+    subst (λ t. C.IsAgainstBytes t j o) e' against
+comparison-missing files a (Some b) o is (inr (first, inr (second, rest))) = absurd rest
 
 validation-missing : (files : Files) (a d : List ℕ) (o : V.Outcome) → IsValidation (Some files) a d o
     → Misses files (encode_utf8_all a ∷ encode_utf8_all d ∷ []) → o ≡ V.ReadFault
@@ -47,7 +49,7 @@ validation-missing files a d o is (inr ((bytes, has, (j, reads)), inl none)) =
     let (r, reads', of) =
     subst (λ t. V.IsOutcomeOf t None o) e
     (subst (λ t. V.IsOutcomeOf (is.files (encode_utf8_all a)) t o) e' is.outcome) in
-    sym (subst (λ r. V.of_schema None r ≡ o) (IsSchemaReading-one bytes r (Read j) reads' reads) of)
+    subst (λ r. V.IsOutcomeOfSchema None r o) (IsSchemaReading-one bytes r (Read j) reads' reads) of
 validation-missing files a d o is (inr (first, inr (second, rest))) = absurd rest
 
 listing-missing : (files : Files) (a : List ℕ) (o : N.Outcome) → IsListing (Some files) a o
@@ -60,8 +62,12 @@ listing-missing files a o is (inr (first, rest)) = absurd rest
 report-missing : (files : Files) (c : Option Command) (r : Report) → IsReportOf (Some files) c r
     → Misses files (files_of c) → r.status ≡ S.ReadFault
 report-missing files None r is misses = absurd misses
-report-missing files (Some (Include a b)) r (o, comes, means, e) misses =
-    ap (λ x. x.status) (sym e) ∙ ap (λ x. (compared_report x).status) (comparison-missing files a b o comes misses)
+report-missing files (Some (Sat a)) r (o, comes, means, back, e) misses =
+    ap (λ x. x.status) (sym e)
+    ∙ ap (λ x. (compared_report true x).status) (comparison-missing files a None o comes misses)
+report-missing files (Some (Include a b)) r (o, comes, means, back, e) misses =
+    ap (λ x. x.status) (sym e)
+    ∙ ap (λ x. (compared_report false x).status) (comparison-missing files a (Some b) o comes misses)
 report-missing files (Some (Valid a d)) r (o, comes, e) misses =
     ap (λ x. x.status) (sym e) ∙ ap (λ x. (outcome_report x).status) (validation-missing files a d o comes misses)
 report-missing files (Some (Norm a)) r (o, comes, e) misses =

@@ -3,6 +3,7 @@
 -- it writes for `valid` and for `norm`.
 pub mod StatusCode
 pub mod Names
+pub mod Printed
 pub mod Report
 pub mod Meaning
 pub mod Accepting

@@ -1,27 +1,27 @@
 -- What the document, the certificate, the limit or the refusal of a report means.
-use Rattle.std.specs.Prelude.{◌≡◌, ◌⊎◌, ℕ, List, ◌∷◌, ◌++◌, true, Option, Some, None, codes}
-use Rattle.documents.specs.Document.{Document}
-use Rattle.documents.specs.Json.{Json}
-use Rattle.draft06.specs.Validity.{Included, Separates}
+use Rattle.std.specs.Prelude.{◌≡◌, ◌⊎◌, ℕ, List, ◌++◌, true, false, Option, Some, None, codes}
+use Rattle.documents.specs.Document.{Document, is_document}
+use Rattle.documents.specs.Json.{Json, boolean}
+use Rattle.draft06.specs.Validity.{valid, Included, Separates}
 use Rattle.goals.specs.Signed.{Signed}
-use Rattle.certificates.specs.Line.{Line, IsText, signed_list_text}
+use Rattle.alternatives.specs.Limit.{LimitKind, Branches}
+use Rattle.position_laws.specs.Plain.{is_plain}
+use Rattle.certificates.specs.Line.{Line, IsText}
 use Rattle.js_outside.specs.Told.{Files}
-use Rattle.js_json.specs.Documents.{json_of_document}
-use Rattle.js_json.specs.Value.{value_of}
 use Rattle.js_keywords.specs.Reading.{rules}
+use Rattle.js_input.specs.FileReading.{IsSchemaFile}
 use Rattle.js_input.specs.ToldTwice.{AreFiles}
-use Rattle.js_inclusion.specs.Comparison.{are_good}
-use Rattle.js_inclusion.specs.Meaning.{PassesLimit}
+use Rattle.js_inclusion.specs.Unread.{unread}
+use Rattle.js_inclusion.specs.Comparison.{both, are_good}
+use Rattle.js_inclusion.specs.Meaning.{HasManyEnds, StopsSearch}
 use Rattle.js_commands.specs.ReadEntries.{entries_read}
 use Rattle.js_commands.specs.IncludeMeaning.{AreSchemas, AreDecidedOn, IsFirstRefusal, IsSecondRefusal}
-use Rattle.js_top.specs.Names.{include_names}
+use Rattle.js_top.specs.Names.{compared_names, sat_name}
+use Rattle.js_top.specs.Printed.{IsDocumentText}
+use Rattle.js_top.specs.Report.{limit_line}
 use Rattle.js_report.specs.Lines.{line}
 
--- the text is the line `document` and a JSON text, which is read back as the document
-pub record IsDocumentText (text : List ℕ) (d : Document) : Type 0 where
-  pub rest : List ℕ
-  pub line : text ≡ codes "document" ++ 10 ∷ rest
-  pub value : value_of rest ≡ Some (json_of_document d)
+-- ---- of two schemas
 
 -- a document that is valid for the first schema and not for the second, as text
 pub record IsCounterexample (a b : Json) (text : List ℕ) : Type 0 where
@@ -40,17 +40,34 @@ pub record IsCertificate (a b : Json) (text : List ℕ) : Type 0 where
   pub good : IsGoodText a b text
   pub included : Included rules a b
 
--- the line of a goal whose trees pass the limit
-pub record IsLimit (a b : Json) (text : List ℕ) : Type 0 where
-  pub goal : List Signed
-  pub passed : PassesLimit (entries_read a) (entries_read b) goal
-  pub written : line (codes "limit branches" ++ signed_list_text goal) ≡ text
+-- the line `nodocument`, which comes where a schema asks for more of a document than its kind, and what it means
+pub record IsNoDocument (a b : Json) (text : List ℕ) : Type 0 where
+  pub typed : is_plain (both (entries_read a) (entries_read b)) ≡ false
+  pub written : line (codes "nodocument") ≡ text
+  pub included : Included rules a b
 
--- the words name two files, and both are schemas, with these values, that are decided on
+-- no document is valid for the first schema and not for the second
+abbrev pub IsInclusion : Json → Json → List ℕ → Type 0
+IsInclusion a b text = IsCertificate a b text ⊎ IsNoDocument a b text
+
+-- the limit that is passed, and the goal that passes it; none where all goals pass it
+abbrev pub Passes : Json → Json → LimitKind → Option (List Signed) → Type 0
+Passes a b k o =
+    ((goal : List Signed) × (k ≡ Branches) × (o ≡ Some goal) × HasManyEnds (entries_read a) (entries_read b) goal)
+    ⊎ StopsSearch (entries_read a) (entries_read b) k o
+
+-- the line of a limit that is passed
+pub record IsLimit (a b : Json) (text : List ℕ) : Type 0 where
+  pub kind : LimitKind
+  pub goal : Option (List Signed)
+  pub passed : Passes a b kind goal
+  pub written : limit_line kind goal ≡ text
+
+-- the words name schemas, with these values, that are decided on; of `sat` the second value is `false`
 pub record AreNamed (told : Option Files) (words : List (List ℕ)) (a b : Json) : Type 0 where
   pub first : List ℕ
-  pub second : List ℕ
-  pub named : include_names words ≡ Some (first, second)
+  pub second : Option (List ℕ)
+  pub named : compared_names words ≡ Some (first, second)
   pub are : AreSchemas told first second a b
   pub decided_on : AreDecidedOn a b
 
@@ -59,28 +76,58 @@ abbrev pub WhereTold : Option Files → List (List ℕ) → (Json → Json → T
 WhereTold None words P = Unit {0}
 WhereTold (Some files) words P = (a b : Json) → AreNamed (Some files) words a b → P a b
 
--- the trees of some goal of two schemas pass the limit
+-- two schemas pass some limit
 abbrev pub PassLimit : Json → Json → Type 0
-PassLimit a b = (goal : List Signed) × PassesLimit (entries_read a) (entries_read b) goal
+PassLimit a b = (k : LimitKind) × (o : Option (List Signed)) × Passes a b k o
 
--- what settles the question of two schemas: the limit where it is passed, and else a document or a certificate
+-- what settles the question of two schemas: the limit where it is passed, and else a document, or that there is none
 abbrev pub Settles : Json → Json → List ℕ → Type 0
-Settles a b text = IsLimit a b text ⊎ ((PassLimit a b → ⊥) × (IsCounterexample a b text ⊎ IsCertificate a b text))
+Settles a b text = IsLimit a b text ⊎ ((PassLimit a b → ⊥) × (IsCounterexample a b text ⊎ IsInclusion a b text))
+
+-- ---- of a schema that `sat` names
+
+-- the words name a schema, with this value, that is decided on
+pub record IsAsked (told : Option Files) (words : List (List ℕ)) (a : Json) : Type 0 where
+  pub name : List ℕ
+  pub named : sat_name words ≡ Some name
+  pub files : Files
+  pub later : Files
+  pub are_files : AreFiles told files later
+  pub is_schema : IsSchemaFile files name a
+  pub decided_on : unread (entries_read a) ≡ None
+
+-- a document that is valid for the schema, as text
+pub record IsWitness (a : Json) (text : List ℕ) : Type 0 where
+  pub document : Document
+  pub is : IsDocumentText text document
+  pub whole : is_document document ≡ true
+  pub valid : valid rules a document ≡ true
+
+-- no document with whole numbers is valid for the schema
+abbrev pub IsUnsatisfiable : Json → Type 0
+IsUnsatisfiable a = (J : Document) → is_document J ≡ true → valid rules a J ≡ false
+
+-- a certificate, or the line `nodocument`, and what it means
+pub record IsRefutation (a : Json) (text : List ℕ) : Type 0 where
+  pub told : IsGoodText a (boolean false) text ⊎ (line (codes "nodocument") ≡ text)
+  pub unsatisfiable : IsUnsatisfiable a
+
+-- ---- refusals
 
 -- a file is refused, with this line
-abbrev pub RefusesFirst : Files → Files → (first second text : List ℕ) → Type 0
+abbrev pub RefusesFirst : Files → Files → (first : List ℕ) → (second : Option (List ℕ)) → (text : List ℕ) → Type 0
 RefusesFirst files later first second text =
     (words : List ℕ) × IsFirstRefusal files later first second words × (line (codes "refused first " ++ words) ≡ text)
 
-abbrev pub RefusesSecond : Files → Files → (first second text : List ℕ) → Type 0
+abbrev pub RefusesSecond : Files → Files → (first : List ℕ) → (second : Option (List ℕ)) → (text : List ℕ) → Type 0
 RefusesSecond files later first second text =
     (words : List ℕ) × IsSecondRefusal files later first second words × (line (codes "refused second " ++ words) ≡ text)
 
 -- the first refusal in the order of work
 pub record IsRefusal (told : Option Files) (words : List (List ℕ)) (text : List ℕ) : Type 0 where
   pub first : List ℕ
-  pub second : List ℕ
-  pub named : include_names words ≡ Some (first, second)
+  pub second : Option (List ℕ)
+  pub named : compared_names words ≡ Some (first, second)
   pub files : Files
   pub later : Files
   pub are_files : AreFiles told files later

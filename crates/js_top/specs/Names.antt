@@ -2,17 +2,40 @@
 use Rattle.std.specs.Prelude.{ℕ, List, [], ◌∷◌, Option, Some, None, IsSome, encode_utf8_all}
 use Rattle.js_outside.specs.Told.{Files}
 use Rattle.js_input.specs.OrderOfFiles.{Misses}
-use Rattle.js_words.specs.Commands.{Command, Include, Valid, Norm, command}
+use Rattle.js_words.specs.Commands.{Command, Sat, Include, Valid, Norm, command}
+
+-- a schema alone
+abbrev pub of_sat : Option Command → Option (List ℕ)
+of_sat (Some (Sat a)) = Some a
+of_sat (Some (Include a b)) = None
+of_sat (Some (Valid a d)) = None
+of_sat (Some (Norm a)) = None
+of_sat None = None
 
 -- two schemas
 abbrev pub of_include : Option Command → Option (List ℕ × List ℕ)
+of_include (Some (Sat a)) = None
 of_include (Some (Include a b)) = Some (a, b)
 of_include (Some (Valid a d)) = None
 of_include (Some (Norm a)) = None
 of_include None = None
 
+-- the schemas that are compared: of `sat` the second is no file's, but the value `false`
+abbrev pub of_compared : Option Command → Option (List ℕ × Option (List ℕ))
+of_compared (Some (Sat a)) = Some (a, None)
+of_compared (Some (Include a b)) = Some (a, Some b)
+of_compared (Some (Valid a d)) = None
+of_compared (Some (Norm a)) = None
+of_compared None = None
+
+-- the command that compares these
+abbrev pub comparing : List ℕ → Option (List ℕ) → Command
+comparing a None = Sat a
+comparing a (Some b) = Include a b
+
 -- a schema and a document
 abbrev pub of_valid : Option Command → Option (List ℕ × List ℕ)
+of_valid (Some (Sat a)) = None
 of_valid (Some (Include a b)) = None
 of_valid (Some (Valid a d)) = Some (a, d)
 of_valid (Some (Norm a)) = None
@@ -20,10 +43,17 @@ of_valid None = None
 
 -- a schema alone
 abbrev pub of_norm : Option Command → Option (List ℕ)
+of_norm (Some (Sat a)) = None
 of_norm (Some (Include a b)) = None
 of_norm (Some (Valid a d)) = None
 of_norm (Some (Norm a)) = Some a
 of_norm None = None
+
+abbrev pub sat_name : List (List ℕ) → Option (List ℕ)
+sat_name words = of_sat (command words)
+
+abbrev pub compared_names : List (List ℕ) → Option (List ℕ × Option (List ℕ))
+compared_names words = of_compared (command words)
 
 abbrev pub include_names : List (List ℕ) → Option (List ℕ × List ℕ)
 include_names words = of_include (command words)
@@ -34,9 +64,17 @@ valid_names words = of_valid (command words)
 abbrev pub norm_name : List (List ℕ) → Option (List ℕ)
 norm_name words = of_norm (command words)
 
+-- the words are those of `sat`
+abbrev pub IsSat : List (List ℕ) → Type 0
+IsSat words = IsSome (sat_name words)
+
 -- the words are those of `include`
 abbrev pub IsInclude : List (List ℕ) → Type 0
 IsInclude words = IsSome (include_names words)
+
+-- the words are those of `sat` or of `include`
+abbrev pub IsCompared : List (List ℕ) → Type 0
+IsCompared words = IsSome (compared_names words)
 
 -- the words are those of `valid`
 abbrev pub IsValid : List (List ℕ) → Type 0
@@ -48,6 +86,7 @@ IsNorm words = IsSome (norm_name words)
 
 -- the names of a command's files, as UTF-8 bytes, in the order in which they are read
 abbrev pub files_of : Option Command → List (List ℕ)
+files_of (Some (Sat a)) = encode_utf8_all a ∷ []
 files_of (Some (Include a b)) = encode_utf8_all a ∷ encode_utf8_all b ∷ []
 files_of (Some (Valid a d)) = encode_utf8_all a ∷ encode_utf8_all d ∷ []
 files_of (Some (Norm a)) = encode_utf8_all a ∷ []

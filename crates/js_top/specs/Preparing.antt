@@ -1,8 +1,12 @@
 -- What a report that was prepared says of the shelf's files and of its count of faults.
-use Rattle.std.specs.Prelude.{◌≡◌, ℕ, List, Bool, true, false, codes, Option, Some, None, IsSome}
+use Rattle.std.specs.Prelude.{◌≡◌, ℕ, suc, List, length, Bool, true, false, codes, Option, Some, None, IsSome}
+use Rattle.documents.specs.Document.{is_document}
+use Rattle.shared_documents.specs.Unshared.{unshared}
+use Rattle.decisions.specs.Decision as D
 use Rattle.js_outside.specs.Counts.{Rose}
 use Rattle.js_outside.specs.Told.{Files}
 use Rattle.js_words.specs.Commands.{Command, command}
+use Rattle.js_inclusion.specs.Comparison.{Answer, Searched}
 use Rattle.js_top.specs.Report.{Report, printed, IsReportOf, IsReport}
 use Rattle.js_top.specs.declared.status.Status.{Status}
 use Rattle.js_top.specs.declared.status.Status.TheVariants as S
@@ -13,6 +17,11 @@ abbrev pub report_of : Prepared → Report
 report_of P.Usage = printed (codes "usage") S.Usage
 report_of P.ReadFault = printed (codes "readfault") S.ReadFault
 report_of (P.Made bytes status) = record { text = bytes.items; status = status }
+
+-- a document that the search found is that of its last part
+abbrev pub IsPrintable : Answer → Type 0
+IsPrintable (Searched (D.Document ps i)) = (suc i ≡ length ps) × (is_document (unshared ps i) ≡ true)
+IsPrintable _ = Unit {0}
 
 -- the statuses of words that are a command and of files that could be read
 abbrev pub is_answer : Status → Bool

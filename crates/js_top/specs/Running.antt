@@ -4,9 +4,10 @@ use Rattle.std.specs.Io.KnownBytes.{Appends}
 use Rattle.documents.specs.Json.{Json}
 use Rattle.js_outside.specs.Counts.{Rose}
 use Rattle.js_outside.specs.Told.{Files}
+use Rattle.js_report.specs.Lines.{line}
 use Rattle.js_report.specs.Written.{AppendsPrefix}
 use Rattle.js_top.specs.Report.{Report, printed, IsReport}
-use Rattle.js_top.specs.Meaning.{AreNamed, WhereTold, Settles, IsRefusal}
+use Rattle.js_top.specs.Meaning.{AreNamed, IsAsked, WhereTold, Settles, IsRefusal}
 use Rattle.js_top.specs.Accepting.{IsAcceptedFor}
 use Rattle.js_top.specs.declared.status.Status.{Status}
 use Rattle.js_top.specs.declared.status.Status.TheVariants.{ReadFault}
@@ -33,9 +34,16 @@ abbrev pub WritesMeaning : Option Files → List (List ℕ) → Option (List ℕ
 WritesMeaning told words old new P =
     (text : List ℕ) × Appends old new text × ((a : Json) × (b : Json) × AreNamed told words a b × P a b text)
 
--- a text that is accepted as a certificate for the bytes of the two files
+-- the line `nodocument`, or a text that is accepted as a certificate for the bytes of the schemas
 abbrev pub WritesAccepted : Option Files → List (List ℕ) → Option (List ℕ) → Option (List ℕ) → Type 0
-WritesAccepted told words old new = (text : List ℕ) × Appends old new text × IsAcceptedFor told words text
+WritesAccepted told words old new =
+    (text : List ℕ) × Appends old new text × ((line (codes "nodocument") ≡ text) ⊎ IsAcceptedFor told words text)
+
+-- a text of which a fact holds for the schema that the words of `sat` name, which is decided on
+abbrev pub WritesAsked : Option Files → List (List ℕ) → Option (List ℕ) → Option (List ℕ)
+    → (Json → List ℕ → Type 0) → Type 0
+WritesAsked told words old new P =
+    (text : List ℕ) × Appends old new text × ((a : Json) × IsAsked told words a × P a text)
 
 -- the line of the first refusal in the order of work
 abbrev pub WritesRefusal : Option Files → List (List ℕ) → Option (List ℕ) → Option (List ℕ) → Type 0

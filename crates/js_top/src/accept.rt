@@ -16,9 +16,9 @@ use std::alloc::Global;
 
 /// Whether `certificate` is one that every document valid for the schema `a` is valid for the schema `b`.
 ///
-/// All three are the bytes of files. The answer is `true` exactly where both schemas are read, and not refused, all
-/// that they ask for is decided on, and the certificate is in the grammar and its lines are good for the two. The cost
-/// is that of reading the files and the certificate, and for each rule that of the members of its choice.
+/// All three are the bytes of files. The answer is `true` exactly where both schemas are read, and not refused, and the
+/// certificate is in the grammar and its lines are good for the two. The cost is that of reading the files and the
+/// certificate, and for each rule that of the members of its choice.
 pub fn accepted(alloc: Global, a: &[u8], b: &[u8], certificate: &[u8]) -> Result<bool, Memory>
     ensures accepted { IfOk result (λ r. OnTrue r (IsAccepted a.now b.now certificate.now)) }
     ensures rejected { IfOk result (λ r. OnFalse r (IsAccepted a.now b.now certificate.now → ⊥)) }
@@ -26,16 +26,16 @@ pub fn accepted(alloc: Global, a: &[u8], b: &[u8], certificate: &[u8]) -> Result
     // What acceptance means, whoever made the bytes.
     ensures included { IfOk result (λ r. OnTrue r (AreIncluded a.now b.now)) }
 {
-    let (first, first_ranks) = match read_schema_bytes(alloc, a)? {
-        SchemaInput::Read(schema, ranks) => (schema, ranks),
+    let first = match read_schema_bytes(alloc, a)? {
+        SchemaInput::Read(schema) => schema,
         SchemaInput::Refused(_) => return Ok(false),
     };
-    let (second, second_ranks) = match read_schema_bytes(alloc, b)? {
-        SchemaInput::Read(schema, ranks) => (schema, ranks),
+    let second = match read_schema_bytes(alloc, b)? {
+        SchemaInput::Read(schema) => schema,
         SchemaInput::Refused(_) => return Ok(false),
     };
     let Some(lines) = read_lines(alloc, certificate)? else {
         return Ok(false);
     };
-    judge_lines(alloc, &first, &first_ranks, &second, &second_ranks, &lines)
+    judge_lines(alloc, &first, &second, &lines)
 }

@@ -3,11 +3,12 @@
 //! `run` does all that the program does. It reads the words, then each file in their order, decides, makes the whole
 //! report, and only then writes. Its clauses say when each status comes, and that what is written is the report of the
 //! files' bytes; `specs/Report.antt` says what that is, `specs/Meaning.antt` what the documents and certificates of
-//! `include` mean, and `specs/Judging.antt` what the words of `valid` mean. `accepted` judges a certificate by the bytes
-//! of the files and its own, and knows nothing of the search.
+//! `include` and `sat` mean, and `specs/Judging.antt` what the words of `valid` mean. `accepted` judges a certificate by
+//! the bytes of the files and its own, and knows nothing of the search.
 #![tactic(auto)]
 
 mod accept;
+mod finding;
 mod memory;
 mod prepare;
 mod status;

@@ -1,19 +1,19 @@
 //! The report of a command, made whole before anything is written.
 
-ghost use Rattle.std.specs.Prelude.{◌≡◌, IfOk, OnErr, IsSome, Some};
-ghost use Rattle.js_decide.specs.View.{verdict_view};
-ghost use Rattle.js_top.specs.Report.{verdict_report};
-ghost use Rattle.js_words.specs.Commands.{command, Include, Valid, Norm};
+ghost use Rattle.std.specs.Prelude.{◌≡◌, IfOk, OnErr, IsSome, Some, is_none, option_map};
+ghost use Rattle.js_inclusion.specs.View.{answer_view};
+ghost use Rattle.js_top.specs.Report as R;
+ghost use Rattle.js_top.specs.Report.{answer_report};
+ghost use Rattle.js_words.specs.Commands.{command, Valid, Norm};
 ghost use Rattle.js_input.specs.OrderOfFiles.{BeginsInOrder};
-ghost use Rattle.js_top.specs.Names.{file_names, files_of};
-ghost use Rattle.js_top.specs.Preparing.{PreparedSays, report_of};
+ghost use Rattle.js_top.specs.Names.{comparing, file_names, files_of};
+ghost use Rattle.js_top.specs.Preparing.{PreparedSays, IsPrintable, report_of};
 
+use crate::finding::answer_text;
 use crate::status::Status;
-use crate::text::{document_lines, limit_line};
-use js_cert::cert_text;
 use js_commands::{Inclusion, Listing, Validation, compare_files, list_table, validate};
-use js_decide::Verdict;
 use js_doc::{Memory, Str};
+use js_inclusion::Answer;
 use js_outside::Shelf;
 use js_report::refusal_line;
 use js_words::{Command, read_words};
@@ -67,29 +67,33 @@ pub(crate) fn prepare<H: Shelf>(
     ensures begun { BeginsInOrder (H.told shelf.old) (file_names words.now) (H.begun shelf.old) (H.begun shelf.new) }
 {
     match read_words(words) {
-        Some(Command::Include(first, second)) => prepare_include(alloc, shelf, first, second),
+        Some(Command::Sat(schema)) => prepare_compared(alloc, shelf, schema, None),
+        Some(Command::Include(first, second)) => {
+            prepare_compared(alloc, shelf, first, Some(second))
+        }
         Some(Command::Valid(schema, document)) => prepare_valid(alloc, shelf, schema, document),
         Some(Command::Norm(schema)) => prepare_norm(alloc, shelf, schema),
         None => Ok(Prepared::Usage),
     }
 }
 
-/// The report of `include`: the second file is read only where the first was.
-fn prepare_include<H: Shelf>(
+/// The report of `include`, where the second file is read only where the first was, and without one that of `sat`.
+fn prepare_compared<H: Shelf>(
     alloc: Global,
     shelf: &mut H,
     first: &Str,
-    second: &Str,
+    second: Option<&Str>,
 ) -> Result<Prepared, Memory>
     ensures told { H.told shelf.new ≡ H.told shelf.old }
-    ensures says { IfOk result
-        (CommandSays (H.told shelf.old) (Include first.now second.now) (H.faults shelf.old) (H.faults shelf.new)) }
+    ensures says { IfOk result (CommandSays (H.told shelf.old)
+        (comparing first.now (option_map (λ s. s.now) second.entry)) (H.faults shelf.old) (H.faults shelf.new)) }
     ensures memory { OnErr result (H.faults shelf.new ≡ H.faults shelf.old) }
-    ensures begun { BeginsInOrder (H.told shelf.old) (files_of (Some (Include first.now second.now)))
-        (H.begun shelf.old) (H.begun shelf.new) }
+    ensures begun { BeginsInOrder (H.told shelf.old)
+        (files_of (Some (comparing first.now (option_map (λ s. s.now) second.entry)))) (H.begun shelf.old)
+        (H.begun shelf.new) }
 {
     match compare_files(alloc, shelf, first, second)? {
-        Inclusion::Decided(verdict) => decided(alloc, verdict),
+        Inclusion::Decided(answer) => answered(alloc, answer, is_sat(second)),
         Inclusion::FirstRefused(words) => refused(alloc, "first", words),
         Inclusion::SecondRefused(words) => refused(alloc, "second", words),
         Inclusion::ReadFault => Ok(Prepared::ReadFault),
@@ -155,13 +159,21 @@ fn refused(alloc: Global, role: &str, words: String) -> Result<Prepared, Memory>
     Ok(Prepared::Made(text.into_bytes(), Status::Refused))
 }
 
-fn decided(alloc: Global, verdict: Verdict) -> Result<Prepared, Memory>
-    ensures { IfOk result (λ p. report_of p ≡ verdict_report (verdict_view verdict)) }
+/// Without a second file a document is asked for.
+fn is_sat(second: Option<&Str>) -> bool
+    ensures { result ≡ is_none (option_map (λ s. s.now) second.entry) }
 {
-    let (text, status) = match verdict {
-        Verdict::Document(kind) => (document_lines(alloc, kind)?.into_bytes(), Status::Other),
-        Verdict::Limit(goal) => (limit_line(alloc, &goal)?.into_bytes(), Status::Limit),
-        Verdict::Certificate(cert) => (cert_text(alloc, &cert)?, Status::Done),
-    };
-    Ok(Prepared::Made(text, status))
+    match second {
+        Some(_) => false,
+        None => true,
+    }
+}
+
+fn answered(alloc: Global, answer: Answer, is_sat: bool) -> Result<Prepared, Memory>
+    requires { IsPrintable (answer_view answer) }
+    ensures report { IfOk result (λ p. report_of p ≡ answer_report is_sat (answer_view answer)) }
+    ensures read { IfOk result (λ p. R.IsReadBack (answer_view answer) (report_of p).text) }
+{
+    let (text, finding) = answer_text(alloc, answer)?;
+    Ok(Prepared::Made(text, finding.status(is_sat)))
 }

@@ -5,10 +5,12 @@ ghost use Rattle.std.specs.Prelude.{◌≡◌};
 /// How a run ended, in the order of the program's exit statuses.
 #[derive(Clone, Copy, PartialEq, Eq, Debug)]
 pub enum Status {
-    /// `include`: a certificate was printed. `valid`: the document is valid.
+    /// `include`: no document is valid for the first schema alone. `sat`: a document was printed. `valid`: the document
+    /// is valid.
     Done,
 
-    /// `include`: a document was printed. `valid`: the document isn't valid.
+    /// `include`: a document was printed. `sat`: no document is valid for the schema. `valid`: the document isn't
+    /// valid.
     Other,
 
     /// The words are no command.

@@ -6,12 +6,12 @@ ghost use Rattle.js_outside.specs.Counts.{Rose, Stays, last_count};
 ghost use Rattle.js_outside.specs.Told.{CountsMisses};
 ghost use Rattle.js_input.specs.OrderOfFiles.{BeginsInOrder};
 ghost use Rattle.js_words.specs.Commands.{command};
-ghost use Rattle.js_top.specs.Names.{IsInclude, IsValid, IsNorm, file_names, MissesFile};
+ghost use Rattle.js_top.specs.Names.{IsInclude, IsSat, IsCompared, IsValid, IsNorm, file_names, MissesFile};
 ghost use Rattle.js_top.specs.Judging.{WritesJudgement, WritesDecision, WritesJudgedRefusal};
 ghost use Rattle.js_top.specs.Listing.{WritesNamedTable, WritesListing, WritesNormRefusal};
 ghost use Rattle.js_report.specs.Lines.{line};
-ghost use Rattle.js_top.specs.Running.{WritesPart, WritesReport, WritesMeaning, WritesRefusal, WritesAnswer, WritesAccepted};
-ghost use Rattle.js_top.specs.Meaning.{IsCounterexample, IsCertificate, IsLimit, PassLimit, WhereTold};
+ghost use Rattle.js_top.specs.Running.{WritesPart, WritesReport, WritesMeaning, WritesAsked, WritesRefusal, WritesAnswer, WritesAccepted};
+ghost use Rattle.js_top.specs.Meaning.{IsCounterexample, IsInclusion, IsWitness, IsRefutation, IsLimit, PassLimit, WhereTold};
 
 use crate::prepare::prepare;
 use crate::status::Status;
@@ -33,8 +33,8 @@ pub fn run<R, H: Shelf, K: Sink>(
     sink: &mut K,
 ) -> Status
     // The headline: where files are told, no fault is counted and memory suffices, two schemas that are decided on get
-    // the limit exactly where it is passed, and else a document that is valid for the first and not for the second, or
-    // a certificate and with it the inclusion.
+    // a limit exactly where one is passed, and else a document that is valid for the first and not for the second, or
+    // a certificate or the line `nodocument`, and with it the inclusion. With `sat` the second is the value `false`.
     ensures headline { Stays (H.faults shelf.old) (H.faults shelf.new) → Stays (K.faults sink.old) (K.faults sink.new)
         → result ≢ Status.Memory
         → WritesAnswer (H.told shelf.old) words.now (K.written sink.old) (K.written sink.new) }
@@ -65,20 +65,29 @@ pub fn run<R, H: Shelf, K: Sink>(
         → WritesReport (H.told shelf.old) words.now (K.written sink.old) (K.written sink.new) result }
 
     // A refusal is the first in the order of work, with its role, word and pointer.
-    ensures refusal { result ≡ Status.Refused → IsInclude words.now
+    ensures refusal { result ≡ Status.Refused → IsCompared words.now
         → WritesRefusal (H.told shelf.old) words.now (K.written sink.old) (K.written sink.new) }
 
     // And for two schemas that are decided on this means:
     ensures document { result ≡ Status.Other → IsInclude words.now
         → WritesMeaning (H.told shelf.old) words.now (K.written sink.old) (K.written sink.new) IsCounterexample }
-    ensures certificate { result ≡ Status.Done → IsInclude words.now
-        → WritesMeaning (H.told shelf.old) words.now (K.written sink.old) (K.written sink.new) IsCertificate }
+    ensures inclusion { result ≡ Status.Done → IsInclude words.now
+        → WritesMeaning (H.told shelf.old) words.now (K.written sink.old) (K.written sink.new) IsInclusion }
     ensures accepted { result ≡ Status.Done → IsInclude words.now
         → WritesAccepted (H.told shelf.old) words.now (K.written sink.old) (K.written sink.new) }
     ensures limit { result ≡ Status.Limit
         → WritesMeaning (H.told shelf.old) words.now (K.written sink.old) (K.written sink.new) IsLimit }
 
-    // The limit comes wherever it is passed.
+    // For the schema of `sat` that is decided on it means: a document that is valid for it, or that no document with
+    // whole numbers is.
+    ensures satisfied { result ≡ Status.Done → IsSat words.now
+        → WritesAsked (H.told shelf.old) words.now (K.written sink.old) (K.written sink.new) IsWitness }
+    ensures unsatisfied { result ≡ Status.Other → IsSat words.now
+        → WritesAsked (H.told shelf.old) words.now (K.written sink.old) (K.written sink.new) IsRefutation }
+    ensures accepted_of_sat { result ≡ Status.Other → IsSat words.now
+        → WritesAccepted (H.told shelf.old) words.now (K.written sink.old) (K.written sink.new) }
+
+    // The limit comes wherever one is passed.
     ensures limited { result ≢ Status.ReadFault → result ≢ Status.WriteFault → result ≢ Status.Memory
         → WhereTold (H.told shelf.old) words.now (λ a b. PassLimit a b → result ≡ Status.Limit) }
 

@@ -23,3 +23,11 @@ pub mod OrderLaws
 pub mod SamePartLaws
 pub mod FrameLaws
 pub mod PartElementLaws
+-- Verdicts as bits.
+pub mod BitsLaws
+-- Members of a part, and what is asked by its kind.
+pub mod PartMemberLaws
+-- Tables of verdicts on parts.
+pub mod PartVerdictLaws
+-- Frames of parts.
+pub mod PartFrameLaws

@@ -13,3 +13,5 @@ pub mod SamePart
 pub mod Frame
 -- Tables of verdicts for parts.
 pub mod PartTables
+-- Verdicts as bits.
+pub mod Bits

@@ -253,7 +253,7 @@ fn fine_parts(
 }
 
 /// Every owner has what it asks for, so far.
-fn all_fine(alloc: Global, count: u32) -> Result<Vec<bool>, Memory>
+pub(crate) fn all_fine(alloc: Global, count: u32) -> Result<Vec<bool>, Memory>
     ensures len { IfOk result (λ fine. length fine.items ≡ count) }
     ensures all { IfOk result (λ fine. (e : ℕ) → e < count → flag fine.items e ≡ true) }
 {
@@ -388,7 +388,7 @@ fn decide_part(
 
 /// The same of a name, as a string.
 #[cycle(decide)]
-fn decide_name(
+pub(crate) fn decide_name(
     alloc: Global,
     schema: &Schema,
     order: &[u32],

@@ -14,41 +14,71 @@ mod found;
 mod order;
 mod own;
 mod part_elements;
+mod part_fine;
+mod part_frame;
+mod part_members;
 mod part_own;
+mod part_verdicts;
 mod plain;
 mod same;
 mod search;
 mod settle;
 mod tables;
+mod verdicts;
 
-ghost use Rattle.std.specs.Prelude.{◌≡◌, ◌<◌, true, IfOk, length};
-ghost use Rattle.schemas.specs.Guarded.{edges, are_ranks};
+ghost use Rattle.std.specs.Prelude.{◌≡◌, ◌<◌, IfOk, length};
 ghost use Rattle.draft06.specs.EntryValidity.{entry_valid};
+ghost use Rattle.shared_documents.specs.Unshared.{unshared};
 ghost use Rattle.js_doc.specs.View.{view};
 ghost use Rattle.js_schema.specs.SchemaView.{schema_view};
+ghost use Rattle.js_guard.specs.RankedView.{entries_of};
 ghost use Rattle.js_match.specs.Matching.{matches};
 ghost use Rattle.js_valid.specs.Plan.{IsPlan};
 
 use crate::decide::is_met;
 use crate::order::order_of;
+use crate::part_verdicts::is_part_met;
 pub use fault::ValidFault;
-use js_doc::{Doc, Memory};
-use js_guard::Ranks;
+use js_doc::{Doc, Memory, PartId, Parts};
+use js_guard::RankedSchema;
 use js_schema::Schema;
 use std::alloc::Global;
 
-/// Whether the document is valid for the root of the schema, entry 0. The ranks are those that `guard` gives.
+/// Whether the document is valid for the root of the schema, entry 0.
 ///
 /// Time: at each part of the document the number of entries, and what those that are asked of it look at there; a
 /// pattern costs the nodes of its tree times the length of the text for each round of its repeats. Memory for the
 /// entries at each level of the document.
-pub fn valid(alloc: Global, schema: &Schema, ranks: &Ranks, doc: &Doc) -> Result<bool, ValidFault>
-    requires { are_ranks (edges (schema_view schema.now)) ranks.now ≡ true }
-    ensures { IfOk result (λ b. b ≡ entry_valid matches (schema_view schema.now) 0 (view doc.now)) }
+pub fn valid(alloc: Global, schema: &RankedSchema, doc: &Doc) -> Result<bool, ValidFault>
+    ensures { IfOk result (λ b. b ≡ entry_valid matches (entries_of schema.now) 0 (view doc.now)) }
 {
-    let listed = ranks_of(alloc, schema.len(), ranks)?;
-    let order = order_of(alloc, &listed)?;
-    Ok(is_root_met(alloc, schema, &order, doc)?)
+    let order = plan_of(alloc, schema)?;
+    Ok(is_root_met(alloc, &schema.table, &order, doc)?)
+}
+
+/// Whether the document that a part of a table stands for is valid for the root of the schema, entry 0. Nothing is
+/// unshared: each pair of an entry and a part is decided once, for the parts up to that one, lowest first.
+///
+/// Time: for each part, the number of entries, and what each of them looks at there; `enum` and `const` cost their
+/// value, a pattern as in `valid`. Memory of a bit for each entry and part. No call goes down the parts.
+pub fn valid_parts(
+    alloc: Global,
+    schema: &RankedSchema,
+    parts: &Parts,
+    part: PartId,
+) -> Result<bool, ValidFault>
+    requires { part.0 < length parts.now }
+    ensures { IfOk result (λ b. b ≡ entry_valid matches (entries_of schema.now) 0 (unshared parts.now part.0)) }
+{
+    let order = plan_of(alloc, schema)?;
+    Ok(is_part_met(alloc, &schema.table, &order, parts, part, 0)?)
+}
+
+/// The entries in an order in which each stands after those that it names in place.
+fn plan_of(alloc: Global, schema: &RankedSchema) -> Result<Vec<u32>, Memory>
+    ensures { IfOk result (λ order. IsPlan (entries_of schema.now) order.items) }
+{
+    order_of(alloc, schema.ranks.as_slice())
 }
 
 fn is_root_met(alloc: Global, schema: &Schema, order: &[u32], doc: &Doc) -> Result<bool, Memory>
@@ -56,16 +86,4 @@ fn is_root_met(alloc: Global, schema: &Schema, order: &[u32], doc: &Doc) -> Resu
     ensures { IfOk result (λ b. b ≡ entry_valid matches (schema_view schema.now) 0 (view doc.now)) }
 {
     is_met(alloc, schema, order, doc, 0)
-}
-
-/// The ranks of that many entries.
-fn ranks_of(alloc: Global, count: u32, ranks: &Ranks) -> Result<Vec<u32>, Memory>
-    requires { length ranks.now ≡ count }
-    ensures { IfOk result (λ listed. listed.items ≡ ranks.now) }
-{
-    let mut listed = Vec::new(alloc);
-    for entry in 0..count {
-        listed.push(ranks.rank(entry))?;
-    }
-    Ok(listed)
 }

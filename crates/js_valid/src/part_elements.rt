@@ -13,30 +13,30 @@ ghost use Rattle.js_valid.specs.Plan.{valid_at};
 ghost use Rattle.js_valid.specs.Requests.{contained, each_at, parts_list};
 
 use crate::ask::{contained_entry, element_entry};
-use crate::tables::holds;
+use crate::verdicts::Verdicts;
 use js_doc::{PartId, PartIds};
 use js_schema::Form;
 
 /// The verdict of an entry on a part.
-pub(crate) fn holds_at(tables: &[Vec<bool>], id: PartId, entry: u32) -> bool
+pub(crate) fn holds_at(tables: &[Verdicts], id: PartId, entry: u32) -> bool
     requires { id.0 < length tables.now }
-    ensures { result ≡ flag (table_at (map (λ t. t.items) tables.now) id.0) entry }
+    ensures { result ≡ flag (table_at tables.now id.0) entry }
 {
-    holds(&tables[id.index()], entry)
+    tables[id.index()].holds(entry)
 }
 
 /// Whether all elements are as the form asks.
-pub(crate) fn are_elements_fine(form: &Form, ids: &PartIds, tables: &[Vec<bool>]) -> bool
+pub(crate) fn are_elements_fine(form: &Form, ids: &PartIds, tables: &[Verdicts]) -> bool
     requires { every (λ i. nat_lt i (length tables.now)) ids.now ≡ true }
-    ensures { (es : List Entry) (ps : List Part) → KnowsTables es ps (map (λ t. t.items) tables.now)
+    ensures { (es : List Entry) (ps : List Part) → KnowsTables es ps tables.now
         → result ≡ parts_list (valid_at es) (form_view form.now) (map (unshared ps) ids.now) }
 {
     are_elements_met(form, ids, tables) && is_contained(form, ids, tables)
 }
 
-fn are_elements_met(form: &Form, ids: &PartIds, tables: &[Vec<bool>]) -> bool
+fn are_elements_met(form: &Form, ids: &PartIds, tables: &[Verdicts]) -> bool
     requires { every (λ i. nat_lt i (length tables.now)) ids.now ≡ true }
-    ensures { (es : List Entry) (ps : List Part) → KnowsTables es ps (map (λ t. t.items) tables.now)
+    ensures { (es : List Entry) (ps : List Part) → KnowsTables es ps tables.now
         → result ≡ each_at (λ i d. every (λ q. valid_at es q d) (of_element (form_view form.now) i)) 0
         (map (unshared ps) ids.now) }
 {
@@ -49,9 +49,9 @@ fn are_elements_met(form: &Form, ids: &PartIds, tables: &[Vec<bool>]) -> bool
     true
 }
 
-fn is_element_met(entry: Option<u32>, tables: &[Vec<bool>], id: PartId) -> bool
+pub(crate) fn is_element_met(entry: Option<u32>, tables: &[Verdicts], id: PartId) -> bool
     requires { id.0 < length tables.now }
-    ensures { (es : List Entry) (ps : List Part) → KnowsTables es ps (map (λ t. t.items) tables.now)
+    ensures { (es : List Entry) (ps : List Part) → KnowsTables es ps tables.now
         → result ≡ every (λ q. valid_at es q (unshared ps id.0)) (lists one entry) }
 {
     match entry {
@@ -60,9 +60,9 @@ fn is_element_met(entry: Option<u32>, tables: &[Vec<bool>], id: PartId) -> bool
     }
 }
 
-fn is_contained(form: &Form, ids: &PartIds, tables: &[Vec<bool>]) -> bool
+fn is_contained(form: &Form, ids: &PartIds, tables: &[Verdicts]) -> bool
     requires { every (λ i. nat_lt i (length tables.now)) ids.now ≡ true }
-    ensures { (es : List Entry) (ps : List Part) → KnowsTables es ps (map (λ t. t.items) tables.now)
+    ensures { (es : List Entry) (ps : List Part) → KnowsTables es ps tables.now
         → result ≡ meets (λ q. not (every (λ d. not (valid_at es q d)) (map (unshared ps) ids.now)))
         (contained (form_view form.now)) }
 {
@@ -72,9 +72,9 @@ fn is_contained(form: &Form, ids: &PartIds, tables: &[Vec<bool>]) -> bool
     }
 }
 
-fn none_meets(entry: u32, ids: &PartIds, tables: &[Vec<bool>]) -> bool
+fn none_meets(entry: u32, ids: &PartIds, tables: &[Verdicts]) -> bool
     requires { every (λ i. nat_lt i (length tables.now)) ids.now ≡ true }
-    ensures { (es : List Entry) (ps : List Part) → KnowsTables es ps (map (λ t. t.items) tables.now)
+    ensures { (es : List Entry) (ps : List Part) → KnowsTables es ps tables.now
         → result ≡ every (λ d. not (valid_at es entry d)) (map (unshared ps) ids.now) }
 {
     for id in ids.as_slice() {

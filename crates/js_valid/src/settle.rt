@@ -74,7 +74,7 @@ fn own_at(
     meets_own(alloc, schema.form(entry), table, doc)
 }
 
-fn set(table: &mut Vec<bool>, entry: u32, verdict: bool)
+pub(crate) fn set(table: &mut Vec<bool>, entry: u32, verdict: bool)
     requires { entry < length table.old.items }
     ensures len { length table.new.items ≡ length table.old.items }
     ensures value { (j : ℕ) → flag table.new.items j ≡ (if nat_eq entry j then verdict else flag table.old.items j) }

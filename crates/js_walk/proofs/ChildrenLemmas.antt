@@ -1,17 +1,16 @@
 -- Places that are added: what was there stands where it stood, since pointers keep their numbers.
 use Rattle.std.proofs.Common.{◌≡◌, ℕ, ◌<◌, List, [], ◌∷◌, ◌++◌, map, length, Bool, true, false, ◌&&◌, nat_lt, Result, Ok, Err, refl, sym, ap, ap₂, subst, ◌∙◌, arith}
 use Rattle.std.specs.Prelude.{OnOk}
-use Rattle.std.proofs.lemmas.Bool.{ltb-true, ltb-false}
+use Rattle.std.proofs.lemmas.Bool.{ltb-true, ltb-false, and_parts, and_from, lt-ltb}
 use Rattle.std.proofs.lemmas.List.{append-nil, append_assoc}
 use Rattle.documents.specs.Tests.{every}
 use Rattle.documents.specs.Json.{Json}
 use Rattle.js_doc.specs.JsonView.{view}
 use Rattle.schemas.specs.Places as P
-use Rattle.js_walk.specs.Table.{Grows}
+use Rattle.js_pointers.specs.Table.{Grows}
 use Rattle.js_walk.specs.declared.place.Place.{Place}
 use Rattle.js_walk.specs.PlacesView.{place_view}
 use Rattle.js_walk.specs.Visiting.{AreWithin, Adds, Adding}
-use Rattle.js_walk.proofs.PlacesLemmas.{both_true}
 
 pub grows-same : (ps : List P.Pointer) → Grows ps ps
 grows-same ps = (omega arith, λ n l. refl)
@@ -22,30 +21,19 @@ grows-on ps qs rs g h =
     let b = h.0 in
     (omega (arith, a, b), λ n l. h.1 n (omega (arith, l, a)) ∙ g.1 n l)
 
-pub lt-true : (m n : ℕ) → m < n → nat_lt m n ≡ true
-lt-true m n l = go (nat_lt m n) refl
-  where
-    go : (b : Bool) → nat_lt m n ≡ b → b ≡ true
-    go true e = refl
-    go false e = let more = ltb-false m n e in absurd (omega (arith, l, more))
-
-pub and_true : (a b : Bool) → a ≡ true → b ≡ true → (a && b) ≡ true
-and_true true b h k = k
-and_true false b h k = absurd (cc)
-
 pub within-grows : (ps qs : List P.Pointer) (cs : List Place) → Grows ps qs → AreWithin ps cs → AreWithin qs cs
 within-grows ps qs [] g all = refl
 within-grows ps qs (c ∷ cs) g all =
-    let parts = both_true (nat_lt c.pointer (length ps)) (every (λ c. nat_lt c.pointer (length ps)) cs) all in
+    let parts = and_parts (nat_lt c.pointer (length ps)) (every (λ c. nat_lt c.pointer (length ps)) cs) all in
     let l = ltb-true c.pointer (length ps) parts.0 in
     let more = g.0 in
-    and_true _ _ (lt-true c.pointer (length qs) (omega (arith, l, more))) (within-grows ps qs cs g parts.1)
+    and_from _ _ (lt-ltb c.pointer (length qs) (omega (arith, l, more))) (within-grows ps qs cs g parts.1)
 
 pub views-stay : (ps qs : List P.Pointer) (cs : List Place) → Grows ps qs → AreWithin ps cs
     → map (place_view qs) cs ≡ map (place_view ps) cs
 views-stay ps qs [] g all = refl
 views-stay ps qs (c ∷ cs) g all =
-    let parts = both_true (nat_lt c.pointer (length ps)) (every (λ c. nat_lt c.pointer (length ps)) cs) all in
+    let parts = and_parts (nat_lt c.pointer (length ps)) (every (λ c. nat_lt c.pointer (length ps)) cs) all in
     let l = ltb-true c.pointer (length ps) parts.0 in
     ap (λ p. (p, view c.value.now) ∷ map (place_view qs) cs) (g.1 c.pointer l)
     ∙ ap (λ ds. place_view ps c ∷ ds) (views-stay ps qs cs g parts.1)

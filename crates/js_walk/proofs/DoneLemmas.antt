@@ -1,13 +1,14 @@
 -- An entry stands where it is noted for its key, and nothing else has that key.
 use Rattle.std.proofs.Common.{◌≡◌, ◌≢◌, ℕ, zero, suc, ◌≤◌, ◌<◌, List, [], ◌∷◌, ◌++◌, length, get_or, Bool, true, false, cond, nat_lt, nat_eq, Option, Some, None, is_some, position, refl, sym, ap, subst, ◌∙◌, arith, length-append}
 use Rattle.std.proofs.Math.ListN.{set}
+use Rattle.std.proofs.lemmas.List.Quantifiers.{position-Some}
 use Rattle.std.specs.Map.{keys_of, lookup}
-use Rattle.std.proofs.lemmas.Bool.{eqb-true, eq-eqb, ltb-true, ltb-false}
+use Rattle.std.proofs.lemmas.Bool.{false≢true, eqb-true, eq-eqb, ltb-true, ltb-false}
 use Rattle.std.proofs.lemmas.List.{get_or-set_same, get_or-set_other, length-set, map-append}
 use Rattle.std.proofs.Math.ListN.{get_or-append}
 use Rattle.std.proofs.Math.Seq.{get_or-append_seam}
+use Rattle.js_pointers.proofs.PositionLemmas.{position-None}
 use Rattle.js_walk.specs.Noted.{AreNoted}
-use Rattle.js_walk.proofs.TableLemmas.{at_position, not_there, false_true}
 
 -- the first that passes is the only one
 position-only : (test : ℕ → Bool) (ks : List ℕ) (k : ℕ) → k < length ks → test (get_or ks k 0) ≡ true
@@ -15,15 +16,15 @@ position-only : (test : ℕ → Bool) (ks : List ℕ) (k : ℕ) → k < length k
 position-only test ks k less is only = go (position test ks) refl
   where
     go : (o : Option ℕ) → position test ks ≡ o → o ≡ Some k
-    go (Some j) e = let at = at_position test ks j 0 e in ap Some (only j at.0 at.1)
-    go None e = absurd (false_true (sym (not_there test ks k 0 e less) ∙ is))
+    go (Some j) e = let at = position-Some test ks j 0 e in ap Some (only j at.0 at.1)
+    go None e = absurd (false≢true (sym (position-None test ks k 0 e less) ∙ is))
 
 position-no : (test : ℕ → Bool) (ks : List ℕ)
     → ((j : ℕ) → j < length ks → test (get_or ks j 0) ≡ true → ⊥) → position test ks ≡ None
 position-no test ks never = go (position test ks) refl
   where
     go : (o : Option ℕ) → position test ks ≡ o → o ≡ None
-    go (Some j) e = let at = at_position test ks j 0 e in absurd (never j at.0 at.1)
+    go (Some j) e = let at = position-Some test ks j 0 e in absurd (never j at.0 at.1)
     go None e = refl
 
 pub length-keys : {V : Type 0} (es : List (ℕ × V)) → length (keys_of es) ≡ length es
@@ -91,8 +92,8 @@ lookup-position {V} p es = go (position (nat_eq p) (keys_of es)) refl
     go : (o : Option ℕ) → position (nat_eq p) (keys_of es) ≡ o
         → is_some (position (nat_eq p) (keys_of es)) ≡ is_some (lookup (nat_eq p) es)
     go (Some j) e =
-        let at = at_position (nat_eq p) (keys_of es) j 0 e in ap is_some e ∙ sym (there p es j at.0 at.1)
-    go None e = ap is_some e ∙ sym (nowhere p es (λ j l. not_there (nat_eq p) (keys_of es) j 0 e l))
+        let at = position-Some (nat_eq p) (keys_of es) j 0 e in ap is_some e ∙ sym (there p es j at.0 at.1)
+    go None e = ap is_some e ∙ sym (nowhere p es (λ j l. position-None (nat_eq p) (keys_of es) j 0 e l))
 
 -- one more key, of which it is noted that it stands last
 pub noted-push : {V : Type 0} (es ds : List (ℕ × V)) (places rooms : List ℕ) (p n : ℕ) (d : V)
@@ -118,7 +119,7 @@ noted-push {V} es ds places rooms p n d noted stays room new e counted =
             let was = noted i l in
             let kept = stays (get_or (keys_of es) i 0) was.0 in
             let other : get_or (keys_of es) i 0 ≢ p = λ q.
-            false_true (sym new ∙ there p es i l (eq-eqb p (get_or (keys_of es) i 0) (sym q))) in (
+            false≢true (sym new ∙ there p es i l (eq-eqb p (get_or (keys_of es) i 0) (sym q))) in (
               rw (same, length-set) kept.0,
               ap (λ k. get_or (set rooms p n) k 0) same
                   ∙ get_or-set_other rooms p (get_or (keys_of es) i 0) n 0 other ∙ kept.1 ∙ was.1,

@@ -1,10 +1,11 @@
 -- A walk goes on past a place: what is done and what waits stands where it stood, since pointers keep their numbers.
 use Rattle.std.proofs.Common.{◌≡◌, ℕ, zero, suc, ◌+◌, ◌≤◌, ◌<◌, List, [], ◌∷◌, ◌++◌, map, reverse, length, get_or, Bool, true, false, cond, nat_lt, nat_eq, Option, Some, None, is_some, refl, sym, ap, ap₂, subst, ◌∙◌, arith}
-use Rattle.std.proofs.lemmas.Bool.{ltb-true}
+use Rattle.std.proofs.lemmas.Bool.{ltb-true, and_parts, and_from, lt-ltb}
 use Rattle.std.proofs.lemmas.List.{map-append, reverse-append, reverse-reverse}
 use Rattle.std.specs.Map.{lookup}
 use Rattle.documents.specs.Tests.{every}
 use Rattle.documents.specs.Json.{Json, null, boolean, number, not_whole, string, array, object}
+use Rattle.list_laws.proofs.Every.{every-append, every-parts}
 use Rattle.js_doc.specs.JsonView.{view}
 use Rattle.schemas.specs.Places as P
 use Rattle.schemas.specs.Places.{has_place}
@@ -13,39 +14,24 @@ use Rattle.schemas.specs.Weight.{weight}
 use Rattle.schemas.specs.Walk.{children}
 use Rattle.schemas.specs.Reading.{fault_at}
 use Rattle.js_keywords.specs.Reading.{rules}
-use Rattle.js_walk.specs.Table.{IsTable, Leads, Grows}
+use Rattle.js_pointers.specs.Table.{AreDistinct, Leads, Grows}
 use Rattle.js_walk.specs.declared.place.Place.{Place}
 use Rattle.js_walk.specs.declared.place.Done.{Done}
 use Rattle.js_walk.specs.declared.place.Found.{Found}
 use Rattle.js_walk.specs.PlacesView.{place_view, done_view, reference_in, RefersTo, AreTargets}
 use Rattle.js_walk.specs.Visiting.{AreWithin, Settles, Settled, Visited}
 use Rattle.js_walk.specs.Walking.{done_places, stack_view, DoneWithin, AllSettled, Kept, Passed}
-use Rattle.js_walk.proofs.PlacesLemmas.{both_true, has_place-lookup}
-use Rattle.js_walk.proofs.ChildrenLemmas.{lt-true, and_true, within-grows, views-stay}
+use Rattle.js_walk.proofs.PlacesLemmas.{has_place-lookup}
+use Rattle.js_walk.proofs.ChildrenLemmas.{within-grows, views-stay}
 
 -- Lists.
-
-pub every-append : {A : Type 0} (test : A → Bool) (xs ys : List A) → every test xs ≡ true → every test ys ≡ true
-    → every test (xs ++ ys) ≡ true
-every-append test [] ys h k = k
-every-append test (x ∷ xs) ys h k =
-    let parts = both_true (test x) (every test xs) h in
-    and_true (test x) (every test (xs ++ ys)) parts.0 (every-append test xs ys parts.1 k)
-
-pub every-parts : {A : Type 0} (test : A → Bool) (xs ys : List A) → every test (xs ++ ys) ≡ true
-    → (every test xs ≡ true) × (every test ys ≡ true)
-every-parts test [] ys h = (refl, h)
-every-parts test (x ∷ xs) ys h =
-    let parts = both_true (test x) (every test (xs ++ ys)) h in
-    let rest = every-parts test xs ys parts.1 in
-    (and_true (test x) (every test xs) parts.0 rest.0, rest.1)
 
 every-reverse : {A : Type 0} (test : A → Bool) (xs : List A) → every test xs ≡ true → every test (reverse xs) ≡ true
 every-reverse test [] h = refl
 every-reverse test (x ∷ xs) h =
-    let parts = both_true (test x) (every test xs) h in
+    let parts = and_parts (test x) (every test xs) h in
     subst (λ ys. every test ys ≡ true) (sym (reverse-append (x ∷ []) xs))
-    (every-append test (reverse xs) (x ∷ []) (every-reverse test xs parts.1) (and_true (test x) true parts.0 refl))
+    (every-append test (reverse xs) (x ∷ []) (every-reverse test xs parts.1) (and_from (test x) true parts.0 refl))
 
 map-reverse : {A B : Type 0} (f : A → B) (xs : List A) → map f (reverse xs) ≡ reverse (map f xs)
 map-reverse f [] = refl
@@ -58,17 +44,17 @@ map-reverse f (x ∷ xs) =
 pub done-within : (ps qs : List P.Pointer) (es : List (ℕ × Done)) → Grows ps qs → DoneWithin ps es → DoneWithin qs es
 done-within ps qs [] g all = refl
 done-within ps qs (e ∷ es) g all =
-    let parts = both_true (nat_lt e.0 (length ps)) (every (λ e. nat_lt e.0 (length ps)) es) all in
+    let parts = and_parts (nat_lt e.0 (length ps)) (every (λ e. nat_lt e.0 (length ps)) es) all in
     let l = ltb-true e.0 (length ps) parts.0 in
     let more = g.0 in
-    and_true (nat_lt e.0 (length qs)) (every (λ e. nat_lt e.0 (length qs)) es)
-    (lt-true e.0 (length qs) (omega (arith, l, more))) (done-within ps qs es g parts.1)
+    and_from (nat_lt e.0 (length qs)) (every (λ e. nat_lt e.0 (length qs)) es)
+    (lt-ltb e.0 (length qs) (omega (arith, l, more))) (done-within ps qs es g parts.1)
 
 pub done-stays : (ps qs : List P.Pointer) (es : List (ℕ × Done)) → Grows ps qs → DoneWithin ps es
     → done_places qs es ≡ done_places ps es
 done-stays ps qs [] g all = refl
 done-stays ps qs (e ∷ es) g all =
-    let parts = both_true (nat_lt e.0 (length ps)) (every (λ e. nat_lt e.0 (length ps)) es) all in
+    let parts = and_parts (nat_lt e.0 (length ps)) (every (λ e. nat_lt e.0 (length ps)) es) all in
     let l = ltb-true e.0 (length ps) parts.0 in
     ap (λ p. (p, view e.1.value.now) ∷ done_places qs es) (g.1 e.0 l)
     ∙ ap (λ ds. done_view ps e ∷ ds) (done-stays ps qs es g parts.1)
@@ -139,7 +125,7 @@ kept-first root ps es before cs p none e empty l = record {
   done = subst (λ es. DoneWithin ps es) (sym none) refl;
   waiting =
       subst (λ cs. AreWithin ps cs) (sym (e ∙ ap (λ bs. bs ++ p ∷ []) empty))
-      (and_true (nat_lt p.pointer (length ps)) true (lt-true p.pointer (length ps) l) refl);
+      (and_from (nat_lt p.pointer (length ps)) true (lt-ltb p.pointer (length ps) l) refl);
   settled = subst (λ es. AllSettled root ps es) (sym none) tt;
 }
 
@@ -165,7 +151,7 @@ module _ (root : Json) (ps qs : List P.Pointer) (es : List (ℕ × Done)) (cs : 
     done =
         let more = grows.0 in
         every-append (λ e. nat_lt e.0 (length qs)) es (now_done ∷ []) (done-within ps qs es grows kept.done)
-        (and_true (nat_lt p.pointer (length qs)) true (lt-true p.pointer (length qs) (omega (arith, within, more)))
+        (and_from (nat_lt p.pointer (length qs)) true (lt-ltb p.pointer (length qs) (omega (arith, within, more)))
         refl);
     waiting =
         let leads = visited.leads in
@@ -204,11 +190,11 @@ module _ (root : Json) (ps qs : List P.Pointer) (es : List (ℕ × Done)) (cs : 
       }
 
 -- a place that isn't done has no entry
-pub not_done : (words : List (List ℕ)) (steps : List (ℕ × ℕ)) (ps : List P.Pointer) → IsTable words steps ps
-    → (n : ℕ) (es : List (ℕ × Done)) → DoneWithin ps es → n < length ps
+pub not_done : (ps : List P.Pointer) → AreDistinct ps → (n : ℕ) (es : List (ℕ × Done)) → DoneWithin ps es
+    → n < length ps
     → has_place (done_places ps es) (get_or ps n []) ≡ false → is_some (lookup (nat_eq n) es) ≡ false
-not_done words steps ps table n es within less new =
-    has_place-lookup words steps ps table n (get_or ps n []) less refl es within ∙ new
+not_done ps distinct n es within less new =
+    has_place-lookup ps distinct n (get_or ps n []) less refl es within ∙ new
 
 -- the targets of a walk that has ended
 pub targets-seen : (root : Json) (ps qs : List P.Pointer) (es : List (ℕ × Done)) (cs : List P.Place)

@@ -1,9 +1,6 @@
 pub mod MembersLemmas
 pub mod HoldingLemmas
-pub mod WordLemmas
-pub mod TableLemmas
 pub mod PlacesLemmas
-pub mod GrowthLemmas
 pub mod ChildrenLemmas
 pub mod FaultLemmas
 pub mod VisitLemmas

@@ -3,52 +3,42 @@ use Rattle.std.proofs.Common.{◌≡◌, ℕ, zero, ◌≤◌, ◌<◌, suc, ◌
 use Rattle.std.specs.List.{prefix_len, position_or_len}
 use Rattle.std.specs.Map.{keys_of, lookup}
 use Rattle.std.proofs.lemmas.Option.{none-some, same_Some}
-use Rattle.std.proofs.lemmas.Bool.{ltb-true, eqb-true, eq-eqb}
+use Rattle.std.proofs.lemmas.Bool.{ltb-true, eqb-true, eq-eqb, and_parts}
+use Rattle.std.proofs.lemmas.Bool.Decides.{same_from_decides}
 use Rattle.std.proofs.lemmas.List.{append-nil}
 use Rattle.documents.specs.Tests.{every}
+use Rattle.list_laws.proofs.Lists.{every_at, in_slice}
 use Rattle.schemas.specs.Places.{Pointer, same_pointer, has_place}
 use Rattle.schemas.specs.Entries.{number_of}
 use Rattle.schema_laws.proofs.Pointers.{same_pointer-refl, same_pointer-eq}
-use Rattle.js_walk.specs.Table.{IsTable, Leads}
+use Rattle.js_pointers.specs.Table.{AreDistinct, Leads}
+use Rattle.js_pointers.proofs.PositionLemmas.{position_or_len-None, position_or_len-Some}
 use Rattle.js_walk.specs.declared.place.Done.{Done}
 use Rattle.js_walk.specs.PlacesView.{done_view}
-use Rattle.js_walk.proofs.TableLemmas.{first_of, none_of}
-
-pub both_true : (a b : Bool) → (a && b) ≡ true → (a ≡ true) × (b ≡ true)
-both_true true b h = (refl, h)
-both_true false b h = absurd (cc)
 
 pub every-at : {A : Type 0} (test : A → Bool) (xs : List A) (i : ℕ) (x : A) → every test xs ≡ true
     → slice_get xs i ≡ Some x → test x ≡ true
-every-at test [] i x all h = absurd (none-some x h)
-every-at test (y ∷ ys) zero x all h =
-    subst (λ z. test z ≡ true) (same_Some y x h) (both_true (test y) (every test ys) all).0
-every-at test (y ∷ ys) (suc i) x all h =
-    every-at test ys i x (both_true (test y) (every test ys) all).1 h
-
-same_test : (a b : Bool) → (a ≡ true → b ≡ true) → (b ≡ true → a ≡ true) → a ≡ b
-same_test true b there back = sym (there refl)
-same_test false true there back = back refl
-same_test false false there back = refl
+every-at test xs i x all h = every_at test x xs all (in_slice x xs i h)
 
 abbrev pub within : List Pointer → List (ℕ × Done) → Bool
 within ps es = every (λ e. nat_lt e.0 (length ps)) es
 
 -- a pointer that has a number
-module _ (words : List (List ℕ)) (steps : List (ℕ × ℕ)) (ps : List Pointer) (table : IsTable words steps ps)
-    (n : ℕ) (p : Pointer) (less : n < length ps) (is : get_or ps n [] ≡ p) where
+module _ (ps : List Pointer) (distinct : AreDistinct ps) (n : ℕ) (p : Pointer) (less : n < length ps)
+    (is : get_or ps n [] ≡ p) where
   agree : (k : ℕ) → k < length ps → nat_eq n k ≡ same_pointer p (get_or ps k [])
   agree k l =
-      same_test _ _
-      (λ h. subst (λ q. same_pointer p q ≡ true) (sym is ∙ ap (λ j. get_or ps j []) (eqb-true n k h))
-      (same_pointer-refl p))
-      (λ h. eq-eqb n k (table.distinct n k less l (is ∙ same_pointer-eq p (get_or ps k []) h)))
+      same_from_decides {P = nat_eq n k ≡ true} _ _ (λ h. h, λ h. h) (
+        λ h. eq-eqb n k (distinct n k less l (is ∙ same_pointer-eq p (get_or ps k []) h)),
+        λ h. subst (λ q. same_pointer p q ≡ true) (sym is ∙ ap (λ j. get_or ps j []) (eqb-true n k h))
+            (same_pointer-refl p),
+      )
 
   pub has_place-lookup : (es : List (ℕ × Done)) → within ps es ≡ true
       → is_some (lookup (nat_eq n) es) ≡ has_place (map (done_view ps) es) p
   has_place-lookup [] all = refl
   has_place-lookup (e ∷ es) all =
-      let parts = both_true (nat_lt e.0 (length ps)) (within ps es) all in
+      let parts = and_parts (nat_lt e.0 (length ps)) (within ps es) all in
       go (nat_eq n e.0) (same_pointer p (get_or ps e.0 [])) (agree e.0 (ltb-true e.0 (length ps) parts.0))
       (has_place-lookup es parts.1)
     where
@@ -63,7 +53,7 @@ module _ (words : List (List ℕ)) (steps : List (ℕ × ℕ)) (ps : List Pointe
       → position_or_len (nat_eq n) (keys_of es) ≡ number_of (map (done_view ps) es) p
   number_of-place [] all = refl
   number_of-place (e ∷ es) all =
-      let parts = both_true (nat_lt e.0 (length ps)) (within ps es) all in
+      let parts = and_parts (nat_lt e.0 (length ps)) (within ps es) all in
       go (nat_eq n e.0) (same_pointer p (get_or ps e.0 [])) (agree e.0 (ltb-true e.0 (length ps) parts.0))
       (number_of-place es parts.1)
     where
@@ -78,15 +68,7 @@ module _ (words : List (List ℕ)) (steps : List (ℕ × ℕ)) (ps : List Pointe
   pub number_of-some : (es : List (ℕ × Done)) (m : ℕ) → within ps es ≡ true
       → position (nat_eq n) (keys_of es) ≡ Some m → m ≡ number_of (map (done_view ps) es) p
   number_of-some es m all h =
-      sym (first_of (position_or_len (nat_eq n) (keys_of es)) (length (keys_of es)) m h).0 ∙ number_of-place es all
-
-  prefix_len-le : (f : ℕ → Bool) (ks : List ℕ) → prefix_len f ks ≤ length ks
-  prefix_len-le f [] = omega arith
-  prefix_len-le f (k ∷ ks) = go (f k) (prefix_len-le f ks)
-    where
-      go : (b : Bool) → prefix_len f ks ≤ length ks → cond b (1 + prefix_len f ks) 0 ≤ suc (length ks)
-      go true h = omega (arith, h)
-      go false h = omega arith
+      position_or_len-Some (nat_eq n) (keys_of es) m h ∙ number_of-place es all
 
   length-keys_of : (es : List (ℕ × Done)) → length es ≡ length (keys_of es)
   length-keys_of [] = refl
@@ -95,18 +77,14 @@ module _ (words : List (List ℕ)) (steps : List (ℕ × ℕ)) (ps : List Pointe
   pub number_of-none : (es : List (ℕ × Done)) → within ps es ≡ true
       → position (nat_eq n) (keys_of es) ≡ None → length es ≡ number_of (map (done_view ps) es) p
   number_of-none es all h =
-      let least = none_of (position_or_len (nat_eq n) (keys_of es)) (length (keys_of es)) h in
-      let most = prefix_len-le (λ k. not (nat_eq n k)) (keys_of es) in
-      let same = number_of-place es all in
-      let counted = length-keys_of es in
-      omega (arith, least, most, same, counted)
+      length-keys_of es ∙ sym (position_or_len-None (nat_eq n) (keys_of es) h) ∙ number_of-place es all
 
 -- a pointer that has no number is that of no place
 pub number_of-absent : (ps : List Pointer) (p : Pointer) (es : List (ℕ × Done)) → Leads ps None p
     → within ps es ≡ true → length es ≡ number_of (map (done_view ps) es) p
 number_of-absent ps p [] none all = refl
 number_of-absent ps p (e ∷ es) none all =
-    let parts = both_true (nat_lt e.0 (length ps)) (within ps es) all in
+    let parts = and_parts (nat_lt e.0 (length ps)) (within ps es) all in
     go (same_pointer p (get_or ps e.0 [])) refl (ltb-true e.0 (length ps) parts.0)
     (number_of-absent ps p es none parts.1)
   where

@@ -1,7 +1,4 @@
--- What a reader must believe: the pointers and places that the program's values stand for.
-pub mod Table
-pub mod TokensView
-pub mod PointersView
+-- What a reader must believe: the places that the program's values stand for.
 pub mod PlacesView
 pub mod FileView
 -- Internal: which schemas lie in a keyword's value, and the steps of the walk.

@@ -5,8 +5,8 @@ use Rattle.js_doc.specs.JsonView.{view}
 use Rattle.schemas.specs.Places as P
 use Rattle.schemas.specs.Walk.{root_id}
 use Rattle.js_json.specs.Reference.{target_of}
-use Rattle.js_walk.specs.Table.{Leads}
-use Rattle.js_walk.specs.PointersView.{pointers_of}
+use Rattle.js_pointers.specs.Table.{Leads}
+use Rattle.js_pointers.specs.PointersView.{pointers_of}
 use Rattle.js_walk.specs.declared.place.Place.{Place}
 use Rattle.js_walk.specs.declared.place.Done.{Done}
 use Rattle.js_walk.specs.declared.places.Places.{Places}

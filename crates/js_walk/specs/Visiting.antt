@@ -11,7 +11,7 @@ use Rattle.js_pattern.specs.declared.fault.PatternFault.{PatternFault}
 use Rattle.js_keywords.specs.declared.fault.SchemaFault.{SchemaFault}
 use Rattle.js_keywords.specs.FaultView.{Tells}
 use Rattle.js_keywords.specs.Member.{named_fault}
-use Rattle.js_walk.specs.Table.{Leads, Grows}
+use Rattle.js_pointers.specs.Table.{Leads, Grows}
 use Rattle.js_walk.specs.declared.place.Place.{Place}
 use Rattle.js_walk.specs.declared.place.Found.{Found}
 use Rattle.js_walk.specs.PlacesView.{place_view}

@@ -6,14 +6,14 @@ ghost use Rattle.std.specs.Prelude.{◌≡◌, ◌<◌, ◌++◌, ◌∷◌, [],
 ghost use Rattle.schemas.specs.Places.{Pointer as P, index_token, elements_under};
 ghost use Rattle.schemas.specs.SubSchemas.{members_under, needs_under, unless_list};
 ghost use Rattle.js_doc.specs.JsonView.{view, list_view, map_view, member_view};
-ghost use Rattle.js_walk.specs.PointersView.{pointers_of};
+ghost use Rattle.js_pointers.specs.PointersView.{pointers_of};
 ghost use Rattle.js_walk.specs.Holding.{read_holding, held, member_held, members_held};
 ghost use Rattle.js_walk.specs.Visiting.{AreWithin, Adds};
 
 use crate::holding::{Holding, member_holding};
 use crate::place::Place;
-use crate::pointers::Pointers;
 use js_doc::{Json, JsonList, JsonMap, JsonMember, Memory};
+use js_pointers::Pointers;
 use std::alloc::Global;
 
 /// The schemas in the keywords of the object at `place`, whose `items` is a list or isn't.

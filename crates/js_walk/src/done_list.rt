@@ -1,7 +1,7 @@
 //! The places that are done, in the order in which they were met, each found by the number of its pointer.
 //!
-//! Numbers of pointers are dense, so a list by them says where a place stands: a pointer's place is done exactly where an
-//! entry with that pointer stands where the list says. A look-up is two looks, and takes no hashing.
+//! Numbers of pointers are dense, so a list by them says where a place stands: a pointer's place is done exactly where
+//! an entry with that pointer stands where the list says. A look-up is two looks, and takes no hashing.
 
 ghost use Rattle.std.specs.Prelude.{◌≡◌, ◌<◌, ◌++◌, ◌∷◌, [], ℕ, false, length, get_or, Some, slice_get, is_some, nat_eq, position, OnOk};
 ghost use Rattle.std.specs.Map.{keys_of, lookup};
@@ -87,8 +87,8 @@ impl<'a> DoneList<'a> {
         self.number(pointer).is_some()
     }
 
-    /// Notes a place as done, after the others. It takes the memory of an entry, and room up to the pointer's number, by
-    /// doubling, and fails only where memory is wanting.
+    /// Notes a place as done, after the others. It takes the memory of an entry, and room up to the pointer's number,
+    /// by doubling, and fails only where memory is wanting.
     pub(crate) fn push(&mut self, pointer: u32, done: Done<'a>) -> Result<(), Memory>
         requires { is_some (lookup (nat_eq pointer) self.old) ≡ false }
         ensures { OnOk result (self.new ≡ self.old ++ (pointer, done.entry) ∷ []) }

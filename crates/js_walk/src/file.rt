@@ -2,16 +2,17 @@
 //!
 //! References are resolved in it, in time in proportion to their text and a look-up for each token.
 
-ghost use Rattle.std.specs.Prelude.{◌≡◌, chars, option_map};
+ghost use Rattle.std.specs.Prelude.{◌≡◌, Some, chars, option_map, IfOk};
 ghost use Rattle.documents.specs.Place.{value_at};
 ghost use Rattle.schemas.specs.Walk as W;
 ghost use Rattle.schemas.specs.Walk.{root_id};
 ghost use Rattle.js_doc.specs.JsonView.{view};
 ghost use Rattle.js_json.specs.Reference as refers;
+ghost use Rattle.js_json.specs.ReferentView.{place_told};
 
 use crate::members::value_of;
 use js_doc::{Json, Str};
-use js_json::{Pointer, RefFault, at_pointer, target};
+use js_json::{RefFault, Referent, target};
 use js_keywords::Keyword;
 use std::alloc::Global;
 
@@ -41,19 +42,13 @@ impl<'a> File<'a> {
         self.root
     }
 
-    /// The place to which a reference leads.
-    pub fn target(&self, alloc: Global, text: &Str) -> Result<Pointer, RefFault>
-        ensures { refers.Answers
-            (refers.target_of (root_of self.now) text.now (root_id (root_of self.now))) result }
+    /// Where a reference leads.
+    pub fn target(&self, alloc: Global, text: &Str) -> Result<Referent<'a>, RefFault>
+        ensures place { refers.Answers
+            (refers.target_of (root_of self.now) text.now (root_id (root_of self.now))) (place_told result) }
+        ensures value { IfOk result (λ t. value_at t.place (root_of self.now) ≡ Some (view t.value.now)) }
     {
         target(alloc, self.root, text.as_text(), self.id)
-    }
-
-    /// The value at a place.
-    pub(crate) fn value(&self, place: &Pointer) -> Option<&'a Json>
-        ensures { option_map (λ j. view j.now) result ≡ value_at place.now (root_of self.now) }
-    {
-        at_pointer(self.root, place)
     }
 }
 

@@ -1,6 +1,6 @@
 //! The walk of a schema: its places in their order, or what is wrong first.
 //!
-//! A place is known by the number of its pointer, in a table where each pointer is an earlier one with one more token.
+//! A place is known by the number of its pointer, in a table of `js_pointers`.
 //! The walk comes to each place once, and takes time and memory in proportion to what it comes to. The reader of
 //! schemas, `js_schema`, stands on this crate.
 #![tactic(auto)]
@@ -12,14 +12,11 @@ mod holding;
 mod members;
 mod place;
 mod places;
-mod pointers;
 mod steps;
-mod tokens;
 mod visit;
 mod weight;
 
 pub use file::File;
 pub use members::value_of;
 pub use places::Places;
-pub use pointers::Pointers;
 pub use steps::walk;

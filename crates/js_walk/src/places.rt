@@ -7,12 +7,12 @@ ghost use Rattle.documents.specs.Tests.{every};
 ghost use Rattle.schemas.specs.Places.{Pointer as P, index_token};
 ghost use Rattle.schemas.specs.Entries.{number_of};
 ghost use Rattle.js_doc.specs.JsonView.{view};
-ghost use Rattle.js_walk.specs.PointersView.{pointers_of};
-ghost use Rattle.js_walk.specs.Table.{Leads};
+ghost use Rattle.js_pointers.specs.PointersView.{pointers_of};
+ghost use Rattle.js_pointers.specs.Table.{Leads};
 
 use crate::done_list::DoneList;
-use crate::pointers::Pointers;
 use js_doc::{Json, Memory};
+use js_pointers::Pointers;
 use std::alloc::Global;
 
 /// Places in their order, no two of them the same.

@@ -12,8 +12,8 @@ ghost use Rattle.schemas.specs.Reading.{fault_with, first_fault};
 ghost use Rattle.js_doc.specs.JsonView.{view};
 ghost use Rattle.js_keywords.specs.FaultView.{Tells};
 ghost use Rattle.js_keywords.specs.Reading.{rules};
+ghost use Rattle.js_pointers.specs.PointersView.{pointers_of};
 ghost use Rattle.js_walk.specs.FileView.{root_of};
-ghost use Rattle.js_walk.specs.PointersView.{pointers_of};
 ghost use Rattle.js_walk.specs.PlacesView.{place_view, pointers_in, places_view, targets_of, AreTargets};
 ghost use Rattle.js_walk.specs.Visiting.{AreWithin};
 ghost use Rattle.js_walk.specs.Walking.{done_places, stack_view, DoneWithin, Kept, NextOf, Passes, too_large};
@@ -22,11 +22,11 @@ use crate::done_list::DoneList;
 use crate::file::File;
 use crate::place::{Done, Found, Place};
 use crate::places::Places;
-use crate::pointers::Pointers;
 use crate::visit::visit;
 use crate::weight::weight;
 use js_doc::Memory;
 use js_keywords::SchemaFault;
+use js_pointers::Pointers;
 use std::alloc::Global;
 
 /// What a schema may weigh.

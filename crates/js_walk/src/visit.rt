@@ -14,8 +14,8 @@ ghost use Rattle.js_doc.specs.JsonView.{view, map_view, member_view};
 ghost use Rattle.js_keywords.specs.FaultView.{ChecksOrTells};
 ghost use Rattle.js_keywords.specs.Member.{named_fault};
 ghost use Rattle.js_keywords.specs.Reading.{rules};
+ghost use Rattle.js_pointers.specs.PointersView.{pointers_of};
 ghost use Rattle.js_walk.specs.FileView.{root_of};
-ghost use Rattle.js_walk.specs.PointersView.{pointers_of};
 ghost use Rattle.js_walk.specs.PlacesView.{place_view, reference_in};
 ghost use Rattle.js_walk.specs.Visiting.{Adds, Settles, Visits, members_fault_by};
 
@@ -23,10 +23,10 @@ use crate::children::children;
 use crate::file::File;
 use crate::members::{has_list, value_of};
 use crate::place::{Found, Place};
-use crate::pointers::Pointers;
 use js_doc::{Json, JsonMap, JsonMember, Memory, Str};
-use js_json::{Pointer, RefFault};
-use js_keywords::{Keyword, SchemaFault, check_member, wrong_shape};
+use js_json::{Pointer, RefFault, Referent};
+use js_keywords::{Keyword, ObjectPlace, SchemaFault, check_member, wrong_shape};
+use js_pointers::Pointers;
 use std::alloc::Global;
 
 /// The places that a place leads to, or what is wrong there first.
@@ -105,28 +105,28 @@ fn follow<'a>(
         (W.referred rules (root_of file.now) (D.string text.now)) (Some (D.string text.now)) result }
 {
     match file.target(alloc, text) {
-        Ok(target) => Ok(found_at(alloc, file, pointers, &target)?),
+        Ok(target) => Ok(found_at(alloc, file, pointers, target)?),
         Err(RefFault::Memory) => Err(SchemaFault::Memory),
         Err(fault) => Err(SchemaFault::Ref(fault, pointers.pointer(alloc, place)?)),
     }
 }
 
-/// The place to which a reference leads, where there is one.
+/// The place to which a reference leads.
 fn found_at<'a>(
     alloc: Global,
     file: &File<'a>,
     pointers: &mut Pointers,
-    target: &Pointer,
+    target: Referent<'a>,
 ) -> Result<Found<'a>, Memory>
+    requires { value_at target.place (root_of file.now) ≡ Some (view target.value.now) }
     ensures places { IfOk result (λ found. Adds (pointers_of pointers.old) (pointers_of pointers.new) []
-        found.places.items (W.place_with target.now (value_at target.now (root_of file.now)))) }
-    ensures target { IfOk result (λ found. Settles (pointers_of pointers.new) found.target target.now) }
+        found.places.items (W.place_with target.entry.place (value_at target.entry.place (root_of file.now)))) }
+    ensures target { IfOk result (λ found. Settles (pointers_of pointers.new) found.target target.entry.place) }
 {
-    let pointer = pointers.add_whole(target)?;
+    let Referent { place, value } = target;
+    let pointer = pointers.add_whole(&place)?;
     let mut places = Vec::new(alloc);
-    if let Some(value) = file.value(target) {
-        places.push(Place { pointer, value })?;
-    }
+    places.push(Place { pointer, value })?;
     Ok(Found {
         places,
         target: Some(pointer),
@@ -171,11 +171,19 @@ fn check_members<'a>(
         (get_or (pointers_of pointers.now) place []) (map_view members.now)) result }
 {
     let short = short_pointer(alloc, place)?;
-    match check_all(alloc, file, &short, listed, members) {
+    let object = ObjectPlace {
+        pointer: &short,
+        listed,
+    };
+    match check_all(alloc, file, &object, members) {
         Ok(()) => Ok(()),
         Err(_) => {
             let pointer = pointers.pointer(alloc, place)?;
-            check_all(alloc, file, &pointer, listed, members)
+            let object = ObjectPlace {
+                pointer: &pointer,
+                listed,
+            };
+            check_all(alloc, file, &object, members)
         }
     }
 }
@@ -191,19 +199,19 @@ fn short_pointer(alloc: Global, place: u32) -> Result<Pointer, Memory>
     Ok(pointer)
 }
 
-/// What is wrong first in members that stand at `place`.
+/// What is wrong first in the members of the object.
 #[tactic(auto, using(js_keywords::proofs::ShapesLemmas::first_faults))]
 fn check_all<'a>(
     alloc: Global,
     file: &File<'a>,
-    place: &Pointer,
-    listed: bool,
+    object: &ObjectPlace<'_>,
     members: &'a JsonMap,
 ) -> Result<(), SchemaFault>
-    ensures { ChecksOrTells (members_fault_by (root_of file.now) listed place.now (map_view members.now)) result }
+    ensures { ChecksOrTells (members_fault_by (root_of file.now) object.now.listed object.now.pointer.now
+        (map_view members.now)) result }
 {
     for member in members.as_slice() {
-        check_one(alloc, file, place, listed, member)?;
+        check_one(alloc, file, object, member)?;
     }
     Ok(())
 }
@@ -211,12 +219,11 @@ fn check_all<'a>(
 fn check_one<'a>(
     alloc: Global,
     file: &File<'a>,
-    place: &Pointer,
-    listed: bool,
+    object: &ObjectPlace<'_>,
     member: &'a JsonMember,
 ) -> Result<(), SchemaFault>
-    ensures { ChecksOrTells (named_fault (root_of file.now) listed place.now
+    ensures { ChecksOrTells (named_fault (root_of file.now) object.now.listed object.now.pointer.now
         (member_view member.now).0 (member_view member.now).1) result }
 {
-    check_member(alloc, place, listed, member.name(), member.value())
+    check_member(alloc, object, member)
 }

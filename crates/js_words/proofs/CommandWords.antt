@@ -5,6 +5,14 @@ use Rattle.std.proofs.lemmas.Str.{char_from_byte, byte_from_char, chars-encodes,
 use lib.Utf8.{encode}
 use Rattle.js_words.specs.Commands.{is_name}
 
+pub chars-sat : chars (codes "sat") ≡ codes "sat"
+unfolding encode
+chars-sat = chars-encodes (codes "sat") refl
+
+pub utf8-sat : IsUtf8 (codes "sat")
+unfolding encode
+utf8-sat = (codes "sat", (refl, refl))
+
 pub chars-include : chars (codes "include") ≡ codes "include"
 unfolding encode
 chars-include = chars-encodes (codes "include") refl

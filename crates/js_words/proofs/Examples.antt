@@ -1,6 +1,15 @@
 -- Worked examples of the command words, each computed from the definition.
 use Rattle.std.specs.Prelude.{◌≡◌, [], ◌∷◌, Some, None, refl, codes}
-use Rattle.js_words.specs.Commands.{Include, Valid, Norm, command}
+use Rattle.js_words.specs.Commands.{Sat, Include, Valid, Norm, command}
+
+sat : command (codes "sat" ∷ codes "a" ∷ []) ≡ Some (Sat (codes "a"))
+sat = refl
+
+sat_of_an_option : command (codes "sat" ∷ codes "--workers" ∷ []) ≡ None
+sat_of_an_option = refl
+
+sat_of_two : command (codes "sat" ∷ codes "a" ∷ codes "b" ∷ []) ≡ None
+sat_of_two = refl
 
 include : command (codes "include" ∷ codes "a" ∷ codes "b" ∷ []) ≡ Some (Include (codes "a") (codes "b"))
 include = refl

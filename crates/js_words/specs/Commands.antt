@@ -4,6 +4,8 @@ use Rattle.documents.specs.Tests.{same_word}
 
 -- what is to be done, with the names of files
 pub data Command : Type 0 where
+  -- find a document of a schema
+  Sat : (schema : List ℕ) → Command
   -- include the first schema in the second
   Include : (first second : List ℕ) → Command
   -- validate a document
@@ -25,10 +27,11 @@ named w a b =
 
 -- the command of that word with one name
 abbrev pub of_one : List ℕ → List ℕ → Option Command
-of_one w a = cond (same_word w (codes "norm") && is_name a) (Some (Norm a)) None
+of_one w a =
+    cond (same_word w (codes "sat")) (Some (Sat a)) (cond (same_word w (codes "norm")) (Some (Norm a)) None)
 
--- `include NAME NAME`, `valid NAME NAME` and `norm NAME`; no other words are a command
+-- `sat NAME`, `include NAME NAME`, `valid NAME NAME` and `norm NAME`; no other words are a command
 abbrev pub command : List (List ℕ) → Option Command
-command (w ∷ a ∷ []) = of_one w a
+command (w ∷ a ∷ []) = cond (is_name a) (of_one w a) None
 command (w ∷ a ∷ b ∷ []) = cond (is_name a && is_name b) (named w a b) None
 command _ = None

@@ -10,6 +10,9 @@ use js_doc::Str;
 /// What the words ask for, with the names of files.
 #[derive(Clone, Copy)]
 pub enum Command<'a> {
+    /// A schema: has it a document?
+    Sat(&'a Str),
+
     /// Two schemas: is the first included in the second?
     Include(&'a Str, &'a Str),
 
@@ -25,7 +28,13 @@ pub fn read_words(words: &[Str]) -> Option<Command<'_>>
     ensures { option_map command_view result ≡ C.command words.now }
 {
     match words {
-        [word, name] => of_one(word, name),
+        [word, name] => {
+            if is_name(name) {
+                of_one(word, name)
+            } else {
+                None
+            }
+        }
         [word, first, second] => {
             if is_name(first) && is_name(second) {
                 named(word, first, second)
@@ -40,7 +49,9 @@ pub fn read_words(words: &[Str]) -> Option<Command<'_>>
 fn of_one<'a>(word: &Str, name: &'a Str) -> Option<Command<'a>>
     ensures { option_map command_view result ≡ C.of_one word.now name.now }
 {
-    if is_norm(word) && is_name(name) {
+    if is_sat(word) {
+        Some(Command::Sat(name))
+    } else if is_norm(word) {
         Some(Command::Norm(name))
     } else {
         None
@@ -57,6 +68,12 @@ fn named<'a>(word: &Str, first: &'a Str, second: &'a Str) -> Option<Command<'a>>
     } else {
         None
     }
+}
+
+fn is_sat(word: &Str) -> bool
+    ensures { result ≡ same_word word.now (codes "sat") }
+{
+    "sat" == word.as_text()
 }
 
 fn is_include(word: &Str) -> bool

@@ -16,6 +16,10 @@ fn other_words_are_no_command(rt: HostRuntime) -> Result<(), Memory> {
         "include",
         "include a",
         "include a b c",
+        "sat",
+        "sat -x",
+        "sat a b",
+        "sat a --workers 65",
         "include -x b",
         "include a -x",
         "include -- b",
@@ -117,27 +121,27 @@ fn a_file_that_is_no_schema_is_refused(rt: HostRuntime) -> Result<(), Memory> {
 fn a_place_that_is_not_decided_on_is_refused(rt: HostRuntime) -> Result<(), Memory> {
     for (a, b, report) in [
         (
-            "{\"minimum\":1}",
+            "{\"minProperties\":1}",
             "true",
-            "refused first notyet \"/minimum\"\n",
+            "refused first notyet \"/minProperties\"\n",
         ),
         (
-            "{\"required\":[],\"enum\":[1],\"type\":\"null\"}",
-            "{\"minimum\":1}",
+            "{\"required\":[],\"enum\":[[{}]],\"type\":\"null\"}",
+            "{\"minProperties\":1}",
             "refused first notyet \"/enum\"\n",
         ),
         (
-            "{\"allOf\":[{\"$ref\":\"#/definitions/a\"}],\"definitions\":{\"a\":true}}",
+            "{\"allOf\":[{\"const\":{}}]}",
             "true",
-            "refused first notyet \"/allOf/0/$ref\"\n",
+            "refused first notyet \"/allOf/0/const\"\n",
         ),
         (
             "true",
-            "{\"not\":{\"minimum\":1}}",
-            "refused second notyet \"/not/minimum\"\n",
+            "{\"not\":{\"properties\":{}}}",
+            "refused second notyet \"/not/properties\"\n",
         ),
-        ("", "{\"minimum\":1}", "refused first notjson\n"),
-        ("{\"minimum\":1}", "", "refused second notjson\n"),
+        ("", "{\"minProperties\":1}", "refused first notjson\n"),
+        ("{\"minProperties\":1}", "", "refused second notjson\n"),
     ] {
         let files = (a.as_bytes(), b.as_bytes());
         expect(&rt, rt.alloc(), "include a b", files, (3, report))?;

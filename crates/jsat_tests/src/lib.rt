@@ -14,4 +14,6 @@ mod judging;
 #[cfg(test)]
 mod listing;
 #[cfg(test)]
+mod satisfying;
+#[cfg(test)]
 mod setting;

@@ -2,3 +2,4 @@ pub mod Lists
 pub mod Tests
 pub mod Pigeons
 pub mod Counts
+pub mod Every

@@ -2,7 +2,7 @@
 
 use js_core_text::core_text;
 use js_doc::{Json, Memory};
-use js_guard::{GuardFault, guard};
+use js_guard::{Guarded, guard};
 use js_json::{JsonFault, read_json};
 use js_keywords::SchemaFault;
 use js_normal::normalise;
@@ -20,19 +20,18 @@ pub(crate) fn answer(alloc: Global, text: &str) -> Result<String, Memory> {
 
 fn answer_of_value(alloc: Global, json: &Json) -> Result<String, Memory> {
     match read_schema(alloc, json) {
-        Ok(schema) => answer_of_schema(alloc, &schema),
+        Ok(schema) => answer_of_schema(alloc, schema),
         Err(SchemaFault::Memory) => Err(Memory),
         Err(_) => Ok(String::from_str(alloc, "no schema\n")?),
     }
 }
 
-fn answer_of_schema(alloc: Global, schema: &Schema) -> Result<String, Memory> {
-    match guard(alloc, schema) {
-        Ok(ranks) => {
-            let core = normalise(alloc, schema, &ranks)?;
+fn answer_of_schema(alloc: Global, schema: Schema) -> Result<String, Memory> {
+    match guard(alloc, schema)? {
+        Guarded::Ranked(schema) => {
+            let core = normalise(alloc, &schema)?;
             core_text(alloc, &core)
         }
-        Err(GuardFault::Memory) => Err(Memory),
-        Err(GuardFault::Cycle(_)) => Ok(String::from_str(alloc, "circular\n")?),
+        Guarded::Circular(..) => Ok(String::from_str(alloc, "circular\n")?),
     }
 }

@@ -1,5 +1,6 @@
 -- A document meets the groups of an `enum` exactly where it is one of the values.
 use Rattle.std.proofs.Common.{◌≡◌, ℕ, ℤ, List, [], ◌∷◌, ◌++◌, Bool, true, false, ◌&&◌, ◌||◌, not, cond, Option, Some, None, refl, sym, ◌∙◌, filter}
+use Rattle.std.proofs.Math.Bool.{or-false}
 use Rattle.std.proofs.lemmas.Bool.{and_parts, and_from}
 use Rattle.std.proofs.lemmas.Bool.Decides.{Decides-int_eq}
 use Rattle.std.specs.List.{list_any, filter_map}
@@ -17,7 +18,7 @@ use Rattle.normal_forms.specs.KeywordNodes.{once, is_null, truth_in, number_in, 
 use Rattle.normal_laws.specs.Making.{IsMeaning, Makes}
 use Rattle.normal_laws.proofs.MakingLemmas.{makes-nothing, makes-node, makes-both, makes-any, tests_of}
 use Rattle.normal_laws.proofs.ValueNodes.{makes-same, makes-kind, value_makes, kind_test, same_word-swap}
-use Rattle.normal_laws.proofs.Repeats.{or-false, some-once}
+use Rattle.normal_laws.proofs.Repeats.{some-once}
 
 -- a test of either kind, over a list
 some-either : {A : Type 0} (f g : A → Bool) (xs : List A) → some (λ x. f x || g x) xs ≡ (some f xs || some g xs)

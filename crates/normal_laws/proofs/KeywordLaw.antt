@@ -1,5 +1,6 @@
 -- The key lemma: a document passes the tests of an object's nodes exactly where it meets what its keywords ask.
 use Rattle.std.proofs.Common.{◌≡◌, ℕ, ℤ, pos, ◌+ℤ◌, ◌-ℤ◌, int_le, int_lt, nat_le, List, [], ◌∷◌, ◌++◌, length, Bool, true, false, ◌&&◌, ◌||◌, not, Option, Some, None, refl, ap, ap₂, sym, ◌∙◌, arith}
+use Rattle.std.proofs.Math.Bool.{and-true, and_comm, and_assoc}
 use Rattle.documents.specs.Tests.{every, some, same_word}
 use Rattle.documents.specs.Kind.{same_kind}
 use Rattle.documents.specs.Document as D
@@ -25,22 +26,8 @@ use Rattle.normal_laws.proofs.EnumNodes.{enum_makes}
 use Rattle.normal_laws.proofs.KeywordNodes as N
 
 -- ---- tests in any order
-and-swap : (a b : Bool) → (a && b) ≡ (b && a)
-and-swap true true = refl
-and-swap true false = refl
-and-swap false true = refl
-and-swap false false = refl
-
-and-group : (a b c : Bool) → ((a && b) && c) ≡ (a && (b && c))
-and-group true b c = refl
-and-group false b c = refl
-
-and-true : (a : Bool) → (a && true) ≡ a
-and-true true = refl
-and-true false = refl
-
 last_first : (a b c : Bool) → (a && (b && c)) ≡ ((b && c) && a)
-last_first a b c = and-swap a (b && c)
+last_first a b c = and_comm a (b && c)
 
 backwards : (a b c : Bool) → (a && (b && c)) ≡ (c && (b && a))
 backwards true true true = refl
@@ -53,7 +40,7 @@ backwards false false true = refl
 backwards false false false = refl
 
 between : (a x i : Bool) → (a && (x && i)) ≡ ((a && i) && x)
-between true x i = and-swap x i
+between true x i = and_comm x i
 between false x i = refl
 
 -- ---- tests of a keyword that may be there
@@ -108,8 +95,8 @@ module _ (k : Keywords) where
         ordered : (m mi emi ma ema : Bool) → (m && (mi && (emi && (ma && ema)))) ≡ ((((m && ma) && ema) && mi) && emi)
         ordered false mi emi ma ema = refl
         ordered true mi emi ma ema =
-            sym (and-group mi emi (ma && ema)) ∙ and-swap (mi && emi) (ma && ema)
-            ∙ sym (and-group (ma && ema) mi emi)
+            sym (and_assoc mi emi (ma && ema)) ∙ and_comm (mi && emi) (ma && ema)
+            ∙ sym (and_assoc (ma && ema) mi emi)
 
         by_kind : (J : Document)
             → (meets (λ m. at_number (is_multiple m) J) k.multiple_of
@@ -154,7 +141,7 @@ module _ (k : Keywords) where
       (pass-one (λ t. at_string (finds (tree_of t))) k.pattern J))
       ∙ by_kind J where
         ordered : (mi ma p : Bool) → (mi && (ma && p)) ≡ ((ma && mi) && p)
-        ordered mi ma p = sym (and-group mi ma p) ∙ ap (λ b. b && p) (and-swap mi ma)
+        ordered mi ma p = sym (and_assoc mi ma p) ∙ ap (λ b. b && p) (and_comm mi ma)
 
         by_kind : (J : Document)
             → (meets (λ n. at_string (λ w. nat_le n (length w)) J) k.min_length
@@ -202,7 +189,7 @@ module _ (k : Keywords) where
         ∙ by_kind J where
           ordered : (i c mi ma : Bool) → (i && (c && (mi && ma))) ≡ (((i && ma) && mi) && c)
           ordered false c mi ma = refl
-          ordered true c mi ma = backwards c mi ma ∙ sym (and-group ma mi c)
+          ordered true c mi ma = backwards c mi ma ∙ sym (and_assoc ma mi c)
 
           by_kind : (J : Document)
               → (meets (λ s. items_test s J) k.items
@@ -314,14 +301,14 @@ module _ (T : List Position) (holds : ℕ → Document → Bool) (meaning : IsMe
     ordered : (r p q a n d mi ma : Bool)
         → ((r && (p && (q && (a && (n && d))))) && (mi && ma)) ≡ (((((((ma && mi) && r) && p) && q) && a) && d) && n)
     ordered r p q a n d mi ma =
-        and-swap (r && (p && (q && (a && (n && d))))) (mi && ma)
-        ∙ ap (λ b. b && (r && (p && (q && (a && (n && d)))))) (and-swap mi ma)
-        ∙ ap (λ b. (ma && mi) && (r && (p && (q && (a && b))))) (and-swap n d)
-        ∙ sym (and-group (ma && mi) r (p && (q && (a && (d && n)))))
-        ∙ sym (and-group ((ma && mi) && r) p (q && (a && (d && n))))
-        ∙ sym (and-group (((ma && mi) && r) && p) q (a && (d && n)))
-        ∙ sym (and-group ((((ma && mi) && r) && p) && q) a (d && n))
-        ∙ sym (and-group (((((ma && mi) && r) && p) && q) && a) d n)
+        and_comm (r && (p && (q && (a && (n && d))))) (mi && ma)
+        ∙ ap (λ b. b && (r && (p && (q && (a && (n && d)))))) (and_comm mi ma)
+        ∙ ap (λ b. (ma && mi) && (r && (p && (q && (a && b))))) (and_comm n d)
+        ∙ sym (and_assoc (ma && mi) r (p && (q && (a && (d && n)))))
+        ∙ sym (and_assoc ((ma && mi) && r) p (q && (a && (d && n))))
+        ∙ sym (and_assoc (((ma && mi) && r) && p) q (a && (d && n)))
+        ∙ sym (and_assoc ((((ma && mi) && r) && p) && q) a (d && n))
+        ∙ sym (and_assoc (((((ma && mi) && r) && p) && q) && a) d n)
 
     none : (meets (λ ws. true) k.required && (meets (λ ns. true) k.properties
         && (meets (λ ns. true) k.pattern_properties && (meets (λ e. true) k.additional_properties
@@ -386,7 +373,7 @@ module _ (T : List Position) (holds : ℕ → Document → Bool) (meaning : IsMe
       ∙ meets-same (λ ts. types_test ts J) (some (has_type J)) k.types (λ ts. N.types_same ts J))
       (pass-append (one_test enum_test k.enumeration) _ J
       ∙ ap₂ ◌&&◌ (pass-one enum_test k.enumeration J) (pass-one same_document k.constant J))
-      ∙ and-swap (meets (some (has_type J)) k.types)
+      ∙ and_comm (meets (some (has_type J)) k.types)
       (meets (λ ds. enum_test ds J) k.enumeration && meets (λ d. same_document d J) k.constant)
 
   in_place_split : (J : Document) → all_pass in_place_tests J
@@ -410,8 +397,8 @@ module _ (T : List Position) (holds : ℕ → Document → Bool) (meaning : IsMe
       (meets (exactly_one (here J)) k.one_of) (meets (λ e. not (here J e)) k.not) where
         grouped : (x a b c d : Bool) → (x && (a && (b && (c && d)))) ≡ ((((x && a) && b) && c) && d)
         grouped x a b c d =
-            sym (and-group x a (b && (c && d))) ∙ sym (and-group (x && a) b (c && d))
-            ∙ sym (and-group ((x && a) && b) c d)
+            sym (and_assoc x a (b && (c && d))) ∙ sym (and_assoc (x && a) b (c && d))
+            ∙ sym (and_assoc ((x && a) && b) c d)
 
   -- ---- all tests
   abbrev pub keyword_tests : List (Document → Bool)
@@ -427,7 +414,7 @@ module _ (T : List Position) (holds : ℕ → Document → Bool) (meaning : IsMe
       ∙ ap₂ ◌&&◌ (strings_pass k tree_of (here J) below J) (pass-append (array_tests k below) _ J
       ∙ ap₂ ◌&&◌ (arrays_pass k below matches (here J) J) (pass-append member_tests _ J
       ∙ ap (λ b. all_pass member_tests J && b) (pass-append count_tests in_place_tests J)
-      ∙ sym (and-group (all_pass member_tests J) (all_pass count_tests J) (all_pass in_place_tests J))
+      ∙ sym (and_assoc (all_pass member_tests J) (all_pass count_tests J) (all_pass in_place_tests J))
       ∙ ap (λ b. b && all_pass in_place_tests J) (objects_pass J)))))
       ∙ ordered (all_pass any_tests J) (at_number (asks_number matches (here J) below k) J)
       (at_string (asks_string matches (here J) below k) J) (at_array (asks_array matches (here J) below k) J)
@@ -437,12 +424,12 @@ module _ (T : List Position) (holds : ℕ → Document → Bool) (meaning : IsMe
       && at_object (asks_object matches (here J) below k) J) (everywhere_pass J) where
         ordered : (x n s a o i : Bool) → (x && (n && (s && (a && (o && i))))) ≡ (((((x && i) && n) && s) && a) && o)
         ordered x n s a o i =
-            ap (λ b. x && (n && (s && b))) (sym (and-group a o i))
-            ∙ ap (λ b. x && (n && b)) (sym (and-group s (a && o) i))
-            ∙ ap (λ b. x && b) (sym (and-group n (s && (a && o)) i))
+            ap (λ b. x && (n && (s && b))) (sym (and_assoc a o i))
+            ∙ ap (λ b. x && (n && b)) (sym (and_assoc s (a && o) i))
+            ∙ ap (λ b. x && b) (sym (and_assoc n (s && (a && o)) i))
             ∙ between x (n && (s && (a && o))) i
-            ∙ sym (and-group (x && i) n (s && (a && o))) ∙ sym (and-group ((x && i) && n) s (a && o))
-            ∙ sym (and-group (((x && i) && n) && s) a o)
+            ∙ sym (and_assoc (x && i) n (s && (a && o))) ∙ sym (and_assoc ((x && i) && n) s (a && o))
+            ∙ sym (and_assoc (((x && i) && n) && s) a o)
 
   -- ---- the nodes stand for the tests
   makes-there : {A : Type 0} (f : A → Maker) (ps : A → List (Document → Bool)) (ok : A → Bool) (o : Option A)

@@ -1,5 +1,6 @@
 -- What the nodes of each keyword ask: what the keyword asks.
-use Rattle.std.proofs.Common.{◌≡◌, ℕ, List, [], ◌∷◌, length, drop, Bool, true, false, ◌&&◌, ◌||◌, not, Option, Some, None, refl, ap, sym, ◌∙◌}
+use Rattle.std.proofs.Common.{◌≡◌, ℕ, List, [], ◌∷◌, length, drop, Bool, true, ◌&&◌, ◌||◌, not, Option, Some, None, refl, ap, sym, ◌∙◌}
+use Rattle.std.proofs.Math.Bool.{and-true, and_comm, or-false}
 use Rattle.std.proofs.lemmas.Bool.{and_parts}
 use Rattle.std.specs.List.{AllByRecursion}
 use Rattle.documents.specs.Tests.{every, some, same_word, is_scalar}
@@ -24,15 +25,9 @@ use Rattle.normal_laws.specs.Making.{all_pass, IsMeaning, AreMet, Makes}
 use Rattle.normal_laws.proofs.MakingLemmas.{makes-node, makes-entry, makes-both, makes-above, makes-all, makes-each, tests_of}
 use Rattle.normal_laws.proofs.ValueNodes.{documents_in, values_in, makes-same}
 use Rattle.normal_laws.proofs.EnumNodes.{some-filter, some-alike}
-use Rattle.normal_laws.proofs.Repeats.{or-false, every-once}
+use Rattle.normal_laws.proofs.Repeats.{every-once}
 
 -- ---- types
-and-swap : (a b : Bool) → (a && b) ≡ (b && a)
-and-swap true true = refl
-and-swap true false = refl
-and-swap false true = refl
-and-swap false false = refl
-
 -- a kind is among those that pass a test exactly where it passes it
 kind_among : (p : K.Kind → Bool) (t : K.Kind) → some (λ x. K.same_kind t x && p x) K.all_kinds ≡ p t
 kind_among p K.Null = or-false (p K.Null)
@@ -47,7 +42,7 @@ pub types_same : (ts : List TypeName) (J : Document) → some (K.same_kind (kind
 types_same ts J =
     sym (some-filter (λ t. some (λ n. K.same_kind t (kind_named n)) ts) (K.same_kind (kind_of J)) K.all_kinds)
     ∙ some-alike _ (λ x. K.same_kind (kind_of J) x && some (λ n. K.same_kind x (kind_named n)) ts) K.all_kinds
-    (λ x. and-swap (some (λ n. K.same_kind x (kind_named n)) ts) (K.same_kind (kind_of J) x))
+    (λ x. and_comm (some (λ n. K.same_kind x (kind_named n)) ts) (K.same_kind (kind_of J) x))
     ∙ kind_among (λ x. some (λ n. K.same_kind x (kind_named n)) ts) (kind_of J)
 
 module _ (T : List Position) (holds : ℕ → Document → Bool) (meaning : IsMeaning T holds) (tree_of : List ℕ → Tree)
@@ -79,10 +74,6 @@ module _ (T : List Position) (holds : ℕ → Document → Bool) (meaning : IsMe
 
   abbrev pub items_test : Option ℕ → ItemsPart → Document → Bool
   items_test rest s = at_array (λ ds. items_ask below s ds && if_there true (λ e. rest_asks below (Some s) e ds) rest)
-
-  and-true : (a : Bool) → (a && true) ≡ a
-  and-true true = refl
-  and-true false = refl
 
   each_asked : (rest : Option ℕ) (e : ℕ) (J : Document) → is_document J ≡ true
       → asks (λ q. holds q J) holds (Q.Items [] e) J ≡ items_test rest (Each e) J

@@ -1,5 +1,6 @@
 -- What the nodes of an object's value ask of an object: that it has the same members.
 use Rattle.std.proofs.Common.{◌≡◌, ℕ, subst, List, [], ◌∷◌, Bool, true, false, ◌&&◌, ◌||◌, not, map, refl, ap, sym, ◌∙◌, true≢false, arith, nat_eq, nat_lt}
+use Rattle.std.proofs.Math.Bool.{and-false}
 use Rattle.std.proofs.lemmas.Bool.{and_parts, and_from}
 use Rattle.documents.specs.Tests.{every, some, same_word, comes_before, is_scalar}
 use Rattle.documents.specs.Document.{Document, Members, no_members, member, entries, is_document, are_members}
@@ -125,10 +126,6 @@ some-after l [] h = refl
 some-after l (m ∷ ms) h =
     let parts = and_parts (comes_before l m.0) (all_after l ms) h in
     rw (same_word-before l m.0 parts.0) (some-after l ms parts.1)
-
-and-false : (a : Bool) → (a && false) ≡ false
-and-false true = refl
-and-false false = refl
 
 and-around : (a b c : Bool) → (((a && true) && b) && c) ≡ (a && (b && c))
 and-around true b c = refl

@@ -1,6 +1,7 @@
 -- The law of the normal form: the position of an entry holds of the documents that are valid for the entry.
 use Rattle.std.proofs.Common.{◌≡◌, ℕ, zero, suc, ◌<◌, List, [], ◌∷◌, ◌++◌, length, Bool, true, false, cond, nat_le, refl, ap, sym, ◌∙◌, subst, arith, append_assoc}
 use Rattle.std.proofs.lemmas.Bool.{and_parts}
+use Rattle.std.proofs.lemmas.List.{length_push}
 use Rattle.documents.specs.Tests.{every}
 use Rattle.documents.specs.Document.{Document, depth, is_document}
 use Rattle.levels.specs.Within.{RankedWithin}
@@ -32,17 +33,14 @@ stands_after A (x ∷ B) =
     let here : position_at (A ++ x ∷ B) (length A) ≡ x = at_end A in
     let P : List Position → Type 0 = λ xs. Stands xs (length (A ++ x ∷ [])) B in
     let Q : ℕ → Type 0 = λ n. Stands (A ++ x ∷ B) n B in
-    (here, subst Q (one_more A) (subst P (append_assoc A (x ∷ []) B) (stands_after (A ++ x ∷ []) B))) where
+    let more : length (A ++ x ∷ []) ≡ suc (length A) = omega (arith, length_push A x) in
+    (here, subst Q more (subst P (append_assoc A (x ∷ []) B) (stands_after (A ++ x ∷ []) B))) where
       at_end : (A : List Position) → position_at (A ++ x ∷ B) (length A) ≡ x
       at_end [] = refl
       at_end (y ∷ A) = at_end A
 
-      one_more : (A : List Position) → length (A ++ x ∷ []) ≡ suc (length A)
-      one_more [] = refl
-      one_more (y ∷ A) = ap suc (one_more A)
-
 module _ (tree_of : List ℕ → Tree) where
-  length-entry_positions : (n : ℕ) (es : List Entry) → length (entry_positions tree_of n es) ≡ length es
+  pub length-entry_positions : (n : ℕ) (es : List Entry) → length (entry_positions tree_of n es) ≡ length es
   length-entry_positions n [] = refl
   length-entry_positions n (e ∷ es) =
       ap suc (length-entry_positions (after n (form_nodes tree_of e.form n)) es)

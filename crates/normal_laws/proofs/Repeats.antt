@@ -1,35 +1,9 @@
 -- Lists without repeats pass the same tests.
 use Rattle.std.proofs.Common.{◌≡◌, List, [], ◌∷◌, Bool, true, false, ◌&&◌, ◌||◌, ◌⊎◌, inl, inr, refl, ap, sym, ◌∙◌, true≢false}
-use Rattle.std.proofs.lemmas.Bool.{and_parts}
+use Rattle.std.proofs.Math.Bool.{and-true, and-false, or-true, or-false}
+use Rattle.std.proofs.lemmas.Bool.{and_parts, or_cases, or_left, or_right}
 use Rattle.documents.specs.Tests.{every, some}
 use Rattle.normal_forms.specs.KeywordNodes.{once_among, once}
-
-pub or-either : (a b : Bool) → (a || b) ≡ true → (a ≡ true) ⊎ (b ≡ true)
-or-either true b h = inl refl
-or-either false b h = inr h
-
-pub or-left : (a b : Bool) → a ≡ true → (a || b) ≡ true
-or-left a b h = rw h refl
-
-pub or-right : (a b : Bool) → b ≡ true → (a || b) ≡ true
-or-right true b h = refl
-or-right false b h = h
-
-pub or-false : (a : Bool) → (a || false) ≡ a
-or-false true = refl
-or-false false = refl
-
-or-true : (a : Bool) → (a || true) ≡ true
-or-true true = refl
-or-true false = refl
-
-and-true : (a : Bool) → (a && true) ≡ a
-and-true true = refl
-and-true false = refl
-
-and-false : (a : Bool) → (a && false) ≡ false
-and-false true = refl
-and-false false = refl
 
 -- what is there already adds nothing
 or-absorbs : (a b d : Bool) → (a ≡ true → d ≡ true) → (b || d) ≡ ((a || b) || d)
@@ -51,17 +25,17 @@ and-moves false o s d h = refl
 module _ {A : Type 0} (same : A → A → Bool) (same-eq : (x y : A) → same x y ≡ true → x ≡ y) (p : A → Bool) where
   found : (x : A) (done : List A) → some (same x) done ≡ true → p x ≡ true → some p done ≡ true
   found x [] h e = h
-  found x (y ∷ done) h e = either (or-either (same x y) (some (same x) done) h) (λ r. found x done r e) where
+  found x (y ∷ done) h e = either (or_cases (same x y) (some (same x) done) h) (λ r. found x done r e) where
     either : (same x y ≡ true) ⊎ (some (same x) done ≡ true) → (some (same x) done ≡ true → some p done ≡ true)
         → some p (y ∷ done) ≡ true
-    either (inl s) rest = or-left (p y) (some p done) (ap p (sym (same-eq x y s)) ∙ e)
-    either (inr r) rest = or-right (p y) (some p done) (rest r)
+    either (inl s) rest = or_left (p y) (some p done) (ap p (sym (same-eq x y s)) ∙ e)
+    either (inr r) rest = or_right (p y) (some p done) (rest r)
 
   passed : (x : A) (done : List A) → some (same x) done ≡ true → every p done ≡ true → p x ≡ true
   passed x [] h e = absurd (true≢false (sym h))
   passed x (y ∷ done) h e =
       let parts = and_parts (p y) (every p done) e in
-      either (or-either (same x y) (some (same x) done) h) parts.0 (λ r. passed x done r parts.1) where
+      either (or_cases (same x y) (some (same x) done) h) parts.0 (λ r. passed x done r parts.1) where
         either : (same x y ≡ true) ⊎ (some (same x) done ≡ true) → p y ≡ true → (some (same x) done ≡ true → p x ≡ true)
             → p x ≡ true
         either (inl s) e rest = ap p (same-eq x y s) ∙ e

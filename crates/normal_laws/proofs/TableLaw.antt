@@ -1,8 +1,8 @@
 -- The core table of a schema is a table: what positions name is there, numbers have their ranges, and ranks fall.
-use Rattle.std.proofs.Common.{◌≡◌, ℕ, suc, ◌+◌, ◌*◌, ◌^◌, ◌<◌, ◌≤◌, inl, inr, List, [], ◌∷◌, ◌++◌, length, map, get_or, Bool, true, false, ◌&&◌, nat_lt, nat_le, nat_eq, refl, ap, sym, ◌∙◌, subst, arith, add-zero}
+use Rattle.std.proofs.Common.{◌≡◌, ℕ, suc, ◌+◌, ◌*◌, ◌^◌, ◌<◌, ◌≤◌, inl, inr, List, [], ◌∷◌, ◌++◌, length, map, get_or, Bool, true, false, ◌&&◌, nat_lt, nat_le, nat_eq, refl, ap, sym, ◌∙◌, subst, arith, add-zero, append_assoc}
 use Rattle.std.proofs.Math.Seq.{get_or-append_seam}
 use Rattle.std.proofs.lemmas.Bool.{and_parts, and_from}
-use Rattle.std.proofs.lemmas.List.{get_or-map, get_or_append_left}
+use Rattle.std.proofs.lemmas.List.{get_or-map, get_or_append_left, length_push}
 use Rattle.std.specs.List.{AllByRecursion}
 use Rattle.documents.specs.Tests.{every}
 use Rattle.patterns.specs.Tree.{Tree}
@@ -18,7 +18,7 @@ use Rattle.schemas.specs.Guarded.{edges, are_ranks}
 use Rattle.schemas.specs.Weight.{most_weight}
 use Rattle.schema_laws.proofs.Ranks.{are_ranks-length}
 use Rattle.position_laws.proofs.Lists.{all-both}
-use Rattle.normal_laws.proofs.NormalLaw.{in_range-at}
+use Rattle.normal_laws.proofs.NormalLaw.{in_range-at, length-entry_positions}
 use Rattle.positions.specs.Position.{Position, in_place, of_parts, names_below, in_range, ranks_fall, is_table}
 use Rattle.normal_forms.specs.Nodes.{Nodes, after}
 use Rattle.normal_forms.specs.NormalForm.{form_nodes, entry_position, entry_positions, all_nodes, node_rank, entry_rank, numbered, node_ranks, table_of, ranks_of}
@@ -30,20 +30,13 @@ abbrev RanksAt : List ℕ → ℕ → List ℕ → Type 0
 RanksAt RS n [] = Unit {0}
 RanksAt RS n (y ∷ ys) = (get_or RS n 0 ≡ y) × RanksAt RS (suc n) ys
 
-one_more : (A : List ℕ) (x : ℕ) → length (A ++ x ∷ []) ≡ suc (length A)
-one_more [] x = refl
-one_more (y ∷ A) x = ap suc (one_more A x)
-
-joined_once : (A : List ℕ) (x : ℕ) (B : List ℕ) → (A ++ x ∷ []) ++ B ≡ A ++ x ∷ B
-joined_once [] x B = refl
-joined_once (y ∷ A) x B = ap (λ xs. y ∷ xs) (joined_once A x B)
-
 ranks_after : (A B : List ℕ) → RanksAt (A ++ B) (length A) B
 ranks_after A [] = tt
 ranks_after A (x ∷ B) =
     let P : List ℕ → Type 0 = λ xs. RanksAt xs (length (A ++ x ∷ [])) B in
     let Q : ℕ → Type 0 = λ n. RanksAt (A ++ x ∷ B) n B in
-    (get_or-append_seam A x B 0, subst Q (one_more A x) (subst P (joined_once A x B) (ranks_after (A ++ x ∷ []) B)))
+    let more : length (A ++ x ∷ []) ≡ suc (length A) = omega (arith, length_push A x) in
+    (get_or-append_seam A x B 0, subst Q more (subst P (append_assoc A (x ∷ []) B) (ranks_after (A ++ x ∷ []) B)))
 
 ranks-append : (RS : List ℕ) (n : ℕ) (xs ys : List ℕ) → RanksAt RS n (xs ++ ys)
     → RanksAt RS n xs × RanksAt RS (n + length xs) ys
@@ -61,12 +54,14 @@ length-numbered r p (P ∷ Ps) = ap suc (length-numbered r (suc p) Ps)
 rank_in : (RS : List ℕ) (r n : ℕ) (Ps : List Position) → RanksAt RS n (numbered r n Ps) → (q : ℕ) → n ≤ q
     → q < n + length Ps → get_or RS q 0 ≡ node_rank r q
 rank_in RS r n [] h q a b = absurd (omega (arith, a, b))
-rank_in RS r n (P ∷ Ps) h q a b = first_or (nat_eq n q) refl (λ c. rank_in RS r (suc n) Ps h.1 q c (omega (arith, b))) where
-  first_or : (t : Bool) → nat_eq n q ≡ t → (suc n ≤ q → get_or RS q 0 ≡ node_rank r q) → get_or RS q 0 ≡ node_rank r q
-  first_or true e more =
-      let same : n ≡ q = grind (arith, e) in
-      let F : ℕ → Type 0 = λ k. get_or RS k 0 ≡ node_rank r k in subst F same h.0
-  first_or false e more = let later : suc n ≤ q = grind (arith, e, a) in more later
+rank_in RS r n (P ∷ Ps) h q a b =
+    first_or (nat_eq n q) refl (λ c. rank_in RS r (suc n) Ps h.1 q c (omega (arith, b))) where
+      first_or : (t : Bool) → nat_eq n q ≡ t → (suc n ≤ q → get_or RS q 0 ≡ node_rank r q)
+          → get_or RS q 0 ≡ node_rank r q
+      first_or true e more =
+          let same : n ≡ q = grind (arith, e) in
+          let F : ℕ → Type 0 = λ k. get_or RS k 0 ≡ node_rank r k in subst F same h.0
+      first_or false e more = let later : suc n ≤ q = grind (arith, e, a) in more later
 
 all_tested : {A : Type 0} (P : A → Type 0) (test : A → Bool) (xs : List A) → ((x : A) → P x → test x ≡ true)
     → AllByRecursion P xs → every test xs ≡ true
@@ -183,7 +178,8 @@ module _ (tree_of : List ℕ → Tree) (RS : List ℕ) (L first : ℕ) (some_ent
   may_in r n m q h = inr h
 
   entry_falls : (r n e : ℕ) (f : Form) → IsBlock r n e f
-      → every (λ q. nat_lt (get_or RS q 0) (get_or RS e 0)) (in_place (entry_position tree_of f (form_nodes tree_of f n)))
+      → every (λ q. nat_lt (get_or RS q 0) (get_or RS e 0))
+      (in_place (entry_position tree_of f (form_nodes tree_of f n)))
       ≡ true
   entry_falls r n e Always b = refl
   entry_falls r n e Never b = refl
@@ -194,7 +190,8 @@ module _ (tree_of : List ℕ → Tree) (RS : List ℕ) (L first : ℕ) (some_ent
   entry_falls r n e (Asks k) b =
       all_tested (May r n (after n (form_nodes tree_of (Asks k) n)))
       (λ q. nat_lt (get_or RS q 0) (get_or RS e 0)) (form_nodes tree_of (Asks k) n).named
-      (λ q a. entry_above r n (after n (form_nodes tree_of (Asks k) n)) e q b.own (known_ranks r n e (Asks k) b) b.few a)
+      (λ q a.
+      entry_above r n (after n (form_nodes tree_of (Asks k) n)) e q b.own (known_ranks r n e (Asks k) b) b.few a)
       (grown r n e (Asks k) b).1
 
   entry_named : (r n e : ℕ) (f : Form) → IsBlock r n e f
@@ -277,7 +274,8 @@ module _ (tree_of : List ℕ → Tree) (RS : List ℕ) (L first : ℕ) (some_ent
   unfolding IsBlocks
   blocks_fall rk n e [] b = refl
   blocks_fall rk n e (f ∷ fs) b =
-      fall-append RS n (form_nodes tree_of f.form n).added (all_nodes tree_of (after n (form_nodes tree_of f.form n)) fs)
+      fall-append RS n (form_nodes tree_of f.form n).added
+      (all_nodes tree_of (after n (form_nodes tree_of f.form n)) fs)
       (nodes_fall (rk e) n (after n (form_nodes tree_of f.form n)) n (form_nodes tree_of f.form n).added
       (known_ranks (rk e) n e f.form b.0) (omega arith) (omega arith) (grown (rk e) n e f.form b.0).0)
       (blocks_fall rk (after n (form_nodes tree_of f.form n)) (suc e) fs b.1)
@@ -357,10 +355,6 @@ module _ (tree_of : List ℕ → Tree) where
       let three = length-numbered r n a.added in
       let rest = length-node_ranks (after n a) fs rs (omega (arith, h)) in omega (arith, one, two, three, rest)
 
-  length-heads : (n : ℕ) (fs : List Entry) → length (entry_positions tree_of n fs) ≡ length fs
-  length-heads n [] = refl
-  length-heads n (f ∷ fs) = ap suc (length-heads (after n (form_nodes tree_of f.form n)) fs)
-
   module _ (es : List Entry) (table : S.is_table es ≡ true) (ranks : List ℕ) (are : are_ranks (edges es) ranks ≡ true)
       (few : length (table_of tree_of es) < 2 ^ 32) where
     abbrev rk : ℕ → ℕ
@@ -433,7 +427,7 @@ module _ (tree_of : List ℕ → Tree) where
     length_split =
         length-joined tree_of [] 0 1 (omega arith) (entry_positions tree_of (length es) es)
         (all_nodes tree_of (length es) es)
-        ∙ ap (λ n. n + length (all_nodes tree_of (length es) es)) (length-heads (length es) es)
+        ∙ ap (λ n. n + length (all_nodes tree_of (length es) es)) (length-entry_positions tree_of (length es) es)
 
     blocks : IsBlocks tree_of (ranks_of tree_of es ranks) L (length es) some_entry rk (length es) 0 es
     blocks =
@@ -481,7 +475,8 @@ module _ (tree_of : List ℕ → Tree) where
     unfolding table_of
     all_fall =
         let P : ℕ → Type 0 = λ k. ranks_fall RS k rest ≡ true in
-        let place : length es ≡ 0 + length heads = let a = length-heads (length es) es in omega (arith, a) in
+        let a = length-entry_positions tree_of (length es) es in
+        let place : length es ≡ 0 + length heads = omega (arith, a) in
         fall-append RS 0 heads rest (heads_fall tree_of RS L (length es) some_entry rk (length es) 0 es blocks)
         (subst P place (blocks_fall tree_of RS L (length es) some_entry rk (length es) 0 es blocks))
 
@@ -490,7 +485,8 @@ module _ (tree_of : List ℕ → Tree) where
     is_table-normal =
         and_from _ (ranks_fall RS 0 (table_of tree_of es))
         (and_from _ (every in_range (table_of tree_of es))
-        (and_from (nat_eq L (length RS)) (every (names_below L) (table_of tree_of es)) length_same all_named) all_ranged)
+        (and_from (nat_eq L (length RS)) (every (names_below L) (table_of tree_of es)) length_same all_named)
+        all_ranged)
         all_fall
 
     -- at least as many positions as entries

@@ -1,5 +1,6 @@
 -- A document meets the node of a value exactly where it is the value.
-use Rattle.std.proofs.Common.{◌≡◌, ℕ, ℤ, List, [], ◌∷◌, ◌++◌, length, drop, Bool, true, false, ◌&&◌, ◌||◌, not, cond, nat_le, nat_eq, refl, ap, sym, ◌∙◌, arith}
+use Rattle.std.proofs.Common.{◌≡◌, ℕ, ℤ, List, [], ◌∷◌, ◌++◌, length, drop, Bool, true, false, ◌&&◌, not, cond, nat_le, nat_eq, refl, ap, sym, ◌∙◌, arith}
+use Rattle.std.proofs.Math.Bool.{and-true, or-false}
 use Rattle.std.proofs.lemmas.Bool.{and_parts}
 use Rattle.std.specs.Bool.{beq}
 use Rattle.std.specs.List.{AllByRecursion, list_any}
@@ -18,14 +19,6 @@ use Rattle.normal_laws.specs.Making.{all_pass, IsMeaning, AreMet, Makes}
 use Rattle.normal_laws.proofs.MakingLemmas.{makes-nothing, makes-node, makes-both, makes-above, makes-all}
 use Rattle.normal_laws.proofs.ItemTests.{item_tests, items_same}
 use Rattle.normal_laws.proofs.MemberTests.{have_all, none_other, names_of, members_same}
-
-and-true : (a : Bool) → (a && true) ≡ a
-and-true true = refl
-and-true false = refl
-
-or-false : (a : Bool) → (a || false) ≡ a
-or-false true = refl
-or-false false = refl
 
 nat_eq-swap : (a b : ℕ) → nat_eq a b ≡ nat_eq b a
 nat_eq-swap a b = by_test (nat_eq a b) refl where

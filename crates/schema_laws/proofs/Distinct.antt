@@ -1,5 +1,7 @@
 -- Places with pointers that are all different.
 use Rattle.std.proofs.Common.{◌≡◌, suc, ◌≤◌, List, [], ◌∷◌, ◌++◌, length, ◌⊎◌, inl, inr, ⊎_elim, Bool, true, false, ◌||◌, refl, sym, ap, subst, ◌∙◌, arith, true≢false}
+use Rattle.std.proofs.Math.Bool.{or_assoc}
+use Rattle.std.proofs.lemmas.Bool.{or_cases, or_parts}
 use Rattle.std.specs.List.{IsDistinct, AllByRecursion}
 use Rattle.std.specs.Set.{is_member}
 use Rattle.std.proofs.lemmas.Map.Made.{length-le_from_is_member}
@@ -17,15 +19,7 @@ pub has_place-append : (cs ds : List Place) (p : Pointer) → has_place (cs ++ d
 has_place-append [] ds p = refl
 has_place-append (c ∷ cs) ds p =
     ap (λ b. same_pointer p c.0 || b) (has_place-append cs ds p)
-    ∙ or_assoc (same_pointer p c.0) (has_place cs p) (has_place ds p)
-  where
-    or_assoc : (a b c : Bool) → (a || (b || c)) ≡ ((a || b) || c)
-    or_assoc true b c = refl
-    or_assoc false b c = refl
-
-pub either : (a b : Bool) → (a || b) ≡ true → (a ≡ true) ⊎ (b ≡ true)
-either true b h = inl refl
-either false b h = inr h
+    ∙ sym (or_assoc (same_pointer p c.0) (has_place cs p) (has_place ds p))
 
 -- what is found among some places is found among others that have them all
 pub has_place-all : (cs ds : List Place) (p : Pointer) → ((c : Place) → IsIn c cs → IsIn c ds) → has_place cs p ≡ true
@@ -34,11 +28,7 @@ has_place-all [] ds p all h = absurd (true≢false (sym h))
 has_place-all (c ∷ cs) ds p all h = ⊎_elim
     (λ l. subst (λ q. has_place ds q ≡ true) (sym (same_pointer-eq p c.0 l)) (has_place-in c ds (all c (inl refl))))
     (λ r. has_place-all cs ds p (λ d k. all d (inr k)) r)
-    (either (same_pointer p c.0) (has_place cs p) h)
-
-neither : (a b : Bool) → (a || b) ≡ false → (a ≡ false) × (b ≡ false)
-neither true b h = absurd (true≢false h)
-neither false b h = (refl, h)
+    (or_cases (same_pointer p c.0) (has_place cs p) h)
 
 apart_more : (q p : Pointer) (ps : List Pointer) → AllByRecursion (λ y. same_pointer q y ≡ false) ps
     → same_pointer q p ≡ false → AllByRecursion (λ y. same_pointer q y ≡ false) (ps ++ p ∷ [])
@@ -50,7 +40,7 @@ distinct_more : (ps : List Pointer) (p : Pointer) → IsDistinct same_pointer ps
 unfolding IsDistinct
 distinct_more [] p d h = (tt, tt)
 distinct_more (q ∷ ps) p d h =
-    let both = neither (same_pointer p q) (is_member same_pointer ps p) h in
+    let both = or_parts (same_pointer p q) (is_member same_pointer ps p) h in
     (apart_more q p ps d.0 (same_pointer-equivalence.symm q p ∙ both.0), distinct_more ps p d.1 both.1)
 
 pointers-append : (cs ds : List Place) → pointers (cs ++ ds) ≡ pointers cs ++ pointers ds

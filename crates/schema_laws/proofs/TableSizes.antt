@@ -1,7 +1,7 @@
 -- An entry has no more values than its place weighs.
 use Rattle.std.proofs.Common.{◌≡◌, ℕ, suc, ◌+◌, ◌≤◌, List, [], ◌∷◌, ◌++◌, map, length, Bool, true, false, ◌&&◌, ◌||◌, not, cond, Option, Some, None, option_map, option_and_then, Result, Ok, Err, codes, refl, sym, ap, ap₂, subst, arith, true≢false}
 use Rattle.std.proofs.Math.ListN.{length-map}
-use Rattle.std.proofs.lemmas.Bool.{and_parts}
+use Rattle.std.proofs.lemmas.Bool.{and_parts, not-true}
 use Rattle.documents.specs.Tests.{some, same_word}
 use Rattle.documents.specs.Json.{Json, boolean, string, array, object, Items, no_items, item, Members, no_members, member, lookup, elements, entries, count, items_count, members_count}
 use Rattle.schemas.specs.Places.{Pointer, Place, elements_under}
@@ -128,10 +128,6 @@ neither : (a b : Bool) → not (a || b) ≡ true → (not a ≡ true) × (not b 
 neither true b h = (h, absurd (true≢false (sym h)))
 neither false b h = (refl, h)
 
-is_false : (b : Bool) → not b ≡ true → b ≡ false
-is_false true h = absurd (true≢false (sym h))
-is_false false h = refl
-
 module _ (f : List ℕ → Json → ℕ) (n : List ℕ) (v : Json) (ms : Members) where
   -- a member that none of the keywords names adds nothing
   sum_of-other : (ks : List (List ℕ)) → not (some (λ j. same_word j n) ks) ≡ true
@@ -139,7 +135,7 @@ module _ (f : List ℕ → Json → ℕ) (n : List ℕ) (v : Json) (ms : Members
   sum_of-other [] h = refl
   sum_of-other (k ∷ ks) h =
       let both = neither (same_word k n) (some (λ j. same_word j n) ks) h in
-      ap₂ (λ b rest. if_there 0 (f k) (cond b (Some v) (lookup k ms)) + rest) (is_false (same_word k n) both.0)
+      ap₂ (λ b rest. if_there 0 (f k) (cond b (Some v) (lookup k ms)) + rest) (not-true (same_word k n) both.0)
       (sum_of-other ks both.1)
 
   -- and one that is named adds its own values

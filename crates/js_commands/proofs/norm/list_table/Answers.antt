@@ -1,5 +1,5 @@
 use Rattle.std.proofs.Common.{string_bytes, refl}
-use Rattle.js_schema.specs.SchemaView.{schema_view}
+use Rattle.js_guard.specs.RankedView.{entries_of}
 use Rattle.js_input.specs.SchemaReading.{Refused}
 use Rattle.js_commands.specs.NormOutcome.{SchemaRefused}
 use Rattle.js_commands.proofs.NormOutcomeLemmas.{listing-bytes, listing-read}
@@ -12,7 +12,7 @@ returns-in_ok-text_of-in-Some-Read-clause-says g c =
     let (same, (bytes, has, (j, is, of))) = rw c.in-Some-Read.field-0-is at says in (
       same,
       listing-read (g.H.Shelf.told c.args.shelf.now) c.args.name.now bytes
-          (string_bytes c.in_ok-text_of-in-Some-Read.field-0) j (schema_view c.in-Some-Read.schema) has is
+          (string_bytes c.in_ok-text_of-in-Some-Read.field-0) j (entries_of c.in-Some-Read.schema) has is
           of.well_formed of.entries c.in_ok-text_of-in-Some-Read.ensures.text c.in_ok-text_of-in-Some-Read.ensures.means,
     )
 

@@ -1,13 +1,20 @@
-use Rattle.js_schema.specs.SchemaView.{schema_view}
+use Rattle.std.proofs.Common.{sym, subst, ap, ◌∙◌}
+use Rattle.schemas.specs.Guarded.{edges, IsLeastCycle}
+use Rattle.js_report.specs.RefusalWords.{cycle_words}
 use Rattle.js_input.proofs.CycleLemmas.{cycle-below}
+use Rattle.js_schema.specs.SchemaView.{schema_view}
 use Rattle.js_input.proofs.schema.guarded.Goals as goal
 
 pub cycle_words-requires : goal.cycle_words-requires
 cycle_words-requires c =
-    let told = rw c.in-Err-Cycle.field-0-is at c.in-Err-Cycle.ensures.cycle in
-    cycle-below (schema_view c.args.schema) c.in-Err-Cycle.cycle told.1
+    let (same, circular, least) = rw c.in-Circular.is at c.in_ok-schema.ensures in
+    cycle-below (schema_view c.in-Circular.schema) c.in-Circular.cycle
+    (subst (λ es. IsLeastCycle (edges es) c.in-Circular.cycle) (sym same) least)
 
-pub returns-in-Err-Cycle : goal.returns-in-Err-Cycle
-returns-in-Err-Cycle c = λ j.
-    let told = rw c.in-Err-Cycle.field-0-is at c.in-Err-Cycle.ensures.cycle in
-    (c.in-Err-Cycle.cycle, told.1, c.in_ok-words-in-Err-Cycle.ensures)
+pub returns-in_ok-words-in-Circular : goal.returns-in_ok-words-in-Circular
+returns-in_ok-words-in-Circular c = λ j.
+    let (same, circular, least) = rw c.in-Circular.is at c.in_ok-schema.ensures in (
+      c.in-Circular.cycle,
+      least,
+      c.in_ok-words-in-Circular.ensures ∙ ap (λ es. cycle_words es c.in-Circular.cycle) same,
+    )

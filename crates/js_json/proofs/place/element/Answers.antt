@@ -5,7 +5,8 @@ use Rattle.js_json.proofs.place.element.Goals as goal
 pub returns-in_err-element_index : goal.returns-in_err-element_index
 returns-in_err-element_index c =
     rw c.from_residual.ensures (sym (element_absent c.as_slice-items.result.now _ (chars c.args.token.now)
-    c.as_slice-items.ensures.view (λ i is. omega (arith, c.in_err-element_index.ensures i is, c.as_slice-items.type_inv))))
+    c.as_slice-items.ensures.view
+    (λ i is. omega (arith, c.in_err-element_index.ensures i is, c.as_slice-items.type_inv))))
 
 pub returns : goal.returns
 returns c =

@@ -1,14 +1,13 @@
-use Rattle.std.proofs.Common.{◌≡◌, [], ◌∷◌, ◌++◌, map, drop}
+use Rattle.std.proofs.Common.{◌≡◌, map, drop}
 use Rattle.documents.specs.Json.{members_of}
 use Rattle.schemas.specs.Fault.{needs_fault}
 use Rattle.js_doc.specs.JsonView.{member_view, map_view}
-use Rattle.js_keywords.specs.Names.{keyword_name}
 use Rattle.js_keywords.specs.Reading.{rules}
+use Rattle.js_keywords.specs.ValuePlaceView.{name_at, place_of}
 use Rattle.js_keywords.proofs.shapes.check_needs.Given as goal
 
 abbrev pub invariant-loop-member : goal.invariant-loop-member
 invariant-loop-member l =
-    needs_fault rules (keyword_name l.keyword) (l.place ++ keyword_name l.keyword ∷ [])
+    needs_fault rules (name_at l.place) (place_of l.place)
     (members_of (map member_view (drop l.member-index l.member-items)))
-    ≡ needs_fault rules (keyword_name l.fn.keyword) (l.fn.place ++ keyword_name l.fn.keyword ∷ [])
-    (map_view l.fn.members)
+    ≡ needs_fault rules (name_at l.fn.place) (place_of l.fn.place) (map_view l.fn.members)

@@ -8,8 +8,8 @@ use Rattle.js_normal.proofs.join.join_tables.Goals as goal
 
 pub make-requires-clause-table : goal.make-requires-clause-table
 make-requires-clause-table c =
-    joined-table c.args.a.now.positions c.args.b.now.positions (map node_view c.from_vec-nodes.result) c.args.a.now.ranks
-    c.args.b.now.ranks c.from_vec.result c.append.new.ranks.items
+    joined-table c.args.a.now.positions c.args.b.now.positions (map node_view c.from_vec-nodes.result)
+    c.args.a.now.ranks c.args.b.now.ranks c.from_vec.result c.append.new.ranks.items
     (joined-built c.args.a.now.positions c.args.b.now.positions _
     (map node_view c.append.new.nodes.items) c.len-5.result
     c.len-5.ensures.value

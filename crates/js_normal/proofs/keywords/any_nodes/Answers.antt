@@ -3,7 +3,7 @@ use Rattle.std.proofs.lemmas.Result.{IfOk-equal}
 use Rattle.positions.specs.Position.{Types}
 use Rattle.normal_forms.specs.KeywordNodes.{kinds_of}
 use Rattle.js_keywords.specs.TypeView.{type_view}
-use Rattle.js_normal.proofs.RunLemmas.{chain, chain-end, run-optional}
+use Rattle.js_values.proofs.RunLemmas.{chain, chain-end, run-optional}
 use Rattle.js_normal.proofs.keywords.any_nodes.Goals as goal
 
 pub returns : goal.returns

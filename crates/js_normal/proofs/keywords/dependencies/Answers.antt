@@ -1,4 +1,4 @@
-use Rattle.js_normal.proofs.RunLemmas.{run-missing}
+use Rattle.js_values.proofs.RunLemmas.{run-missing}
 use Rattle.js_normal.proofs.keywords.dependencies.Goals as goal
 
 pub returns-in-None : goal.returns-in-None

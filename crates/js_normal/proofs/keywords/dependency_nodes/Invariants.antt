@@ -2,12 +2,11 @@ use Rattle.std.proofs.Common.{◌≡◌, map, drop}
 use Rattle.normal_forms.specs.Nodes.{each}
 use Rattle.normal_forms.specs.KeywordNodes.{dependency_node}
 use Rattle.js_schema.specs.View.{dependency_view}
-use Rattle.js_normal.specs.Runs.{run}
-use Rattle.js_normal.specs.BuilderView.{state_of}
+use Rattle.js_values.specs.Runs.{run}
 use Rattle.js_normal.proofs.keywords.dependency_nodes.Given as goal
 
 abbrev pub invariant-loop-dependency : goal.invariant-loop-dependency
 invariant-loop-dependency l =
-    run (each dependency_node (map dependency_view l.dependency-items)) (state_of l.fn.builder l.fn.named.items)
+    run (each dependency_node (map dependency_view l.dependency-items)) l.fn.sink
     ≡ run (each dependency_node (map dependency_view (drop l.dependency-index l.dependency-items)))
-    (state_of l.builder l.named.items)
+    l.sink

@@ -1,7 +1,7 @@
 use Rattle.std.proofs.Common.{◌∙◌}
 use Rattle.std.proofs.lemmas.Result.{IfOk-equal}
 use Rattle.positions.specs.Position.{All, Any, One, Not}
-use Rattle.js_normal.proofs.RunLemmas.{chain, chain-end, run-optional}
+use Rattle.js_values.proofs.RunLemmas.{chain, chain-end, run-optional}
 use Rattle.js_normal.proofs.keywords.in_place_nodes.Goals as goal
 
 pub returns : goal.returns

@@ -1,5 +1,5 @@
 use Rattle.std.proofs.lemmas.Result.{IfOk-equal}
-use Rattle.js_normal.proofs.RunLemmas.{chain, chain-end}
+use Rattle.js_values.proofs.RunLemmas.{chain, chain-end}
 use Rattle.js_normal.proofs.keywords.keyword_nodes.Goals as goal
 
 pub returns : goal.returns

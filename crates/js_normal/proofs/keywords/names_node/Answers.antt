@@ -3,15 +3,15 @@ use Rattle.std.proofs.lemmas.Result.{IfOk-equal}
 use Rattle.positions.specs.Position.{All, Has}
 use Rattle.normal_forms.specs.Nodes.{node, each}
 use Rattle.js_algebra.specs.View.{places}
-use Rattle.js_normal.specs.Runs.{run}
-use Rattle.js_normal.specs.BuilderView.{state_of}
-use Rattle.js_normal.proofs.BuilderLemmas.{below}
+use Rattle.js_values.specs.Runs.{run}
+use Rattle.js_values.proofs.RunLemmas.{above-made}
 use Rattle.js_normal.proofs.keywords.names_node.Goals as goal
 
 pub returns : goal.returns
 returns c =
     IfOk-equal c.push.result _ _ _ c.push.ensures
-    (ap (λ ps. run (node (All (places ps))) (state_of c.has_nodes.new.builder c.args.named.now.items)) c.from_vec.ensures
-    ∙ below All (each (λ w. node (Has w)) c.args.words.now) c.args.builder.now c.args.named.now.items
-    c.new-below.result.items (state_of c.has_nodes.new.builder c.has_nodes.new.named.items) c.new-below.ensures.items
-    c.in_ok-has_nodes.ensures)
+    (ap (λ ps. run (node (All (places ps))) c.swap_named-below.new.self) c.from_vec.ensures
+    ∙ above-made All (each (λ w. node (Has w)) c.args.words.now) c.args.sink.now c.take_named-outer.new.self
+    c.has_nodes.new.sink c.swap_named-below.new.self _ _ c.take_named-outer.ensures.named
+    c.take_named-outer.ensures.rest c.in_ok-has_nodes.ensures c.swap_named-below.ensures.named
+    c.swap_named-below.ensures.rest)

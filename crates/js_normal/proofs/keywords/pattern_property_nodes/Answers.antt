@@ -4,20 +4,19 @@ use Rattle.positions.specs.Position.{MembersOf, Matching}
 use Rattle.normal_forms.specs.KeywordNodes.{pattern_of}
 use Rattle.js_schema.specs.View.{pattern_property_view}
 use Rattle.js_normal.specs.PatternTrees.{tree_of}
-use Rattle.js_normal.specs.Runs.{run}
-use Rattle.js_normal.specs.BuilderView.{state_of}
-use Rattle.js_normal.proofs.RunLemmas.{each-step, each-end}
+use Rattle.js_values.specs.Runs.{run}
+use Rattle.js_values.proofs.RunLemmas.{each-step, each-end}
 use Rattle.js_normal.proofs.keywords.pattern_property_nodes.Goals as goal
 
 pub loop-property-preserved : goal.loop-property-preserved
 loop-property-preserved c =
     let items = c.as_slice-property-items.result.now in
     let within : c.loop-property.property-index < length items = omega arith in
-    let s = state_of c.loop-property.builder c.loop-property.named.items in
-    each-step (λ p. node (MembersOf (Matching (pattern_of tree_of p.0)) p.1)) pattern_property_view items c.loop-property.property-index
-    c.property-item.result s (state_of c.push.new.self c.push.new.named.items)
+    let s = c.loop-property.sink in
+    each-step (λ p. node (MembersOf (Matching (pattern_of tree_of p.0)) p.1)) pattern_property_view items
+    c.loop-property.property-index c.property-item.result s c.push.new.self
     (run (each (λ p. node (MembersOf (Matching (pattern_of tree_of p.0)) p.1)) (map pattern_property_view items))
-    (state_of c.args.builder.now c.args.named.now.items)) within c.property-item.is
+    c.args.sink.now) within c.property-item.is
     (c.in_ok-push.ensures
     ∙ ap (λ r. run (node (MembersOf (Matching r) c.property-item.result.entry)) s) c.in_ok-pattern_of.ensures)
     c.loop-property.invariant
@@ -26,8 +25,10 @@ pub returns : goal.returns
 returns c =
     let items = c.as_slice-property-items.result.now in
     let past : length items ≤ c.loop-property.property-index = omega arith in
-    let start = state_of c.args.builder.now c.args.named.now.items in
-    each-end (λ p. node (MembersOf (Matching (pattern_of tree_of p.0)) p.1)) pattern_property_view items c.loop-property.property-index
-    (state_of c.loop-property.builder c.loop-property.named.items)
-    (run (each (λ p. node (MembersOf (Matching (pattern_of tree_of p.0)) p.1)) (map pattern_property_view items)) start) past c.loop-property.invariant
-    ∙ ap (λ xs. run (each (λ p. node (MembersOf (Matching (pattern_of tree_of p.0)) p.1)) xs) start) (c.as_slice-property-items.ensures)
+    let start = c.args.sink.now in
+    each-end (λ p. node (MembersOf (Matching (pattern_of tree_of p.0)) p.1)) pattern_property_view items
+    c.loop-property.property-index c.loop-property.sink
+    (run (each (λ p. node (MembersOf (Matching (pattern_of tree_of p.0)) p.1)) (map pattern_property_view items))
+    start) past c.loop-property.invariant
+    ∙ ap (λ xs. run (each (λ p. node (MembersOf (Matching (pattern_of tree_of p.0)) p.1)) xs) start)
+    c.as_slice-property-items.ensures

@@ -2,20 +2,19 @@ use Rattle.std.proofs.Common.{◌<◌, ◌≤◌, map, length, arith, ap, ◌∙
 use Rattle.normal_forms.specs.Nodes.{node, each}
 use Rattle.positions.specs.Position.{MembersOf, Named}
 use Rattle.js_schema.specs.View.{property_view}
-use Rattle.js_normal.specs.Runs.{run}
-use Rattle.js_normal.specs.BuilderView.{state_of}
-use Rattle.js_normal.proofs.RunLemmas.{each-step, each-end}
+use Rattle.js_values.specs.Runs.{run}
+use Rattle.js_values.proofs.RunLemmas.{each-step, each-end}
 use Rattle.js_normal.proofs.keywords.property_nodes.Goals as goal
 
 pub loop-property-preserved : goal.loop-property-preserved
 loop-property-preserved c =
     let items = c.as_slice-property-items.result.now in
     let within : c.loop-property.property-index < length items = omega arith in
-    let s = state_of c.loop-property.builder c.loop-property.named.items in
+    let s = c.loop-property.sink in
     each-step (λ p. node (MembersOf (Named p.0) p.1)) property_view items c.loop-property.property-index
-    c.property-item.result s (state_of c.push.new.self c.push.new.named.items)
+    c.property-item.result s c.push.new.self
     (run (each (λ p. node (MembersOf (Named p.0) p.1)) (map property_view items))
-    (state_of c.args.builder.now c.args.named.now.items)) within c.property-item.is
+    c.args.sink.now) within c.property-item.is
     (c.in_ok-push.ensures
     ∙ ap (λ w. run (node (MembersOf (Named w) c.property-item.result.entry)) s) c.in_ok-copy.ensures)
     c.loop-property.invariant
@@ -24,8 +23,9 @@ pub returns : goal.returns
 returns c =
     let items = c.as_slice-property-items.result.now in
     let past : length items ≤ c.loop-property.property-index = omega arith in
-    let start = state_of c.args.builder.now c.args.named.now.items in
+    let start = c.args.sink.now in
     each-end (λ p. node (MembersOf (Named p.0) p.1)) property_view items c.loop-property.property-index
-    (state_of c.loop-property.builder c.loop-property.named.items)
+    c.loop-property.sink
     (run (each (λ p. node (MembersOf (Named p.0) p.1)) (map property_view items)) start) past c.loop-property.invariant
-    ∙ ap (λ xs. run (each (λ p. node (MembersOf (Named p.0) p.1)) xs) start) (ap (map property_view) c.as_slice-property-items.ensures)
+    ∙ ap (λ xs. run (each (λ p. node (MembersOf (Named p.0) p.1)) xs) start)
+    (ap (map property_view) c.as_slice-property-items.ensures)

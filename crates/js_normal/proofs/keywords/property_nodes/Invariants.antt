@@ -2,12 +2,11 @@ use Rattle.std.proofs.Common.{◌≡◌, map, drop}
 use Rattle.normal_forms.specs.Nodes.{node, each}
 use Rattle.positions.specs.Position.{MembersOf, Named}
 use Rattle.js_schema.specs.View.{property_view}
-use Rattle.js_normal.specs.Runs.{run}
-use Rattle.js_normal.specs.BuilderView.{state_of}
+use Rattle.js_values.specs.Runs.{run}
 use Rattle.js_normal.proofs.keywords.property_nodes.Given as goal
 
 abbrev pub invariant-loop-property : goal.invariant-loop-property
 invariant-loop-property l =
-    run (each (λ p. node (MembersOf (Named p.0) p.1)) (map property_view l.property-items)) (state_of l.fn.builder l.fn.named.items)
+    run (each (λ p. node (MembersOf (Named p.0) p.1)) (map property_view l.property-items)) l.fn.sink
     ≡ run (each (λ p. node (MembersOf (Named p.0) p.1)) (map property_view (drop l.property-index l.property-items)))
-    (state_of l.builder l.named.items)
+    l.sink

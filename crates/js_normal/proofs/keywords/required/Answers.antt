@@ -1,4 +1,4 @@
-use Rattle.js_normal.proofs.RunLemmas.{run-absent}
+use Rattle.js_values.proofs.RunLemmas.{run-absent}
 use Rattle.js_normal.proofs.keywords.required.Goals as goal
 
 pub returns-in-None : goal.returns-in-None

@@ -4,7 +4,7 @@ use Rattle.positions.specs.Position.{Match, LengthMin, LengthMax}
 use Rattle.normal_forms.specs.KeywordNodes.{pattern_of}
 use Rattle.js_schema.specs.Patterns.{source_of}
 use Rattle.js_normal.specs.PatternTrees.{tree_of}
-use Rattle.js_normal.proofs.RunLemmas.{chain, chain-end, run-optional}
+use Rattle.js_values.proofs.RunLemmas.{chain, chain-end, run-optional}
 use Rattle.js_normal.proofs.keywords.string_nodes.Goals as goal
 
 pub returns : goal.returns

@@ -4,7 +4,7 @@ use Rattle.documents.specs.Kind.{same_kind}
 use Rattle.draft06.specs.EntryValidity.{kind_named}
 use Rattle.js_algebra.specs.View.{kind_view}
 use Rattle.js_keywords.specs.TypeView.{type_view}
-use Rattle.js_normal.proofs.GroupLemmas.{filter-step}
+use Rattle.js_values.proofs.GroupLemmas.{filter-step}
 use Rattle.js_normal.proofs.single.kinds_among.Goals as goal
 
 pub loop-kind-preserved : goal.loop-kind-preserved

@@ -7,5 +7,6 @@ use Rattle.js_schema.proofs.fields.document.Goals as goal
 pub document-requires : goal.document-requires
 document-requires c =
     let object = c.args.object.now in
-    document_whole (place_of object) (members_of object) object.plain object.faultless c.args.keyword (view c.in-Some.value.now)
-    c.requires (found (λ j. view j.now) _ _ (keyword_name c.args.keyword) (members_of object) c.value.ensures c.in-Some.is)
+    document_whole (place_of object) (members_of object) object.plain object.faultless c.args.keyword
+    (view c.in-Some.value.now) c.requires
+    (found (λ j. view j.now) _ _ (keyword_name c.args.keyword) (members_of object) c.value.ensures c.in-Some.is)

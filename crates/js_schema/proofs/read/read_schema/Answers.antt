@@ -1,8 +1,8 @@
 use Rattle.std.proofs.Common.{map, sym, ap, subst, ◌∙◌}
 use Rattle.documents.specs.WellFormed.{is_json}
 use Rattle.js_doc.proofs.JsonWellFormed.{is_json-view}
+use Rattle.js_pointers.specs.PointersView.{pointers_of}
 use Rattle.js_walk.specs.FileView.{root_of}
-use Rattle.js_walk.specs.PointersView.{pointers_of}
 use Rattle.js_walk.specs.PlacesView.{pointers_in, places_view, targets_of, AreTargets}
 use Rattle.js_schema.specs.NumbersView.{numbered}
 use Rattle.js_schema.specs.View.{entry_view}

@@ -2,7 +2,7 @@ use Rattle.std.proofs.Common.{IfSome, subst}
 use Rattle.std.specs.Option.{IfNone}
 use Rattle.certificates.specs.Line.{IsText}
 use Rattle.js_cert.specs.Text.{HasNoLines}
-use Rattle.js_schema.specs.SchemaView.{schema_view}
+use Rattle.js_guard.specs.RankedView.{entries_of}
 use Rattle.std.proofs.lemmas.Result.{IfOk-weaker}
 use Rattle.js_top.proofs.AcceptLaws.{refused-second, good-accepted, bad-rejected, good-included}
 use Rattle.js_top.proofs.accept.accepted.Goals as goal
@@ -13,8 +13,8 @@ returns-clause-accepted c =
     let (y, is_y, of') = rw c.in-Read-2.is at c.in_ok-schema-2.ensures in
     let t = subst (λ o. IfSome o (IsText c.args.certificate.now)) c.in-Some.is c.in_ok-lines.ensures.read in
     IfOk-weaker c.judge_lines.result _ _ (λ r h.
-    good-accepted c.args.a.now c.args.b.now c.args.certificate.now x y (schema_view c.in-Read.schema)
-    (schema_view c.in-Read-2.schema) is_x is_y (record { well_formed = of.well_formed; entries = of.entries })
+    good-accepted c.args.a.now c.args.b.now c.args.certificate.now x y (entries_of c.in-Read.schema)
+    (entries_of c.in-Read-2.schema) is_x is_y (record { well_formed = of.well_formed; entries = of.entries })
     (record { well_formed = of'.well_formed; entries = of'.entries }) c.in-Some.lines t r h) c.judge_lines.ensures.good
 
 pub returns-clause-rejected : goal.returns-clause-rejected
@@ -23,8 +23,8 @@ returns-clause-rejected c =
     let (y, is_y, of') = rw c.in-Read-2.is at c.in_ok-schema-2.ensures in
     let t = subst (λ o. IfSome o (IsText c.args.certificate.now)) c.in-Some.is c.in_ok-lines.ensures.read in
     IfOk-weaker c.judge_lines.result _ _ (λ r h.
-    bad-rejected c.args.a.now c.args.b.now c.args.certificate.now x y (schema_view c.in-Read.schema)
-    (schema_view c.in-Read-2.schema) is_x is_y (record { well_formed = of.well_formed; entries = of.entries })
+    bad-rejected c.args.a.now c.args.b.now c.args.certificate.now x y (entries_of c.in-Read.schema)
+    (entries_of c.in-Read-2.schema) is_x is_y (record { well_formed = of.well_formed; entries = of.entries })
     (record { well_formed = of'.well_formed; entries = of'.entries }) c.in-Some.lines t r h) c.judge_lines.ensures.good
 
 pub returns-clause-included : goal.returns-clause-included
@@ -32,7 +32,7 @@ returns-clause-included c =
     let (x, is_x, of) = rw c.in-Read.is at c.in_ok-schema.ensures in
     let (y, is_y, of') = rw c.in-Read-2.is at c.in_ok-schema-2.ensures in
     IfOk-weaker c.judge_lines.result _ _ (λ r h.
-    good-included c.args.a.now c.args.b.now x y (schema_view c.in-Read.schema) (schema_view c.in-Read-2.schema) is_x
+    good-included c.args.a.now c.args.b.now x y (entries_of c.in-Read.schema) (entries_of c.in-Read-2.schema) is_x
     is_y (record { well_formed = of.well_formed; entries = of.entries })
     (record { well_formed = of'.well_formed; entries = of'.entries }) r h) c.judge_lines.ensures.included
 

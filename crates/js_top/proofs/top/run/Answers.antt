@@ -1,6 +1,6 @@
 use Rattle.std.proofs.Common.{◌≡◌, true, false, refl, sym, ◌∙◌, subst}
 use Rattle.js_top.specs.declared.status.Status.TheVariants.{Other, Done, Limit, Refused}
-use Rattle.js_top.proofs.FileLaws.{prepared-means, prepared-limit, prepared-report, prepared-part, prepared-settles, prepared-limited, means-accepted, means-refusal}
+use Rattle.js_top.proofs.FileLaws.{prepared-document, prepared-inclusion, prepared-satisfied, prepared-unsatisfied, prepared-refuted, prepared-limit, prepared-report, prepared-part, prepared-settles, prepared-limited, means-accepted, means-refusal}
 use Rattle.js_top.proofs.JudgingLaws.{means-judgement, prepared-decision, means-judged_refusal}
 use Rattle.js_top.proofs.ListingLaws.{means-table, prepared-listing, means-norm_refusal}
 use Rattle.js_top.proofs.MissingLaws.{prepared-missing, prepared-only_missing}
@@ -23,16 +23,41 @@ pub returns-in-Ok-write_report-clause-document : goal.returns-in-Ok-write_report
 returns-in-Ok-write_report-clause-document g c = λ e i. (
   c.text.result.now,
   c.in-Ok-write_report.ensures.whole,
-  prepared-means (g.H.Shelf.told c.args.shelf.now) c.args.words.now _ _ c.in-Ok.prepared c.text.result.now
-      c.in-Ok.ensures.says c.text.ensures Other (sym c.status.ensures ∙ e) refl i,
+  prepared-document (g.H.Shelf.told c.args.shelf.now) c.args.words.now _ _ c.in-Ok.prepared c.text.result.now
+      c.in-Ok.ensures.says c.text.ensures (sym c.status.ensures ∙ e) i,
 )
 
-pub returns-in-Ok-write_report-clause-certificate : goal.returns-in-Ok-write_report-clause-certificate
-returns-in-Ok-write_report-clause-certificate g c = λ e i. (
+pub returns-in-Ok-write_report-clause-inclusion : goal.returns-in-Ok-write_report-clause-inclusion
+returns-in-Ok-write_report-clause-inclusion g c = λ e i. (
   c.text.result.now,
   c.in-Ok-write_report.ensures.whole,
-  prepared-means (g.H.Shelf.told c.args.shelf.now) c.args.words.now _ _ c.in-Ok.prepared c.text.result.now
-      c.in-Ok.ensures.says c.text.ensures Done (sym c.status.ensures ∙ e) refl i,
+  prepared-inclusion (g.H.Shelf.told c.args.shelf.now) c.args.words.now _ _ c.in-Ok.prepared c.text.result.now
+      c.in-Ok.ensures.says c.text.ensures (sym c.status.ensures ∙ e) i,
+)
+
+pub returns-in-Ok-write_report-clause-satisfied : goal.returns-in-Ok-write_report-clause-satisfied
+returns-in-Ok-write_report-clause-satisfied g c = λ e i. (
+  c.text.result.now,
+  c.in-Ok-write_report.ensures.whole,
+  prepared-satisfied (g.H.Shelf.told c.args.shelf.now) c.args.words.now _ _ c.in-Ok.prepared c.text.result.now
+      c.in-Ok.ensures.says c.text.ensures (sym c.status.ensures ∙ e) i,
+)
+
+pub returns-in-Ok-write_report-clause-unsatisfied : goal.returns-in-Ok-write_report-clause-unsatisfied
+returns-in-Ok-write_report-clause-unsatisfied g c = λ e i. (
+  c.text.result.now,
+  c.in-Ok-write_report.ensures.whole,
+  prepared-unsatisfied (g.H.Shelf.told c.args.shelf.now) c.args.words.now _ _ c.in-Ok.prepared c.text.result.now
+      c.in-Ok.ensures.says c.text.ensures (sym c.status.ensures ∙ e) i,
+)
+
+pub returns-in-Ok-write_report-clause-accepted_of_sat : goal.returns-in-Ok-write_report-clause-accepted_of_sat
+returns-in-Ok-write_report-clause-accepted_of_sat g c = λ e i. (
+  c.text.result.now,
+  c.in-Ok-write_report.ensures.whole,
+  means-accepted (g.H.Shelf.told c.args.shelf.now) c.args.words.now c.text.result.now
+      (prepared-refuted (g.H.Shelf.told c.args.shelf.now) c.args.words.now _ _ c.in-Ok.prepared c.text.result.now
+      c.in-Ok.ensures.says c.text.ensures (sym c.status.ensures ∙ e) i),
 )
 
 pub returns-in-Ok-write_report-clause-limit : goal.returns-in-Ok-write_report-clause-limit
@@ -81,8 +106,8 @@ returns-in-Ok-write_report-clause-accepted g c = λ e i. (
   c.text.result.now,
   c.in-Ok-write_report.ensures.whole,
   means-accepted (g.H.Shelf.told c.args.shelf.now) c.args.words.now c.text.result.now
-      (prepared-means (g.H.Shelf.told c.args.shelf.now) c.args.words.now _ _ c.in-Ok.prepared c.text.result.now
-      c.in-Ok.ensures.says c.text.ensures Done (sym c.status.ensures ∙ e) refl i),
+      (prepared-inclusion (g.H.Shelf.told c.args.shelf.now) c.args.words.now _ _ c.in-Ok.prepared c.text.result.now
+      c.in-Ok.ensures.says c.text.ensures (sym c.status.ensures ∙ e) i),
 )
 
 pub returns-in-Ok-write_report-clause-decided : goal.returns-in-Ok-write_report-clause-decided

@@ -19,7 +19,6 @@ use Rattle.js_valid.proofs.SearchLaws.{form-fine}
 use Rattle.js_valid.specs.Plain.{is_plain}
 use Rattle.js_schema.specs.View.{form_view}
 use Rattle.js_valid.proofs.DepthLaws.{item-depth, member-depth, view-scalar, view-Text}
-use Rattle.js_doc.specs.declared.document.Doc.TheVariants as C
 use Rattle.js_valid.proofs.decide.+decide.Goals as goal
 
 pub decide_element-returns-clause-fine : goal.decide_element-returns-clause-fine

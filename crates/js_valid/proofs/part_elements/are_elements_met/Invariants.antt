@@ -11,7 +11,7 @@ use Rattle.js_valid.specs.Requests.{each_at}
 use Rattle.js_valid.proofs.part_elements.are_elements_met.Given as goal
 
 abbrev pub invariant-loop-place : goal.invariant-loop-place
-invariant-loop-place l = (es : List Entry) (ps : List Part) → KnowsTables es ps (map (λ t. t.items) l.tables)
+invariant-loop-place l = (es : List Entry) (ps : List Part) → KnowsTables es ps l.tables
     → each_at (λ i d. every (λ q. valid_at es q d) (of_element (form_view l.form) i)) l.place
     (map (λ i. unshared ps i.0) (drop l.place l.numbers))
     ≡ each_at (λ i d. every (λ q. valid_at es q d) (of_element (form_view l.form) i)) 0

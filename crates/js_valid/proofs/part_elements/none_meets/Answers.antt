@@ -1,6 +1,5 @@
 -- The first element that meets the entry is found.
 use Rattle.std.proofs.Common.{Bool, not, ◌&&◌, map, drop, get_or, length, sym, ap, ◌∙◌, ◌+◌, arith}
-use Rattle.std.proofs.lemmas.List.{length-map}
 use Rattle.documents.specs.Document.{Document}
 use Rattle.documents.specs.Tests.{every}
 use Rattle.js_doc.specs.PartMembers.{number_of}
@@ -24,7 +23,7 @@ returns-then-holds_at c es ps known =
     let within = below-at number_of (length c.args.tables.now) k xs c.args.ids.now id c.as_slice-id-items.ensures
     c.requires c.loop-id-test.true (item-same xs k _ id c.loop-id-test.true) in
     let verdict = ap not
-    (sym (known id.0 c.args.entry (omega (arith, within, length-map c.args.tables.now (λ t. t.items))))
+    (sym (known id.0 c.args.entry within)
     ∙ sym c.if-holds_at.ensures) in
     sym (ap (every p) (documents-are ps xs c.args.ids.now c.as_slice-id-items.ensures)
     ∙ sym (c.loop-id.invariant es ps known)
@@ -40,7 +39,7 @@ loop-id-preserved c es ps known =
     let within = below-at number_of (length c.args.tables.now) k xs c.args.ids.now id c.as_slice-id-items.ensures
     c.requires c.loop-id-test.true (item-same xs k _ id c.loop-id-test.true) in
     let verdict = ap not
-    (sym (known id.0 c.args.entry (omega (arith, within, length-map c.args.tables.now (λ t. t.items))))
+    (sym (known id.0 c.args.entry within)
     ∙ sym c.if-holds_at.ensures) in
     sym (every-here (document_at ps) p k xs id c.loop-id-test.true (item-same xs k _ id c.loop-id-test.true)
     ∙ ap (λ b. b && every p (map (document_at ps) (drop (k + 1) xs))) verdict)

@@ -8,6 +8,6 @@ use Rattle.js_valid.specs.PartTables.{KnowsTables}
 use Rattle.js_valid.proofs.part_elements.none_meets.Given as goal
 
 abbrev pub invariant-loop-id : goal.invariant-loop-id
-invariant-loop-id l = (es : List Entry) (ps : List Part) → KnowsTables es ps (map (λ t. t.items) l.tables)
+invariant-loop-id l = (es : List Entry) (ps : List Part) → KnowsTables es ps l.tables
     → every (λ d. not (valid_at es l.entry d)) (map (λ i. unshared ps i.0) (drop l.id-index l.id-items))
     ≡ every (λ d. not (valid_at es l.entry d)) (map (λ i. unshared ps i.0) l.id-items)

@@ -2,7 +2,7 @@ use Rattle.std.proofs.Common.{[], map, drop, get_or}
 use Rattle.documents.specs.Json.{items_of}
 use Rattle.schemas.specs.Places.{elements_under}
 use Rattle.js_doc.specs.JsonView.{view, list_view}
-use Rattle.js_walk.specs.PointersView.{pointers_of}
+use Rattle.js_pointers.specs.PointersView.{pointers_of}
 use Rattle.js_walk.specs.Visiting.{Adding}
 use Rattle.js_walk.proofs.children.add_elements.Given as goal
 

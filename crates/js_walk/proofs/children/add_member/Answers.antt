@@ -1,6 +1,6 @@
 use Rattle.std.proofs.Common.{[], ◌∷◌, ◌++◌, get_or, sym, subst, ap, ◌∙◌}
 use Rattle.js_doc.specs.JsonView.{member_view}
-use Rattle.js_walk.specs.PointersView.{pointers_of}
+use Rattle.js_pointers.specs.PointersView.{pointers_of}
 use Rattle.js_walk.specs.Holding.{read_holding, held, member_held}
 use Rattle.js_walk.specs.Visiting.{Adds}
 use Rattle.js_walk.proofs.ChildrenLemmas.{added-later, within-grows, on_ok}

@@ -2,7 +2,7 @@ use Rattle.std.proofs.Common.{[], map, drop, get_or}
 use Rattle.documents.specs.Json.{members_of}
 use Rattle.schemas.specs.SubSchemas.{members_under}
 use Rattle.js_doc.specs.JsonView.{member_view, map_view}
-use Rattle.js_walk.specs.PointersView.{pointers_of}
+use Rattle.js_pointers.specs.PointersView.{pointers_of}
 use Rattle.js_walk.specs.Visiting.{Adding}
 use Rattle.js_walk.proofs.children.add_members.Given as goal
 

@@ -1,5 +1,5 @@
 use Rattle.std.proofs.Common.{[], ◌∷◌, ◌++◌, get_or, ap, ◌∙◌}
-use Rattle.js_walk.specs.PointersView.{pointers_of}
+use Rattle.js_pointers.specs.PointersView.{pointers_of}
 use Rattle.js_walk.proofs.ChildrenLemmas.{one_place, one-added, on_ok}
 use Rattle.js_walk.proofs.children.add_value.Goals as goal
 

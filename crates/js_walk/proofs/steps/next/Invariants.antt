@@ -1,6 +1,6 @@
 use Rattle.std.proofs.Common.{◌≡◌}
 use Rattle.schemas.specs.Walk.{next_of}
-use Rattle.js_walk.specs.PointersView.{pointers_of}
+use Rattle.js_pointers.specs.PointersView.{pointers_of}
 use Rattle.js_walk.specs.Visiting.{AreWithin}
 use Rattle.js_walk.specs.Walking.{done_places, stack_view}
 use Rattle.js_walk.proofs.steps.next.Given as goal

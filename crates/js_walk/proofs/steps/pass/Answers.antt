@@ -1,7 +1,8 @@
 use Rattle.std.proofs.Common.{[], ◌∷◌, ◌++◌, sym, subst}
+use Rattle.js_pointers.specs.PointersView.{pointers_of}
+use Rattle.js_pointers.proofs.PointersLaws.{pointers_of-distinct}
 use Rattle.js_walk.specs.FileView.{root_of}
 use Rattle.js_walk.specs.PlacesView.{place_view}
-use Rattle.js_walk.specs.PointersView.{pointers_of}
 use Rattle.js_walk.specs.Walking.{done_places, stack_view, Kept, Passed}
 use Rattle.js_walk.proofs.KeepingLemmas.{entry_of, kept-more, passed-more, not_done}
 use Rattle.js_walk.proofs.steps.pass.Goals as goal
@@ -9,8 +10,8 @@ use Rattle.js_walk.proofs.steps.pass.Goals as goal
 pub push-requires : goal.push-requires
 push-requires c =
     let kept = c.requires.kept in
-    not_done _ _ (pointers_of c.args.pointers.now) c.args.pointers.now.table c.args.place.pointer c.args.done.now kept.done
-    c.requires.within c.requires.first
+    not_done (pointers_of c.args.pointers.now) (pointers_of-distinct c.args.pointers.now) c.args.place.pointer
+    c.args.done.now kept.done c.requires.within c.requires.first
 
 pub returns-clause-ok : goal.returns-clause-ok
 returns-clause-ok c =

@@ -1,7 +1,8 @@
 use Rattle.std.proofs.Common.{[], get_or, ap, sym, ◌∙◌, arith, lit≤}
 use Rattle.std.proofs.lemmas.Result.{err_from_is_err_and}
+use Rattle.js_pointers.specs.PointersView.{pointers_of}
+use Rattle.js_pointers.proofs.PointersLaws.{pointers_of-root}
 use Rattle.js_walk.specs.FileView.{root_of}
-use Rattle.js_walk.specs.PointersView.{pointers_of}
 use Rattle.js_walk.specs.Walking.{done_places, stack_view}
 use Rattle.js_walk.proofs.ChildrenLemmas.{one_place}
 use Rattle.js_walk.proofs.KeepingLemmas.{kept-first, targets-seen}
@@ -12,10 +13,10 @@ pub loop-place-init : goal.loop-place-init
 loop-place-init c =
     let root = root_of c.args.file.now in
     let ps = pointers_of c.new-pointers.result in
-    let table = c.new-pointers.result.table in
-    let counted = table.counted in
+    let start = pointers_of-root c.new-pointers.result in
+    let some = start.0 in
     let first = c.root_place.ensures.pointer in
-    let place = one_place (ap (λ n. get_or ps n []) first ∙ table.root) c.root_place.ensures.value in
+    let place = one_place (ap (λ n. get_or ps n []) first ∙ start.1) c.root_place.ensures.value in
     record {
       reading =
           begun root (done_places ps c.new-done.result) (stack_view ps c.push.new.self.items)
@@ -26,7 +27,7 @@ loop-place-init c =
       kept =
           kept-first root ps c.new-done.result c.new-waiting.result.items c.push.new.self.items
           c.root_place.result c.new-done.ensures c.in_ok-push.ensures.items c.new-waiting.ensures.items
-          (omega (arith, counted, first));
+          (omega (arith, some, first));
     }
 
 pub pass-requires-clause-first : goal.pass-requires-clause-first

@@ -2,8 +2,8 @@ use Rattle.std.proofs.Common.{◌≤◌, ◌-◌, length}
 use Rattle.documents.specs.Json.{count}
 use Rattle.schema_laws.specs.Walking.{IsReading}
 use Rattle.js_keywords.specs.Reading.{rules}
+use Rattle.js_pointers.specs.PointersView.{pointers_of}
 use Rattle.js_walk.specs.FileView.{root_of}
-use Rattle.js_walk.specs.PointersView.{pointers_of}
 use Rattle.js_walk.specs.Walking.{done_places, stack_view, Kept}
 use Rattle.js_walk.proofs.steps.walk.Given as goal
 

@@ -7,6 +7,6 @@ use Rattle.js_walk.proofs.visit.check_all.Given as goal
 
 abbrev pub invariant-loop-member : goal.invariant-loop-member
 invariant-loop-member l =
-    members_fault_by (root_of l.file) l.listed l.place
+    members_fault_by (root_of l.file) l.object.listed l.object.pointer.now
     (members_of (map member_view (drop l.member-index l.member-items)))
-    ≡ members_fault_by (root_of l.fn.file) l.fn.listed l.fn.place (map_view l.fn.members)
+    ≡ members_fault_by (root_of l.fn.file) l.fn.object.listed l.fn.object.pointer.now (map_view l.fn.members)

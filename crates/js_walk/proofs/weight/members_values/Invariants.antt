@@ -7,7 +7,8 @@ use Rattle.js_walk.proofs.weight.members_values.Given as goal
 abbrev pub invariant-loop-member : goal.invariant-loop-member
 invariant-loop-member l =
     record {
-      counted : capped (l.total + members_values l.listed (members_of (map member_view (drop l.member-index l.member-items))))
+      counted : capped (l.total
+          + members_values l.listed (members_of (map member_view (drop l.member-index l.member-items))))
           ≡ capped (members_values l.fn.listed (members_of (map member_view l.member-items)));
       fits : l.total < 2 ^ 64;
     }

@@ -1,5 +1,5 @@
 -- The form of the entry that is found.
-use Rattle.js_walk.specs.PointersView.{pointers_of}
+use Rattle.js_pointers.specs.PointersView.{pointers_of}
 use Rattle.js_schema.proofs.EntriesLemmas.{form_at}
 use Rattle.js_schema.proofs.table.Schema.form.Goals as goal
 

@@ -1,6 +1,6 @@
 -- A table has few entries.
 use Rattle.std.proofs.Common.{arith}
-use Rattle.js_walk.specs.PointersView.{pointers_of}
+use Rattle.js_pointers.specs.PointersView.{pointers_of}
 use Rattle.js_schema.proofs.EntriesLemmas.{few_entries}
 use Rattle.js_schema.proofs.table.Schema.len.Goals as goal
 

@@ -1,5 +1,5 @@
 -- The pointer of the entry that is found.
-use Rattle.js_walk.specs.PointersView.{pointers_of}
+use Rattle.js_pointers.specs.PointersView.{pointers_of}
 use Rattle.js_schema.proofs.EntriesLemmas.{pointer_answered}
 use Rattle.js_schema.proofs.table.Schema.pointer.Goals as goal
 

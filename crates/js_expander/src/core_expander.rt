@@ -1,0 +1,82 @@
+//! The expander of the goals of a core table.
+
+ghost use Rattle.std.specs.Prelude.{◌≡◌};
+
+use crate::branches::{branch_set, keep_kind};
+use crate::kept::Kept;
+use crate::objects::object_words;
+use js_algebra::{BranchId, Core, Goal, JsonKind};
+use js_doc::{Memory, StrList};
+use js_expansion::{Expander, Expansion};
+use js_strings::string_words;
+use js_tableau::Branch;
+use std::alloc::Global;
+
+/// Expands goals of a table. Each answer is that of the definitions: `goal_expansion`, `branch_count` and `cells_at` of
+/// the table's positions.
+#[derive(Drop)]
+pub struct CoreExpander<'a> {
+    pub core: &'a Core,
+}
+
+impl<'a> CoreExpander<'a> {
+    pub fn new(core: &'a Core) -> CoreExpander<'a>
+        ensures { result.core.now ≡ core.now }
+    {
+        CoreExpander { core }
+    }
+}
+
+impl Expander for CoreExpander<'_> {
+    ghost use Rattle.std.specs.Prelude.{◌≡◌, List, ℕ, Bool};
+    ghost use Rattle.expander_laws.specs.Expander.{branch_count};
+    ghost use Rattle.js_expander.specs.Found.{goal_expansion, cells_at};
+    ghost use Rattle.js_expander.specs.Taken.{takes};
+    ghost use Rattle.js_expander.specs.Laws as L;
+
+    ghost takes = { λ x g. takes x.core.now.positions x.core.now.ranks g };
+
+    ghost expansion = { λ x g. goal_expansion x.core.now.positions g };
+
+    ghost branches = { λ x g t. branch_count x.core.now.positions g t };
+
+    ghost cells = { λ x g t k. cells_at x.core.now.positions g t k };
+
+    fn expand(&self, alloc: Global, goal: &Goal) -> Result<Expansion, Memory> {
+        let mut kept = Kept::new(alloc);
+        for kind in JsonKind::ALL {
+            keep_kind(alloc, self.core, goal, kind, &mut kept)?;
+        }
+        Ok(kept.into_expansion())
+    }
+
+    fn words(
+        &self,
+        alloc: Global,
+        goal: &Goal,
+        branch: BranchId,
+        cell: u32,
+        count: u32,
+    ) -> Result<StrList, Memory> {
+        match branch.kind {
+            JsonKind::Text => {
+                let set = branch_set(alloc, self.core, goal, branch)?;
+                string_words(alloc, self.core, &Branch { id: branch, set }, cell, count)
+            }
+            JsonKind::Object => object_words(alloc, count),
+            _ => unreachable!(),
+        }
+    }
+
+    ghost named_taken = { λ x g h. L.named_taken x.core.now.positions x.core.now.ranks g h };
+
+    ghost of_branches = { λ x g h. L.of_branches x.core.now.positions g };
+
+    ghost words_named = { λ x g h. L.words_named x.core.now.positions x.core.now.ranks g h };
+
+    ghost slots_fit = { λ x g h. L.slots_fit x.core.now.positions g };
+
+    ghost slots_differ = { λ x g h. L.slots_differ x.core.now.positions g };
+
+    ghost words_differ = { λ x g h. L.words_differ x.core.now.positions x.core.now.ranks g h };
+}

@@ -1,0 +1,5 @@
+pub mod VerdictLaws
+pub mod Telling
+pub mod KnownSoFar
+pub mod KindByKind
+mod Examples

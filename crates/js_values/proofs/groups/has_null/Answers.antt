@@ -1,0 +1,11 @@
+use Rattle.std.proofs.Common.{map, ap, sym}
+use Rattle.documents.specs.Tests.{some}
+use Rattle.normal_forms.specs.KeywordNodes.{is_null}
+use Rattle.js_doc.specs.View.{view, list_view}
+use Rattle.js_doc.proofs.Levels.{elements-of}
+use Rattle.js_values.proofs.groups.has_null.Goals as goal
+
+pub loop-doc-init : goal.loop-doc-init
+loop-doc-init c =
+    ap (some is_null) (sym (elements-of (map view c.as_slice-doc-items.result.now) (list_view c.args.values.now)
+    c.as_slice-doc-items.ensures.view))

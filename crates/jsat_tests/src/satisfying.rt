@@ -1,0 +1,170 @@
+//! What `sat` and `include` answer for schemas that ask for more of a document than its kind.
+
+use crate::setting::{STRING, expect};
+use js_doc::Memory;
+
+#[test]
+fn a_schema_is_satisfied(rt: HostRuntime) -> Result<(), Memory> {
+    for (a, status, report) in [
+        ("{}", 0, "document\nnull\n"),
+        ("false", 1, "certificate 1\ngoals 0\nend\n"),
+        (STRING, 0, "document\n\"\"\n"),
+        (
+            r##"{"$ref":"#/definitions/x","uniqueItems":true,"definitions":{"x":true}}"##,
+            0,
+            "document\nnull\n",
+        ),
+        (
+            r#"{"type":"integer","minimum":5,"multipleOf":3}"#,
+            0,
+            "document\n6\n",
+        ),
+        (
+            r#"{"type":"integer","multipleOf":6,"not":{"multipleOf":3}}"#,
+            1,
+            "nodocument\n",
+        ),
+        (
+            r#"{"type":"integer","exclusiveMinimum":18446744073709551615}"#,
+            0,
+            "parts 1\n0 18446744073709551616\n",
+        ),
+        (
+            r#"{"enum":[3,"x",null],"not":{"type":"null"}}"#,
+            0,
+            "document\n3\n",
+        ),
+        (
+            r##"{"$ref":"#/definitions/a~1b%25","definitions":{"a/b%":{"const":7}}}"##,
+            0,
+            "document\n7\n",
+        ),
+        (
+            r#"{"type":"string","pattern":"\\d{3}-\\d{4}"}"#,
+            0,
+            "document\n\"000-0000\"\n",
+        ),
+        (
+            r#"{"type":"string","pattern":"^a+$","maxLength":0}"#,
+            1,
+            "nodocument\n",
+        ),
+        (
+            r##"{"items":{"$ref":"#"},"type":"array"}"##,
+            0,
+            "document\n[]\n",
+        ),
+        (
+            r#"{"type":"array","maxItems":1,"contains":{"type":"null"},"items":[{"type":"string"}]}"#,
+            1,
+            "nodocument\n",
+        ),
+        (
+            r#"{"type":"array","maxItems":2,"contains":{"type":"null"},"items":[{"type":"string"}]}"#,
+            0,
+            "document\n[\"\",null]\n",
+        ),
+    ] {
+        let files = (a.as_bytes(), b"true".as_slice());
+        expect(&rt, rt.alloc(), "sat a", files, (status, report))?;
+    }
+    Ok(())
+}
+
+/// The same question by `include`, which asks for no document: the statuses change places.
+#[test]
+fn one_schema_is_included_in_another(rt: HostRuntime) -> Result<(), Memory> {
+    for (a, b, status, report) in [
+        (
+            r#"{"type":"integer","minimum":5,"multipleOf":3}"#,
+            "false",
+            1,
+            "document\n6\n",
+        ),
+        (
+            r#"{"type":"array","items":{"type":"string"},"additionalItems":false}"#,
+            r#"{"type":"array","items":{"type":"string"}}"#,
+            0,
+            "nodocument\n",
+        ),
+        (
+            r#"{"type":"array","items":{"type":"string"}}"#,
+            r#"{"type":"array","items":{"type":"string"},"additionalItems":false}"#,
+            0,
+            "nodocument\n",
+        ),
+        (
+            r#"{"oneOf":[{"type":"integer"},{"type":"integer","minimum":3}]}"#,
+            r#"{"type":"integer","maximum":2}"#,
+            0,
+            "nodocument\n",
+        ),
+        (
+            r#"{"type":"integer","maximum":2}"#,
+            r#"{"oneOf":[{"type":"integer"},{"type":"integer","maximum":1}]}"#,
+            1,
+            "document\n1\n",
+        ),
+    ] {
+        let files = (a.as_bytes(), b.as_bytes());
+        expect(&rt, rt.alloc(), "include a b", files, (status, report))?;
+    }
+    Ok(())
+}
+
+/// With the goal that passes it.
+#[test]
+fn a_limit_is_told(rt: HostRuntime) -> Result<(), Memory> {
+    for (a, report) in [
+        (
+            r#"{"type":"integer","minimum":1,"allOf":[{"multipleOf":18446744073709551615},{"multipleOf":18446744073709551614}]}"#,
+            "limit multiples +0\n",
+        ),
+        (r#"{"type":"array","minItems":65537}"#, "limit counts +0\n"),
+        (
+            r#"{"type":"string","pattern":"^a{16384}b$"}"#,
+            "limit positions +0\n",
+        ),
+    ] {
+        let files = (a.as_bytes(), b"false".as_slice());
+        expect(&rt, rt.alloc(), "sat a", files, (4, report))?;
+        expect(&rt, rt.alloc(), "include a b", files, (4, report))?;
+    }
+    Ok(())
+}
+
+#[test]
+fn sat_refuses_a_file(rt: HostRuntime) -> Result<(), Memory> {
+    for (a, report) in [
+        ("{\"type\":", "refused first notjson\n"),
+        (
+            r#"{"type":"integer","minimum":0.5}"#,
+            "refused first notwhole \"/minimum\"\n",
+        ),
+        (
+            r#"{"uniqueItems":true}"#,
+            "refused first uniqueitems \"/uniqueItems\"\n",
+        ),
+        (
+            r##"{"allOf":[{"$ref":"#"}]}"##,
+            "refused first cycle \"\" \"/allOf/0\"\n",
+        ),
+        (r##"{"$ref":"#x"}"##, "refused first ref badpointer \"\"\n"),
+        (r#"{"$ref":"o.json"}"#, "refused first ref remote \"\"\n"),
+        (
+            r#"{"type":"string","pattern":"a{3,2}"}"#,
+            "refused first pattern quantifierorder 1 \"/pattern\"\n",
+        ),
+        (r#"{"const":[{}]}"#, "refused first notyet \"/const\"\n"),
+    ] {
+        let files = (a.as_bytes(), b"".as_slice());
+        expect(&rt, rt.alloc(), "sat a", files, (3, report))?;
+    }
+    expect(
+        &rt,
+        rt.alloc(),
+        "sat c",
+        (b"true".as_slice(), b"true".as_slice()),
+        (5, "readfault\n"),
+    )
+}
