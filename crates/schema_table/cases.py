@@ -256,7 +256,7 @@ refuse_document('true', '{"b":[1,2.5],"a":{"c":3,"d":1e1}}', 'notwhole "/a/d"')
 refuse_document('false', '{"a/b":{"~":18446744073709551616}}', 'notwhole "/a~1b/~0"')
 refuse_document('true', '{"a":', 'notjson')
 refuse_document('true', '', 'notjson')
-refuse_document('true', 'parts 1', 'notjson')
+refuse_document('true', 'parts 1', 'parts 1')
 CASES.append(('{"type":5}', '{', 'refused first wrongshape type "/type"', True))
 
 # ---- types

@@ -140,6 +140,9 @@ fn nest(alloc: Global, depth: usize) -> Result<Parts, Fail> {
     let mut parts = Parts::new(alloc);
     let mut last = parts.push(Part::List(PartIds::from_vec(vec![in alloc;]?)))?;
     for _ in 1..depth {
+        if parts.len() == u32::MAX {
+            Err("a full table")?;
+        }
         last = parts.push(Part::List(PartIds::from_vec(vec![in alloc; last]?)))?;
     }
     Ok(parts)
