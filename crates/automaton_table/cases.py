@@ -795,4 +795,5 @@ def main():
             stdout.write('%d: %s\n' % (len(cases) + i + 1, answer))
 
 
-main()
+if __name__ == '__main__':
+    main()

@@ -1,18 +1,12 @@
 -- What an outcome means for the values of the two files.
-use Rattle.std.proofs.Common.{◌≡◌, inl, inr, ℕ, List, false, Option, Some, None, encode_utf8_all, refl, ap, sym, ◌∙◌, subst}
-use Rattle.documents.specs.Json.{Json, boolean}
-use Rattle.schemas.specs.Places.{Pointer}
+use Rattle.std.proofs.Common.{◌≡◌, ℕ, List, Option, Some, None, encode_utf8_all, refl, ap, sym, ◌∙◌, subst}
+use Rattle.documents.specs.Json.{Json}
 use Rattle.js_outside.specs.Told.{Files}
 use Rattle.js_input.specs.SchemaReading.{Refused, Read, IsSchemaReading}
 use Rattle.js_input.specs.FileReading.{IsSchemaFile}
 use Rattle.js_input.proofs.SchemaReadingLemmas.{IsSchemaReading-one}
-use Rattle.js_inclusion.specs.Unread.{unread}
-use Rattle.js_inclusion.specs.Comparison as C
-use Rattle.js_inclusion.specs.Comparison.{where_read}
-use Rattle.js_inclusion.proofs.NothingLaws.{read-false}
-use Rattle.js_commands.specs.ReadEntries.{entries_of, entries_read}
-use Rattle.js_commands.specs.IncludeOutcome.{Outcome, Decided, FirstRefused, SecondRefused, of_comparison, of_values, of_second, IsAgainstBytes, IsAgainst, IsOfFirst, IsOutcomeOf, IsComparison}
-use Rattle.js_commands.specs.IncludeMeaning.{IsSecond, AreSchemas, AreDecidedOn, answer_of, IsFirstUnread, IsSecondUnread, IsFirstRefusal, IsSecondRefusal}
+use Rattle.js_commands.specs.IncludeOutcome.{Outcome, FirstRefused, SecondRefused, of_values, of_second, IsAgainstBytes, IsAgainst, IsOfFirst, IsOutcomeOf, IsComparison}
+use Rattle.js_commands.specs.IncludeMeaning.{IsSecond, AreSchemas, IsFirstRefusal, IsSecondRefusal}
 
 -- two schemas that are told come to what their values come to
 
@@ -64,79 +58,40 @@ told-same told first second a b c d x y = (
   same_second x.later y.later second b d (x.are_files.1 ∙ sym y.are_files.1) x.is_second y.is_second,
 )
 
--- schemas that are decided on come to an answer
-pub decided-values : (a b : Json) → AreDecidedOn a b → of_values a b ≡ Decided (answer_of a b)
-decided-values a b on =
-    ap (λ o. of_comparison (where_read C.FirstUnread C.SecondUnread o (unread (entries_read b))
-    (C.Decided (answer_of a b)))) on.first
-    ∙ ap (λ o. of_comparison (where_read C.FirstUnread C.SecondUnread None o (C.Decided (answer_of a b)))) on.second
-
 -- refusals
 
-module _ (a b : Json) (words : List ℕ) where
-  abbrev of_unread : Option Pointer → Option Pointer → Outcome
-  of_unread o q =
-      of_comparison (where_read C.FirstUnread C.SecondUnread o q (C.Decided (answer_of a b)))
-
-  values-first : of_values a b ≡ FirstRefused words → IsFirstUnread a words
-  values-first e = go (unread (entries_read a)) (unread (entries_read b)) refl e where
-    go : (o q : Option Pointer) → unread (entries_read a) ≡ o → of_unread o q ≡ FirstRefused words
-        → IsFirstUnread a words
-    go (Some p) q h e = record { place = p; is = h; written = cc }
-    go None (Some p) h e = cc
-    go None None h e = cc
-
-  values-second : of_values a b ≡ SecondRefused words → IsSecondUnread a b words
-  values-second e = go (unread (entries_read a)) (unread (entries_read b)) refl refl e where
-    go : (o q : Option Pointer) → unread (entries_read a) ≡ o → unread (entries_read b) ≡ q
-        → of_unread o q ≡ SecondRefused words → IsSecondUnread a b words
-    go (Some p) q h k e = cc
-    go None (Some p) h k e = record { decided_on = h; place = p; is = k; written = cc }
-    go None None h k e = cc
-
--- nothing of `false` is unread
-unread-false : unread (entries_read (boolean false)) ≡ None
-unread-false = ap (λ r. unread (entries_of r)) read-false
-
 module _ (files later : Files) (first words : List ℕ) where
-  first-after : (a : Json) → IsSchemaFile files first a → (second : Option (List ℕ))
-      → IsAgainst later second a (FirstRefused words) → IsFirstRefusal files later first second words
-  first-after a is None e = inr (a, boolean false, is, refl, values-first a (boolean false) words e)
-  first-after a is (Some name) e = go (later (encode_utf8_all name)) refl e where
-    go : (o : Option (List ℕ)) → later (encode_utf8_all name) ≡ o → IsAgainstBytes o a (FirstRefused words)
-        → IsFirstRefusal files later first (Some name) words
-    go None t e = cc
-    go (Some bytes) t (Refused ws, is', e) = cc
-    go (Some bytes) t (Read b, is', e) =
-        inr (a, b, is, record { bytes = bytes; told = t; is_read = is' }, values-first a b words e)
+  -- two schemas aren't refused
+  first-after : (a : Json) (second : Option (List ℕ)) → IsAgainst later second a (FirstRefused words) → ⊥
+  first-after a None e = cc
+  first-after a (Some name) e = go (later (encode_utf8_all name)) e where
+    go : (o : Option (List ℕ)) → IsAgainstBytes o a (FirstRefused words) → ⊥
+    go None e = cc
+    go (Some bytes) (Refused ws, is', e) = cc
+    go (Some bytes) (Read b, is', e) = cc
 
   first-at : (second : Option (List ℕ)) (o : Option (List ℕ)) → files (encode_utf8_all first) ≡ o
-      → IsOutcomeOf o (IsAgainst later second) (FirstRefused words) → IsFirstRefusal files later first second words
+      → IsOutcomeOf o (IsAgainst later second) (FirstRefused words) → IsFirstRefusal files first words
   first-at second None t e = cc
   first-at second (Some bytes) t (Refused ws, is, e) =
       let same : ws ≡ words = cc in
-      inl (record { bytes = bytes; told = t; is_refused = subst (λ v. IsSchemaReading bytes (Refused v)) same is })
-  first-at second (Some bytes) t (Read a, is, e) =
-      first-after a (record { bytes = bytes; told = t; is_read = is }) second e
+      record { bytes = bytes; told = t; is_refused = subst (λ v. IsSchemaReading bytes (Refused v)) same is }
+  first-at second (Some bytes) t (Read a, is, e) = absurd (first-after a second e)
 
   second-after : (a : Json) → IsSchemaFile files first a → (second : Option (List ℕ))
       → IsAgainst later second a (SecondRefused words) → IsSecondRefusal files later first second words
-  second-after a is None e =
-      let of = values-second a (boolean false) words e in
-      let wrong : None ≡ Some of.place = sym unread-false ∙ of.is in cc
+  second-after a is None e = cc
   second-after a is (Some name) e = go (later (encode_utf8_all name)) refl e where
     go : (o : Option (List ℕ)) → later (encode_utf8_all name) ≡ o → IsAgainstBytes o a (SecondRefused words)
         → IsSecondRefusal files later first (Some name) words
     go None t e = cc
     go (Some bytes) t (Refused ws, is', e) =
-        let same : ws ≡ words = cc in
-        inl (
+        let same : ws ≡ words = cc in (
           a,
           is,
           record { bytes = bytes; told = t; is_refused = subst (λ v. IsSchemaReading bytes (Refused v)) same is' },
         )
-    go (Some bytes) t (Read b, is', e) =
-        inr (a, b, is, record { bytes = bytes; told = t; is_read = is' }, values-second a b words e)
+    go (Some bytes) t (Read b, is', e) = cc
 
   second-at : (second : Option (List ℕ)) (o : Option (List ℕ)) → files (encode_utf8_all first) ≡ o
       → IsOutcomeOf o (IsAgainst later second) (SecondRefused words)
@@ -147,7 +102,7 @@ module _ (files later : Files) (first words : List ℕ) where
       second-after a (record { bytes = bytes; told = t; is_read = is }) second e
 
 pub first-refusal : (told : Option Files) (first : List ℕ) (second : Option (List ℕ)) (words : List ℕ)
-    → (is : IsComparison told first second (FirstRefused words)) → IsFirstRefusal is.files is.later first second words
+    → (is : IsComparison told first second (FirstRefused words)) → IsFirstRefusal is.files first words
 first-refusal told first second words is =
     first-at is.files is.later first words second (is.files (encode_utf8_all first)) refl is.outcome
 

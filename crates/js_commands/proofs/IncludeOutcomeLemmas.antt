@@ -5,16 +5,14 @@ use Rattle.schemas.specs.Entry.{Entry}
 use Rattle.js_outside.specs.Told.{Files}
 use Rattle.js_report.specs.WholeFile.{HasBytes}
 use Rattle.js_input.specs.SchemaReading.{Reading, Refused, Read, IsSchemaReading}
-use Rattle.js_inclusion.specs.Unread.{unread}
-use Rattle.js_inclusion.specs.Comparison as C
-use Rattle.js_inclusion.specs.Comparison.{Answer, Comparison, both, second_root, answer, comparison}
-use Rattle.js_inclusion.specs.Meaning.{IsReadAs, AnswerTells, Tells, Means}
-use Rattle.js_inclusion.proofs.ComparisonLaws.{comparison-decided}
+use Rattle.js_inclusion.specs.Comparison.{Answer, comparison}
+use Rattle.js_inclusion.specs.Meaning.{IsReadAs, AnswerTells, Means}
+use Rattle.js_inclusion.specs.View.{answer_view}
 use Rattle.js_commands.proofs.FileLemmas.{HaveFile-has, HaveFiles-has}
 use Rattle.js_commands.specs.ReadEntries.{entries_of, entries_read}
-use Rattle.js_commands.specs.IncludeOutcome.{Outcome, FirstRefused, ReadFault, of_comparison, of_values, of_second, IsAgainstBytes, IsAgainst, IsOutcomeOf, IsComparison}
-use Rattle.js_commands.specs.IncludeMeaning.{AreSchemas, IsDecided, MeansFor}
-use Rattle.js_commands.specs.IncludeSaying.{outcome_of, InclusionSays, SchemasSay}
+use Rattle.js_commands.specs.IncludeOutcome.{Outcome, Decided, FirstRefused, of_values, of_second, IsAgainstBytes, IsAgainst, IsOutcomeOf, IsComparison}
+use Rattle.js_commands.specs.IncludeMeaning.{AreSchemas, IsDecided}
+use Rattle.js_commands.specs.IncludeSaying.{InclusionSays, SchemasSay}
 use Rattle.js_commands.specs.declared.include.Inclusion.{Inclusion}
 use Rattle.js_commands.specs.declared.include.Inclusion.TheVariants as F
 
@@ -84,11 +82,6 @@ module _ (told : Option Files) (first one : List ℕ) (a : Json) (has : HasBytes
         is_second = refl;
       }
 
-read_fault-of_comparison : (c : Comparison) → ReadFault ≡ of_comparison c → ⊥
-read_fault-of_comparison (C.FirstUnread p) e = cc
-read_fault-of_comparison (C.SecondUnread p) e = cc
-read_fault-of_comparison (C.Decided x) e = cc
-
 -- two schemas that are read, as these entries, and what the program says of them
 module _ (told : Option Files) (first : List ℕ) (second : Option (List ℕ)) (a b : Json) (es fs : List Entry)
     (x : IsReadAs a es) (y : IsReadAs b fs) (are : AreSchemas told first second a b)
@@ -99,48 +92,27 @@ module _ (told : Option Files) (first : List ℕ) (second : Option (List ℕ)) (
   same_entries' : entries_read b ≡ fs
   same_entries' = ap entries_of y.entries
 
-  same_values : of_values a b ≡ of_comparison (comparison es fs)
-  same_values = ap₂ (λ p q. of_comparison (comparison p q)) same_entries same_entries'
+  same_answer : comparison (entries_read a) (entries_read b) ≡ comparison es fs
+  same_answer = ap₂ comparison same_entries same_entries'
 
-  decided-tells : (v : Answer) → comparison es fs ≡ C.Decided v → AnswerTells es fs a b v
-      → IsDecided told first second v
-  decided-tells v e tells =
-      let (none, none', is) = comparison-decided es fs v e in
+  decided-tells : (v : Answer) → v ≡ comparison es fs → Means es fs v → IsDecided told first second v
+  decided-tells v e means =
       record {
         a = a;
         b = b;
         are = are;
-        decided_on = record {
-          first = ap unread same_entries ∙ none;
-          second = ap unread same_entries' ∙ none';
-        };
-        is = ap₂ (λ p q. answer (both p q) 0 (second_root p)) same_entries same_entries' ∙ is;
+        is = same_answer ∙ sym e;
         tells = subst (λ p. AnswerTells p (entries_read b) a b v) (sym same_entries)
-            (subst (λ q. AnswerTells es q a b v) (sym same_entries') tells);
+            (subst (λ q. AnswerTells es q a b v) (sym same_entries') (means a b x y));
       }
-
-  means-read : (c : Comparison) → comparison es fs ≡ c → Means es fs c → MeansFor told first second (of_comparison c)
-  means-read (C.FirstUnread p) e means = tt
-  means-read (C.SecondUnread p) e means = tt
-  means-read (C.Decided v) e means = decided-tells v e (means a b x y)
-
-  means-values : (o : Outcome) → o ≡ of_comparison (comparison es fs) → Means es fs (comparison es fs)
-      → IsComparison told first second o × MeansFor told first second o
-  means-values o e means = (
-    comes o (same_values ∙ sym e),
-    subst (MeansFor told first second) (sym e) (means-read (comparison es fs) refl means),
-  )
 
   pub says-compared : (before after : ℕ) (f : Inclusion) → after ≡ before → SchemasSay es fs f
       → InclusionSays told first second before after f
-  says-compared before after f n says = go f says.0 where
-    means : (o : Outcome) → o ≡ of_comparison (comparison es fs)
-        → IsComparison told first second o × MeansFor told first second o
-    means o e = means-values o e says.1
-
-    go : (f : Inclusion) → outcome_of f ≡ of_comparison (comparison es fs)
-        → InclusionSays told first second before after f
-    go F.ReadFault e = absurd (read_fault-of_comparison (comparison es fs) e)
-    go (F.Decided v) e = let both = means (outcome_of (F.Decided v)) e in (n, both.0, both.1)
-    go (F.FirstRefused ws) e = let both = means (outcome_of (F.FirstRefused ws)) e in (n, both.0, both.1)
-    go (F.SecondRefused ws) e = let both = means (outcome_of (F.SecondRefused ws)) e in (n, both.0, both.1)
+  says-compared before after (F.Decided v) n (e, means) = (
+    n,
+    comes (Decided (answer_view v)) (ap Decided (same_answer ∙ sym e)),
+    decided-tells (answer_view v) e means,
+  )
+  says-compared before after (F.FirstRefused ws) n says = absurd says
+  says-compared before after (F.SecondRefused ws) n says = absurd says
+  says-compared before after F.ReadFault n says = absurd says

@@ -1,13 +1,10 @@
 -- What an outcome means for the values of the two schemas.
-use Rattle.std.specs.Prelude.{◌≡◌, ◌⊎◌, ℕ, List, false, Option, Some, None, codes}
+use Rattle.std.specs.Prelude.{◌≡◌, ℕ, List, false, Option, Some, None}
 use Rattle.documents.specs.Json.{Json, boolean}
-use Rattle.schemas.specs.Places.{Pointer}
-use Rattle.js_report.specs.RefusalWords.{placed_words}
 use Rattle.js_outside.specs.Told.{Files}
 use Rattle.js_input.specs.FileReading.{IsSchemaFile, IsSchemaRefusal}
 use Rattle.js_input.specs.ToldTwice.{AreFiles}
-use Rattle.js_inclusion.specs.Unread.{unread}
-use Rattle.js_inclusion.specs.Comparison.{Answer, both, second_root, answer}
+use Rattle.js_inclusion.specs.Comparison.{Answer, comparison}
 use Rattle.js_inclusion.specs.Meaning.{AnswerTells}
 use Rattle.js_commands.specs.ReadEntries.{entries_read}
 use Rattle.js_commands.specs.IncludeOutcome.{Outcome, Decided}
@@ -25,25 +22,19 @@ pub record AreSchemas (told : Option Files) (first : List ℕ) (second : Option 
   pub is_first : IsSchemaFile files first a
   pub is_second : IsSecond later second b
 
--- all that two schemas ask for is decided on
-pub record AreDecidedOn (a b : Json) : Type 0 where
-  pub first : unread (entries_read a) ≡ None
-  pub second : unread (entries_read b) ≡ None
-
 -- what is found of two values
 abbrev pub answer_of : Json → Json → Answer
-answer_of a b = answer (both (entries_read a) (entries_read b)) 0 (second_root (entries_read a))
+answer_of a b = comparison (entries_read a) (entries_read b)
 
 -- what an answer means for two values
 abbrev pub ValuesTell : Json → Json → Answer → Type 0
 ValuesTell a b x = AnswerTells (entries_read a) (entries_read b) a b x
 
--- both are schemas that are decided on, this is what is found of them, and what it means for them
+-- both are schemas, this is what is found of them, and what it means for them
 pub record IsDecided (told : Option Files) (first : List ℕ) (second : Option (List ℕ)) (x : Answer) : Type 0 where
   pub a : Json
   pub b : Json
   pub are : AreSchemas told first second a b
-  pub decided_on : AreDecidedOn a b
   pub is : answer_of a b ≡ x
   pub tells : ValuesTell a b x
 
@@ -51,32 +42,12 @@ abbrev pub MeansFor : Option Files → List ℕ → Option (List ℕ) → Outcom
 MeansFor told first second (Decided x) = IsDecided told first second x
 MeansFor told first second _ = Unit {0}
 
--- a place of one of two schemas that are read isn't decided on yet: of the first, or of the second where all of the
--- first is decided on
-pub record IsFirstUnread (a : Json) (words : List ℕ) : Type 0 where
-  pub place : Pointer
-  pub is : unread (entries_read a) ≡ Some place
-  pub written : words ≡ placed_words (codes "notyet") place
+-- the first file is refused: it is no schema
+abbrev pub IsFirstRefusal : Files → (first words : List ℕ) → Type 0
+IsFirstRefusal files first words = IsSchemaRefusal files first words
 
-pub record IsSecondUnread (a b : Json) (words : List ℕ) : Type 0 where
-  pub decided_on : unread (entries_read a) ≡ None
-  pub place : Pointer
-  pub is : unread (entries_read b) ≡ Some place
-  pub written : words ≡ placed_words (codes "notyet") place
-
--- both are schemas, and this fact holds of their values
-abbrev pub WhereRead : Files → Files → List ℕ → Option (List ℕ) → (Json → Json → Type 0) → Type 0
-WhereRead files later first second P =
-    (a : Json) × (b : Json) × IsSchemaFile files first a × IsSecond later second b × P a b
-
--- the first file is refused: it is no schema, or it is one, as the second is, and has a place that isn't decided on
-abbrev pub IsFirstRefusal : Files → Files → (first : List ℕ) → (second : Option (List ℕ)) → (words : List ℕ) → Type 0
-IsFirstRefusal files later first second words =
-    IsSchemaRefusal files first words ⊎ WhereRead files later first second (λ a b. IsFirstUnread a words)
-
--- the second file is refused: the first is a schema, and the second is none, or has a place that isn't decided on
+-- the second file is refused: the first is a schema, and the second is none
 abbrev pub IsSecondRefusal : Files → Files → (first : List ℕ) → (second : Option (List ℕ)) → (words : List ℕ) → Type 0
 IsSecondRefusal files later first None words = ⊥
 IsSecondRefusal files later first (Some name) words =
-    ((a : Json) × IsSchemaFile files first a × IsSchemaRefusal later name words)
-    ⊎ WhereRead files later first (Some name) (λ a b. IsSecondUnread a b words)
+    (a : Json) × IsSchemaFile files first a × IsSchemaRefusal later name words

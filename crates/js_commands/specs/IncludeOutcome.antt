@@ -1,12 +1,10 @@
 -- What the comparison of two schemas comes to: of those of two files, and of that of a file and the value `false`.
-use Rattle.std.specs.Prelude.{◌≡◌, ℕ, List, [], ◌∷◌, false, Option, Some, None, codes, encode_utf8_all}
+use Rattle.std.specs.Prelude.{◌≡◌, ℕ, List, [], ◌∷◌, false, Option, Some, None, encode_utf8_all}
 use Rattle.documents.specs.Json.{Json, boolean}
-use Rattle.js_report.specs.RefusalWords.{placed_words}
 use Rattle.js_outside.specs.Told.{Files}
 use Rattle.js_input.specs.SchemaReading.{Reading, Refused, Read, IsSchemaReading}
 use Rattle.js_input.specs.ToldTwice.{AreFiles}
-use Rattle.js_inclusion.specs.Comparison as C
-use Rattle.js_inclusion.specs.Comparison.{Answer, Comparison, comparison}
+use Rattle.js_inclusion.specs.Comparison.{Answer, comparison}
 use Rattle.js_commands.specs.ReadEntries.{entries_read}
 
 pub data Outcome : Type 0 where
@@ -18,15 +16,9 @@ pub data Outcome : Type 0 where
   -- a file isn't there
   ReadFault : Outcome
 
--- a place that isn't decided on yet is told as a refusal
-abbrev pub of_comparison : Comparison → Outcome
-of_comparison (C.FirstUnread p) = FirstRefused (placed_words (codes "notyet") p)
-of_comparison (C.SecondUnread p) = SecondRefused (placed_words (codes "notyet") p)
-of_comparison (C.Decided x) = Decided x
-
 -- of two schemas that are read
 abbrev pub of_values : Json → Json → Outcome
-of_values a b = of_comparison (comparison (entries_read a) (entries_read b))
+of_values a b = Decided (comparison (entries_read a) (entries_read b))
 
 abbrev pub of_second : Json → Reading → Outcome
 of_second a (Refused words) = SecondRefused words

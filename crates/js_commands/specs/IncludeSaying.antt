@@ -7,7 +7,7 @@ use Rattle.js_inclusion.specs.Comparison.{comparison}
 use Rattle.js_inclusion.specs.Meaning.{Means}
 use Rattle.js_inclusion.specs.View.{answer_view}
 use Rattle.js_commands.specs.IncludeOutcome as O
-use Rattle.js_commands.specs.IncludeOutcome.{Outcome, of_comparison, IsComparison}
+use Rattle.js_commands.specs.IncludeOutcome.{Outcome, IsComparison}
 use Rattle.js_commands.specs.IncludeMeaning.{MeansFor}
 use Rattle.js_commands.specs.declared.include.Inclusion.{Inclusion}
 use Rattle.js_commands.specs.declared.include.Inclusion.TheVariants as F
@@ -26,4 +26,5 @@ InclusionSays told first second before after f =
 
 -- the same of two schemas, whatever values they are read from
 abbrev pub SchemasSay : List Entry → List Entry → Inclusion → Type 0
-SchemasSay es fs f = (outcome_of f ≡ of_comparison (comparison es fs)) × Means es fs (comparison es fs)
+SchemasSay es fs (F.Decided x) = (answer_view x ≡ comparison es fs) × Means es fs (answer_view x)
+SchemasSay es fs _ = ⊥

@@ -1,11 +1,9 @@
 //! `include` and `sat`: the first file is read, then the second where there is one, and then the schemas are compared.
 //!
-//! Both are read before anything is compared, so a file that is no schema is told before a place that isn't decided on,
-//! whichever file has it. A schema has a document exactly where it isn't included in `false`, for which no document is
-//! valid; so `sat` compares with that value.
+//! A schema has a document exactly where it isn't included in `false`, for which no document is valid; so `sat` compares
+//! with that value.
 
-ghost use Rattle.std.specs.Prelude.{◌≡◌, [], ◌∷◌, ◌++◌, Some, None, IfOk, OnErr, option_map, codes, encode_utf8_all, string_bytes};
-ghost use Rattle.js_report.specs.RefusalWords as R;
+ghost use Rattle.std.specs.Prelude.{◌≡◌, [], ◌∷◌, ◌++◌, Some, None, IfOk, OnErr, option_map, encode_utf8_all};
 ghost use Rattle.js_guard.specs.RankedView.{entries_of};
 ghost use Rattle.js_input.specs.OrderOfFiles.{BeginsInOrder};
 ghost use Rattle.js_inclusion.specs.Nothing.{nothing};
@@ -14,11 +12,9 @@ ghost use Rattle.js_commands.specs.IncludeSaying.{InclusionSays, SchemasSay};
 
 use js_doc::{Memory, Str};
 use js_guard::RankedSchema;
-use js_inclusion::{Answer, Comparison, compare, false_schema};
+use js_inclusion::{Answer, compare, false_schema};
 use js_input::{SchemaInput, load_schema};
-use js_json::Pointer;
 use js_outside::Shelf;
-use js_report::placed_words;
 use std::alloc::Global;
 
 /// What two schemas come to.
@@ -38,8 +34,7 @@ pub enum Inclusion {
 }
 
 /// Compares the schemas of two files; without a second file, the first file's with the value `false`. The first file is
-/// read first, and the second only where the first is a schema; a schema that isn't decided on yet is told after both
-/// are read.
+/// read first, and the second only where the first is a schema.
 pub fn compare_files<H: Shelf>(
     alloc: Global,
     shelf: &mut H,
@@ -113,22 +108,6 @@ fn compared_with_false(alloc: Global, a: &RankedSchema) -> Result<Inclusion, Mem
 fn compared(alloc: Global, a: &RankedSchema, b: &RankedSchema) -> Result<Inclusion, Memory>
     ensures { IfOk result (SchemasSay (entries_of a.now) (entries_of b.now)) }
 {
-    match compare(alloc, a, b)? {
-        Comparison::Decided(answer) => Ok(Inclusion::Decided(answer)),
-        Comparison::FirstUnread(place) => {
-            let words = not_yet(alloc, &place)?;
-            Ok(Inclusion::FirstRefused(words))
-        }
-        Comparison::SecondUnread(place) => {
-            let words = not_yet(alloc, &place)?;
-            Ok(Inclusion::SecondRefused(words))
-        }
-    }
-}
-
-/// The words for a place that isn't decided on yet.
-fn not_yet(alloc: Global, place: &Pointer) -> Result<String, Memory>
-    ensures { IfOk result (λ s. string_bytes s ≡ R.placed_words (codes "notyet") place.now) }
-{
-    placed_words(alloc, "notyet", place)
+    let answer = compare(alloc, a, b)?;
+    Ok(Inclusion::Decided(answer))
 }

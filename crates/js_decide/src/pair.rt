@@ -1,10 +1,9 @@
 //! What is decided of two positions of a table.
 
-ghost use Rattle.std.specs.Prelude.{◌≡◌, ◌<◌, false, length, IfOk};
+ghost use Rattle.std.specs.Prelude.{◌≡◌, ◌<◌, length, IfOk};
 ghost use Rattle.alternatives.specs.Limit.{most_goals, most_total};
 ghost use Rattle.decisions.specs.Decision.{decision};
 ghost use Rattle.decisions.specs.Meaning.{Means};
-ghost use Rattle.finder_laws.specs.Objects.{speaks_of_objects};
 ghost use Rattle.js_expander.specs.Found.{finders};
 ghost use Rattle.js_decide.specs.View.{decided_view};
 
@@ -15,13 +14,12 @@ use js_doc::Memory;
 use js_expander::CoreExpander;
 use std::alloc::Global;
 
-/// Whether a document meets the position `a` and not the position `b`, in a table that doesn't speak of objects.
+/// Whether a document meets the position `a` and not the position `b`.
 ///
 /// It costs the exploration of the goals that the two lead to: an expansion each, and rounds over their alternatives.
 pub fn decide(alloc: Global, core: &Core, a: Pos, b: Pos) -> Result<Decided, Memory>
     requires a_in { a.0 < length core.now.positions }
     requires b_in { b.0 < length core.now.positions }
-    requires objectless { speaks_of_objects core.now.positions ≡ false }
     ensures decided { IfOk result
         (λ d. decided_view d ≡ decision (finders core.now.positions) core.now.positions a.0 b.0) }
 

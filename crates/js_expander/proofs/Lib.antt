@@ -1,9 +1,7 @@
 -- What is kept, and what is left of a walk and of a table.
 mod Counted
 mod Walked
-mod Speaking
--- Objects that are not spoken of, and the words of strings.
-mod NoMembers
+-- The words of strings, and the names of objects.
 mod Words
 mod Texts
 -- Lists of a table, for tests.

@@ -1,7 +1,5 @@
 -- What a reader must believe: what is found for the branches of a table, and so the expansions of its goals.
 pub mod Found
--- The goals that are taken, as long as objects have no leaf.
-pub mod Taken
 -- What answers stand for.
 pub mod Answers
 -- Internal: places that are counted.

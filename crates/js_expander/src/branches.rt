@@ -1,11 +1,10 @@
 //! The branches of a goal at a kind: all of them answered, or one by its number.
 
-ghost use Rattle.std.specs.Prelude.{◌≡◌, ◌<◌, ◌≤◌, [], length, get_or, true, false, IfOk, OnOk};
+ghost use Rattle.std.specs.Prelude.{◌≡◌, ◌<◌, ◌≤◌, [], length, get_or, true, IfOk, OnOk};
 ghost use Rattle.goals.specs.Tree.{steps, ends, branches};
 ghost use Rattle.alternatives.specs.Expansion.{keep_all};
 ghost use Rattle.alternatives.specs.Limit.{most_ends};
 ghost use Rattle.expansions.specs.Expansion.{at_kind};
-ghost use Rattle.finder_laws.specs.Objects.{speaks_of_objects};
 ghost use Rattle.js_algebra.specs.View.{kind_view, are_in_table};
 ghost use Rattle.js_tableau.specs.BranchWalks.{IsBranchWalk, branches_left};
 ghost use Rattle.js_expander.specs.Found.{leaf_of, from_branches};
@@ -15,6 +14,7 @@ use crate::leaves::answer;
 use js_algebra::{BranchId, Core, Goal, JsonKind, SignedList};
 use js_doc::Memory;
 use js_expansion::LimitKind;
+use js_objects::KeptNames;
 use js_tableau::{Branch, BranchWalk, TableauFault};
 use std::alloc::Global;
 
@@ -26,8 +26,7 @@ pub(crate) fn keep_kind(
     kind: JsonKind,
     kept: &mut Kept,
 ) -> Result<(), Memory>
-    requires in_table { are_in_table core.now.positions goal.now ≡ true }
-    requires no_objects { speaks_of_objects core.now.positions ≡ false }
+    requires { are_in_table core.now.positions goal.now ≡ true }
     ensures { OnOk result (kept.new
         ≡ keep_all kept.old (at_kind core.now.positions (leaf_of core.now.positions) goal.now (kind_view kind))) }
 {
@@ -51,18 +50,18 @@ fn keep_branches(
 ) -> Result<(), Memory>
     requires walk { IsBranchWalk core.now.positions walk }
     requires few { length (branches_left core.now.positions walk) ≤ 16384 }
-    requires no_objects { speaks_of_objects core.now.positions ≡ false }
     ensures { OnOk result (kept.new
         ≡ keep_all kept.old (from_branches core.now.positions (kind_view kind) 0
         (branches_left core.now.positions walk))) }
 {
     let mut number = 0;
+    let mut names = KeptNames::new();
     while let Some(set) = walk.next(alloc, core)? {
         let branch = Branch {
             id: BranchId { kind, number },
             set,
         };
-        kept.keep(answer(alloc, core, &branch)?)?;
+        kept.keep(answer(alloc, core, &branch, &mut names)?)?;
         number += 1;
     }
     Ok(())

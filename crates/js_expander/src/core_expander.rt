@@ -4,10 +4,10 @@ ghost use Rattle.std.specs.Prelude.{◌≡◌};
 
 use crate::branches::{branch_set, keep_kind};
 use crate::kept::Kept;
-use crate::objects::object_words;
 use js_algebra::{BranchId, Core, Goal, JsonKind};
 use js_doc::{Memory, StrList};
 use js_expansion::{Expander, Expansion};
+use js_objects::object_words;
 use js_strings::string_words;
 use js_tableau::Branch;
 use std::alloc::Global;
@@ -29,9 +29,8 @@ impl<'a> CoreExpander<'a> {
 
 impl Expander for CoreExpander<'_> {
     ghost use Rattle.std.specs.Prelude.{◌≡◌, List, ℕ, Bool};
-    ghost use Rattle.expander_laws.specs.Expander.{branch_count};
+    ghost use Rattle.expander_laws.specs.Expander.{takes, branch_count};
     ghost use Rattle.js_expander.specs.Found.{goal_expansion, cells_at};
-    ghost use Rattle.js_expander.specs.Taken.{takes};
     ghost use Rattle.js_expander.specs.Laws as L;
 
     ghost takes = { λ x g. takes x.core.now.positions x.core.now.ranks g };
@@ -63,7 +62,10 @@ impl Expander for CoreExpander<'_> {
                 let set = branch_set(alloc, self.core, goal, branch)?;
                 string_words(alloc, self.core, &Branch { id: branch, set }, cell, count)
             }
-            JsonKind::Object => object_words(alloc, count),
+            JsonKind::Object => {
+                let set = branch_set(alloc, self.core, goal, branch)?;
+                object_words(alloc, self.core, &Branch { id: branch, set }, cell, count)
+            }
             _ => unreachable!(),
         }
     }

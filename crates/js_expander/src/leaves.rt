@@ -1,28 +1,31 @@
 //! The answer of the leaf of each kind.
 
-ghost use Rattle.std.specs.Prelude.{◌≡◌, true, false, IfOk};
+ghost use Rattle.std.specs.Prelude.{◌≡◌, true, IfOk};
 ghost use Rattle.documents.specs.Kind as K;
-ghost use Rattle.finder_laws.specs.Objects.{speaks_of_objects};
 ghost use Rattle.js_algebra.specs.View.{kind_view, are_in_table};
 ghost use Rattle.js_expander.specs.Found.{leaf_of};
 ghost use Rattle.js_expander.specs.Answers.{answer_view};
 
 use crate::kept::Answer;
-use crate::objects::object_alternatives;
 use js_algebra::{Core, JsonKind};
 use js_arrays::{ArrayFault, array_alternatives};
 use js_automaton::AutoFault;
 use js_doc::Memory;
 use js_expansion::LimitKind;
+use js_objects::{KeptNames, ObjectFault, object_alternatives};
 use js_scalars::{NumberFault, null_alternatives, number_alternatives, truth_alternatives};
 use js_strings::string_alternatives;
 use js_tableau::Branch;
 use std::alloc::Global;
 
-/// What the leaf of its kind answers for a branch.
-pub(crate) fn answer(alloc: Global, core: &Core, branch: &Branch) -> Result<Answer, Memory>
-    requires in_table { are_in_table core.now.positions branch.now.set ≡ true }
-    requires no_objects { speaks_of_objects core.now.positions ≡ false }
+/// What the leaf of its kind answers for a branch. What is kept of names serves branches at objects, one after another.
+pub(crate) fn answer(
+    alloc: Global,
+    core: &Core,
+    branch: &Branch,
+    kept: &mut KeptNames,
+) -> Result<Answer, Memory>
+    requires { are_in_table core.now.positions branch.now.set ≡ true }
     ensures { IfOk result (λ a. answer_view a ≡ leaf_of core.now.positions (kind_view branch.now.id.kind)
         branch.now.id.number branch.now.set) }
 {
@@ -32,7 +35,7 @@ pub(crate) fn answer(alloc: Global, core: &Core, branch: &Branch) -> Result<Answ
         JsonKind::Number => number_answer(alloc, core, branch),
         JsonKind::Text => string_answer(alloc, core, branch),
         JsonKind::Array => array_answer(alloc, core, branch),
-        JsonKind::Object => Ok(Ok(object_alternatives(alloc, core, branch)?)),
+        JsonKind::Object => object_answer(alloc, core, branch, kept),
     }
 }
 
@@ -74,5 +77,26 @@ fn array_answer(alloc: Global, core: &Core, branch: &Branch) -> Result<Answer, M
         Err(ArrayFault::LimitCounts) => Ok(Err(LimitKind::Counts)),
         Err(ArrayFault::LimitPlans) => Ok(Err(LimitKind::Plans)),
         Err(ArrayFault::Memory) => Err(Memory),
+    }
+}
+
+fn object_answer(
+    alloc: Global,
+    core: &Core,
+    branch: &Branch,
+    kept: &mut KeptNames,
+) -> Result<Answer, Memory>
+    requires { are_in_table core.now.positions branch.now.set ≡ true }
+    ensures { IfOk result (λ a. answer_view a
+        ≡ leaf_of core.now.positions K.Object branch.now.id.number branch.now.set) }
+{
+    match object_alternatives(alloc, core, branch, kept) {
+        Ok(leaf) => Ok(Ok(leaf)),
+        Err(ObjectFault::LimitCounts) => Ok(Err(LimitKind::Counts)),
+        Err(ObjectFault::LimitPositions) => Ok(Err(LimitKind::Positions)),
+        Err(ObjectFault::LimitClasses) => Ok(Err(LimitKind::Classes)),
+        Err(ObjectFault::LimitStates) => Ok(Err(LimitKind::States)),
+        Err(ObjectFault::LimitPlans) => Ok(Err(LimitKind::Plans)),
+        Err(ObjectFault::Memory) => Err(Memory),
     }
 }

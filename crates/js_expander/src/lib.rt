@@ -3,17 +3,13 @@
 //! `CoreExpander` is the `Expander` that a search asks: it walks the branches of a goal kind by kind, asks the leaf of
 //! each kind for the branch's alternatives, and keeps them within the limits of an expansion. An expansion costs the
 //! trees of the goal, each walked twice, and the leaves of all branches; nothing is kept between two of them.
-//!
-//! Tables of which some position speaks of objects aren't taken yet: `speaks_of_objects` tells them.
 #![tactic(auto)]
 
 mod branches;
 mod core_expander;
 mod kept;
 mod leaves;
-mod objects;
 #[cfg(test)]
 mod tests;
 
 pub use core_expander::CoreExpander;
-pub use objects::speaks_of_objects;

@@ -1,11 +1,10 @@
 //! Expansions of goals of one table, with the values worked out by hand from what each kind asks.
 
-ghost use Rattle.std.specs.Prelude.{◌≡◌, length, true, false, IfOk, OnOk, map};
-ghost use Rattle.finder_laws.specs.Objects.{speaks_of_objects};
+ghost use Rattle.std.specs.Prelude.{◌≡◌, length, true, IfOk, OnOk, map};
+ghost use Rattle.expander_laws.specs.Expander.{takes};
 ghost use Rattle.js_algebra.specs.View.{signed_view, are_in_table};
-ghost use Rattle.js_expander.specs.Taken.{takes};
 
-use crate::{CoreExpander, speaks_of_objects};
+use crate::CoreExpander;
 use js_algebra::{
     BranchId, Core, Goal, JsonKind, KindList, Node, NodeList, Pos, PosList, RankList, Signed, form,
 };
@@ -55,8 +54,8 @@ fn goal(alloc: Global, core: &Core, places: &[(bool, u32)]) -> Result<Goal, Fail
     for (plus, place) in places {
         add_place(core, *plus, *place, &mut list)?;
     }
-    if core.len() == 0 || speaks_of_objects(core) {
-        return Err("another table")?;
+    if core.len() == 0 {
+        return Err("no table")?;
     }
     match form(alloc, core, list.as_slice())? {
         Some(goal) => Ok(goal),

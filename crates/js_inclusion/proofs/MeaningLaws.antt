@@ -33,7 +33,7 @@ use Rattle.js_expander.specs.Found.{finders}
 use Rattle.js_plain.specs.Verdict as V
 use Rattle.js_plain.specs.Verdict.{Verdict, is_over, is_open, of_kinds, of_goal, verdict}
 use Rattle.js_plain.proofs.VerdictLaws.{verdict-document, verdict-good, verdict-text}
-use Rattle.js_inclusion.specs.Comparison.{Answer, Plain, Searched, Decided, core_of, both, second_root, answer}
+use Rattle.js_inclusion.specs.Comparison.{Answer, Plain, Searched, core_of, both, second_root, answer}
 use Rattle.js_inclusion.specs.Meaning.{IsReadAs, HasManyEnds, StopsSearch, IsCertificate, AreSeparating, PlainTells, SearchTells, AnswerTells, Means, MeansIncluded}
 use Rattle.js_inclusion.specs.Tables.{IsSmallTable, SearchMeans}
 use Rattle.js_inclusion.proofs.SearchLaws.{answer-plain, answer-searched, stopped}
@@ -215,7 +215,7 @@ module _ (es fs : List Entry) (t : IsSmallTable es) (u : IsSmallTable fs) (ranks
         let (typed, is) = answer-searched (both es fs) 0 (second_root es) v e in tells-searched typed v means
 
   pub means-answer : (x : Answer) → answer (both es fs) 0 (second_root es) ≡ x
-      → SearchMeans (both es fs) 0 (second_root es) x → Means es fs (Decided x)
+      → SearchMeans (both es fs) 0 (second_root es) x → Means es fs x
   means-answer x e means = λ a b is is'. tells-answer a b is is' x e means
 
   pub means-included : (ls : List Line) (r : Bool) → r ≡ is_good (both es fs) 0 (second_root es) ls

@@ -1,6 +1,5 @@
 -- How two schemas compare, by the entries that they are read as.
-use Rattle.std.specs.Prelude.{ℕ, List, Bool, cond, Option, Some, None, length}
-use Rattle.schemas.specs.Places.{Pointer}
+use Rattle.std.specs.Prelude.{ℕ, List, Bool, cond, length}
 use Rattle.schemas.specs.Entry.{Entry}
 use Rattle.positions.specs.Position.{Position}
 use Rattle.position_laws.specs.Join.{joined}
@@ -14,7 +13,6 @@ use Rattle.js_normal.specs.PatternTrees.{tree_of}
 use Rattle.js_plain.specs.Verdict as P
 use Rattle.js_plain.specs.Verdict.{verdict}
 use Rattle.js_expander.specs.Found.{finders}
-use Rattle.js_inclusion.specs.Unread.{unread}
 
 -- what is found of two positions of a table
 pub data Answer : Type 0 where
@@ -22,13 +20,6 @@ pub data Answer : Type 0 where
   Plain : P.Verdict → Answer
   -- of any other table: a document, or that there is none
   Searched : S.Verdict → Answer
-
-pub data Comparison : Type 0 where
-  -- this place of the first schema, or of the second, isn't decided yet
-  FirstUnread : Pointer → Comparison
-  SecondUnread : Pointer → Comparison
-  -- whether a document is valid for the first and not for the second
-  Decided : Answer → Comparison
 
 -- the core table of a schema, whose root is position 0
 abbrev pub core_of : List Entry → List Position
@@ -45,15 +36,9 @@ abbrev pub answer : List Position → ℕ → ℕ → Answer
 answer T a b =
     cond (is_plain T) (Plain (verdict T a b)) (Searched (decision (finders T) T a b).verdict)
 
--- what is made where both schemas are decided on
-abbrev pub where_read : {A : Type 0} → (Pointer → A) → (Pointer → A) → Option Pointer → Option Pointer → A → A
-where_read f g (Some p) q x = f p
-where_read f g None (Some q) x = g q
-where_read f g None None x = x
-
-abbrev pub comparison : List Entry → List Entry → Comparison
-comparison es fs =
-    where_read FirstUnread SecondUnread (unread es) (unread fs) (Decided (answer (both es fs) 0 (second_root es)))
+-- of the roots of two schemas: whether a document is valid for the first and not for the second
+abbrev pub comparison : List Entry → List Entry → Answer
+comparison es fs = answer (both es fs) 0 (second_root es)
 
 -- the lines are good for the two schemas
 abbrev pub are_good : List Entry → List Entry → List Line → Bool

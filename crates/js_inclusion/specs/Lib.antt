@@ -1,6 +1,4 @@
--- What a reader must believe: which place of a schema isn't decided on, how two schemas compare, and what that means
--- for the values that they are read from.
-pub mod Unread
+-- What a reader must believe: how two schemas compare, and what that means for the values that they are read from.
 pub mod Comparison
 pub mod Meaning
 -- The schema for which no document is valid.

@@ -21,7 +21,7 @@ use Rattle.js_keywords.specs.Reading.{rules}
 use Rattle.js_plain.specs.Verdict as P
 use Rattle.js_plain.specs.Verdict.{is_over, is_open}
 use Rattle.js_expander.specs.Found.{finders}
-use Rattle.js_inclusion.specs.Comparison.{Answer, Plain, Searched, Comparison, Decided, both, second_root, are_good}
+use Rattle.js_inclusion.specs.Comparison.{Answer, Plain, Searched, both, second_root, are_good}
 
 -- the value of a text, which is read as these entries
 pub record IsReadAs (value : Json) (es : List Entry) : Type 0 where
@@ -71,13 +71,9 @@ abbrev pub AnswerTells : List Entry → List Entry → Json → Json → Answer 
 AnswerTells es fs a b (Plain v) = PlainTells es fs a b v
 AnswerTells es fs a b (Searched v) = SearchTells es fs a b v
 
-abbrev pub Tells : List Entry → List Entry → Json → Json → Comparison → Type 0
-Tells es fs a b (Decided x) = AnswerTells es fs a b x
-Tells es fs a b _ = Unit {0}
-
 -- whatever values the schemas are read from
-abbrev pub Means : List Entry → List Entry → Comparison → Type 0
-Means es fs c = (a b : Json) → IsReadAs a es → IsReadAs b fs → Tells es fs a b c
+abbrev pub Means : List Entry → List Entry → Answer → Type 0
+Means es fs x = (a b : Json) → IsReadAs a es → IsReadAs b fs → AnswerTells es fs a b x
 
 -- lines that are judged good mean inclusion
 abbrev pub MeansIncluded : List Entry → List Entry → Bool → Type 0

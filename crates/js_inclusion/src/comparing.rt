@@ -1,23 +1,19 @@
 //! The comparison of two schemas.
 
-ghost use Rattle.std.specs.Prelude.{◌≡◌, ◌<◌, IfOk, false, None, length};
+ghost use Rattle.std.specs.Prelude.{◌≡◌, ◌<◌, IfOk, length};
 ghost use Rattle.js_guard.specs.RankedView.{entries_of};
 ghost use Rattle.position_laws.specs.Plain.{is_plain};
-ghost use Rattle.finder_laws.specs.Objects.{speaks_of_objects};
-ghost use Rattle.js_inclusion.specs.Unread.{unread};
 ghost use Rattle.js_inclusion.specs.Comparison as C;
-ghost use Rattle.js_inclusion.specs.Comparison.{comparison, both, second_root};
+ghost use Rattle.js_inclusion.specs.Comparison.{comparison};
 ghost use Rattle.js_inclusion.specs.Meaning.{Means};
 ghost use Rattle.js_inclusion.specs.Tables.{SearchMeans};
-ghost use Rattle.js_inclusion.specs.View.{answer_view, comparison_view};
+ghost use Rattle.js_inclusion.specs.View.{answer_view};
 
 use crate::tables::joined_tables;
-use crate::unread::first_unread;
 use js_algebra::{Core, Pos};
 use js_decide::decide;
 use js_doc::Memory;
 use js_guard::RankedSchema;
-use js_json::Pointer;
 use js_plain::make_verdict;
 use std::alloc::Global;
 
@@ -31,45 +27,13 @@ pub enum Answer {
     Searched(js_decide::Verdict),
 }
 
-/// How two schemas compare.
-#[derive(Drop)]
-pub enum Comparison {
-    /// This place of the first schema isn't decided on yet.
-    FirstUnread(Pointer),
-
-    /// Nor is this place of the second, while all of the first is.
-    SecondUnread(Pointer),
-
-    /// Whether a document is valid for the first schema and not for the second.
-    Decided(Answer),
-}
-
 /// Compares two schemas. The cost is that of the core tables, and of the trees that `make_verdict` looks at or of the
 /// search that `decide` makes.
-pub fn compare(alloc: Global, a: &RankedSchema, b: &RankedSchema) -> Result<Comparison, Memory>
-    ensures comparison { IfOk result (λ c. comparison_view c ≡ comparison (entries_of a.now) (entries_of b.now)) }
+pub fn compare(alloc: Global, a: &RankedSchema, b: &RankedSchema) -> Result<Answer, Memory>
+    ensures answer { IfOk result (λ x. answer_view x ≡ comparison (entries_of a.now) (entries_of b.now)) }
 
-    // What the comparison means for the values that the schemas are read from.
-    ensures means { IfOk result (λ c. Means (entries_of a.now) (entries_of b.now) (comparison_view c)) }
-{
-    if let Some(place) = first_unread(alloc, &a.table)? {
-        return Ok(Comparison::FirstUnread(place));
-    }
-    if let Some(place) = first_unread(alloc, &b.table)? {
-        return Ok(Comparison::SecondUnread(place));
-    }
-    let answer = answer_schemas(alloc, a, b)?;
-    Ok(Comparison::Decided(answer))
-}
-
-/// What is found of two schemas that are decided on.
-fn answer_schemas(alloc: Global, a: &RankedSchema, b: &RankedSchema) -> Result<Answer, Memory>
-    requires a_read { unread (entries_of a.now) ≡ None }
-    requires b_read { unread (entries_of b.now) ≡ None }
-    ensures answer { IfOk result
-        (λ x. answer_view x
-        ≡ C.answer (both (entries_of a.now) (entries_of b.now)) 0 (second_root (entries_of a.now))) }
-    ensures means { IfOk result (λ x. Means (entries_of a.now) (entries_of b.now) (C.Decided (answer_view x))) }
+    // What the answer means for the values that the schemas are read from.
+    ensures means { IfOk result (λ x. Means (entries_of a.now) (entries_of b.now) (answer_view x)) }
 {
     let (core, at_a, at_b) = joined_tables(alloc, a, b)?;
     answer_positions(alloc, &core, at_a, at_b)
@@ -77,7 +41,6 @@ fn answer_schemas(alloc: Global, a: &RankedSchema, b: &RankedSchema) -> Result<A
 
 /// What is found of two positions of a table.
 fn answer_positions(alloc: Global, core: &Core, a: Pos, b: Pos) -> Result<Answer, Memory>
-    requires objectless { speaks_of_objects core.now.positions ≡ false }
     requires a_in { a.0 < length core.now.positions }
     requires b_in { b.0 < length core.now.positions }
     ensures answer { IfOk result (λ x. answer_view x ≡ C.answer core.now.positions a.0 b.0) }

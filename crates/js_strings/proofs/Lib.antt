@@ -1,6 +1,3 @@
 mod Wishing
-mod NamingLaws
-mod NameSteps
-mod Letters
 mod Finding
 pub mod LeafLaws

@@ -8,7 +8,6 @@
 mod asked;
 mod bounds;
 mod rows;
-mod spelling;
 mod strings;
 #[cfg(test)]
 mod tests;

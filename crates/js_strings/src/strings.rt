@@ -16,13 +16,13 @@ ghost use Rattle.js_expansion.specs.AlternativeView.{alternative_view};
 ghost use Rattle.js_strings.specs.Answers.{FaultSays};
 
 use crate::bounds::{below, is_at_end, lower};
-use crate::rows::{first_row, steps};
-use crate::spelling::{letters_of, spell};
+use crate::rows::first_row;
 use crate::wish::Asked;
 use js_algebra::{BranchId, Core, JsonKind, Signed};
 use js_automaton::{AutoFault, Automaton, build};
 use js_doc::{Memory, Str, StrList};
 use js_expansion::{Alternative, AlternativeList, FillerList, Leaf, PlacedList, Shape};
+use js_row_words::{letters_of, spell, steps};
 use js_tableau::Branch;
 use std::alloc::Global;
 

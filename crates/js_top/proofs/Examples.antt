@@ -89,12 +89,6 @@ everything_in_itself : answer (J.boolean true) (J.boolean true)
 unfolding answer places walk shape_of table_of follow steps digits
 everything_in_itself = refl
 
--- the first place that isn't decided on
-first_is_refused : answer (J.object (J.member (codes "minProperties") (J.number (pos 1)) J.no_members)) (J.boolean true)
-    ≡ record { text = codes "refused first notyet \"/minProperties\"\n"; status = S.Refused }
-unfolding answer json_on_texts places walk shape_of
-first_is_refused = refl
-
 -- a certificate of 24 lines
 
 abbrev string : Json

@@ -9,8 +9,8 @@ use Rattle.js_input.specs.SchemaReading.{Read, IsSchemaReading}
 use Rattle.js_inclusion.specs.Comparison.{Answer}
 use Rattle.js_commands.specs.IncludeOutcome as Compared
 use Rattle.js_commands.specs.IncludeOutcome.{IsComparison}
-use Rattle.js_commands.specs.IncludeMeaning.{IsSecond, AreSchemas, AreDecidedOn, answer_of, ValuesTell, IsDecided, MeansFor}
-use Rattle.js_commands.proofs.IncludeMeaningLaws.{told-values, told-same, decided-values, first-refusal, second-refusal}
+use Rattle.js_commands.specs.IncludeMeaning.{IsSecond, AreSchemas, answer_of, ValuesTell, IsDecided, MeansFor}
+use Rattle.js_commands.proofs.IncludeMeaningLaws.{told-values, told-same, first-refusal, second-refusal}
 use Rattle.js_commands.specs.NormOutcome as N
 use Rattle.js_commands.specs.ValidOutcome as V
 use Rattle.js_commands.specs.ValidOutcome.{Outcome}
@@ -118,7 +118,6 @@ record IsOfSchemas (told : Option Files) (a : List ℕ) (second : Option (List �
   first : Json
   other : Json
   are : AreSchemas told a second first other
-  decided_on : AreDecidedOn first other
   x : Answer
   is : answer_of first other ≡ x
   tells : ValuesTell first other x
@@ -134,7 +133,6 @@ module _ (told : Option Files) (r : Report) (a : List ℕ) (second : Option (Lis
         first = of.a;
         other = of.b;
         are = of.are;
-        decided_on = of.decided_on;
         x = x;
         is = of.is;
         tells = of.tells;
@@ -151,7 +149,6 @@ record Means (told : Option Files) (a : List ℕ) (second : Option (List ℕ)) (
     first : Json
     other : Json
     are : AreSchemas told a second first other
-    decided_on : AreDecidedOn first other
     shows : Shows first other (finding_in (is_none second) status) text
 
 means : (told : Option Files) (words : List (List ℕ)) (text : List ℕ) (status : Status) (a : List ℕ)
@@ -166,7 +163,6 @@ means told words text status a second named is answers =
       first = of.first;
       other = of.other;
       are = of.are;
-      decided_on = of.decided_on;
       shows = status-shows of.first of.other (is_none second) status of.x (ap (λ r. r.status) of.report) of.is of.tells
           text (ap (λ r. r.text) of.report) of.back;
     }
@@ -192,7 +188,7 @@ prepared-report told words before after (Made bytes s) text status says t e n =
     subst (λ x. IsReport told words (record { text = x; status = status })) (sym t)
     (subst (λ x. IsReport told words (record { text = bytes.items; status = x })) e says.2)
 
--- two schemas that the words name, which are decided on, and a fact of them
+-- two schemas that the words name, and a fact of them
 abbrev pub Named : Option Files → List (List ℕ) → (Json → Json → Type 0) → Type 0
 Named told words P = (a : Json) × (b : Json) × AreNamed told words a b × P a b
 
@@ -206,7 +202,7 @@ named_of : (told : Option Files) (words : List (List ℕ)) (a : List ℕ) (secon
 named_of told words a second named status text m = (
   m.first,
   m.other,
-  record { first = a; second = second; named = named; are = m.are; decided_on = m.decided_on },
+  record { first = a; second = second; named = named; are = m.are },
   m.shows,
 )
 
@@ -222,7 +218,6 @@ asked_of told words a named status text m = (
     later = m.are.later;
     are_files = m.are.are_files;
     is_schema = m.are.is_first;
-    decided_on = m.decided_on.first;
   },
   subst (λ y. Shows m.first y (finding_in true status) text) m.are.is_second m.shows,
 )
@@ -346,7 +341,7 @@ told-answer : (files : Files) (words : List (List ℕ)) (r : Report) (a b : Json
     → IsToldAnswer a b s.second r
 told-answer files words r a b s (o, comes, meant, back, e) =
     let same : o ≡ Compared.Decided (answer_of a b) =
-    told-values files s.first s.second o a b comes s.are ∙ decided-values a b s.decided_on in
+    told-values files s.first s.second o a b comes s.are in
     record {
       x = answer_of a b;
       is = refl;

@@ -11,11 +11,10 @@ use Rattle.js_outside.specs.Told.{Files}
 use Rattle.js_keywords.specs.Reading.{rules}
 use Rattle.js_input.specs.FileReading.{IsSchemaFile}
 use Rattle.js_input.specs.ToldTwice.{AreFiles}
-use Rattle.js_inclusion.specs.Unread.{unread}
 use Rattle.js_inclusion.specs.Comparison.{both, are_good}
 use Rattle.js_inclusion.specs.Meaning.{HasManyEnds, StopsSearch}
 use Rattle.js_commands.specs.ReadEntries.{entries_read}
-use Rattle.js_commands.specs.IncludeMeaning.{AreSchemas, AreDecidedOn, IsFirstRefusal, IsSecondRefusal}
+use Rattle.js_commands.specs.IncludeMeaning.{AreSchemas, IsFirstRefusal, IsSecondRefusal}
 use Rattle.js_top.specs.Names.{compared_names, sat_name}
 use Rattle.js_top.specs.Printed.{IsDocumentText}
 use Rattle.js_top.specs.Report.{limit_line}
@@ -63,13 +62,12 @@ pub record IsLimit (a b : Json) (text : List ℕ) : Type 0 where
   pub passed : Passes a b kind goal
   pub written : limit_line kind goal ≡ text
 
--- the words name schemas, with these values, that are decided on; of `sat` the second value is `false`
+-- the words name schemas, with these values; of `sat` the second value is `false`
 pub record AreNamed (told : Option Files) (words : List (List ℕ)) (a b : Json) : Type 0 where
   pub first : List ℕ
   pub second : Option (List ℕ)
   pub named : compared_names words ≡ Some (first, second)
   pub are : AreSchemas told first second a b
-  pub decided_on : AreDecidedOn a b
 
 -- a fact of the schemas that the words name, where the files are told
 abbrev pub WhereTold : Option Files → List (List ℕ) → (Json → Json → Type 0) → Type 0
@@ -86,7 +84,7 @@ Settles a b text = IsLimit a b text ⊎ ((PassLimit a b → ⊥) × (IsCounterex
 
 -- ---- of a schema that `sat` names
 
--- the words name a schema, with this value, that is decided on
+-- the words name a schema, with this value
 pub record IsAsked (told : Option Files) (words : List (List ℕ)) (a : Json) : Type 0 where
   pub name : List ℕ
   pub named : sat_name words ≡ Some name
@@ -94,7 +92,6 @@ pub record IsAsked (told : Option Files) (words : List (List ℕ)) (a : Json) : 
   pub later : Files
   pub are_files : AreFiles told files later
   pub is_schema : IsSchemaFile files name a
-  pub decided_on : unread (entries_read a) ≡ None
 
 -- a document that is valid for the schema, as text
 pub record IsWitness (a : Json) (text : List ℕ) : Type 0 where
@@ -115,9 +112,9 @@ pub record IsRefutation (a : Json) (text : List ℕ) : Type 0 where
 -- ---- refusals
 
 -- a file is refused, with this line
-abbrev pub RefusesFirst : Files → Files → (first : List ℕ) → (second : Option (List ℕ)) → (text : List ℕ) → Type 0
-RefusesFirst files later first second text =
-    (words : List ℕ) × IsFirstRefusal files later first second words × (line (codes "refused first " ++ words) ≡ text)
+abbrev pub RefusesFirst : Files → (first text : List ℕ) → Type 0
+RefusesFirst files first text =
+    (words : List ℕ) × IsFirstRefusal files first words × (line (codes "refused first " ++ words) ≡ text)
 
 abbrev pub RefusesSecond : Files → Files → (first : List ℕ) → (second : Option (List ℕ)) → (text : List ℕ) → Type 0
 RefusesSecond files later first second text =
@@ -131,4 +128,4 @@ pub record IsRefusal (told : Option Files) (words : List (List ℕ)) (text : Lis
   pub files : Files
   pub later : Files
   pub are_files : AreFiles told files later
-  pub refusal : RefusesFirst files later first second text ⊎ RefusesSecond files later first second text
+  pub refusal : RefusesFirst files first text ⊎ RefusesSecond files later first second text

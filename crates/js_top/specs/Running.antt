@@ -23,12 +23,12 @@ abbrev pub WritesReport : Option Files → List (List ℕ) → Option (List ℕ)
 WritesReport told words old new status =
     (text : List ℕ) × Appends old new text × IsReport told words (record { text = text; status = status })
 
--- for every two schemas that the words name and that are decided on, a text that settles their question
+-- for every two schemas that the words name, a text that settles their question
 abbrev pub WritesAnswer : Option Files → List (List ℕ) → Option (List ℕ) → Option (List ℕ) → Type 0
 WritesAnswer told words old new =
     (text : List ℕ) × Appends old new text × WhereTold told words (λ a b. Settles a b text)
 
--- a text of which a fact holds for the two schemas that the words name, which are decided on
+-- a text of which a fact holds for the two schemas that the words name
 abbrev pub WritesMeaning : Option Files → List (List ℕ) → Option (List ℕ) → Option (List ℕ)
     → (Json → Json → List ℕ → Type 0) → Type 0
 WritesMeaning told words old new P =
@@ -39,7 +39,7 @@ abbrev pub WritesAccepted : Option Files → List (List ℕ) → Option (List �
 WritesAccepted told words old new =
     (text : List ℕ) × Appends old new text × ((line (codes "nodocument") ≡ text) ⊎ IsAcceptedFor told words text)
 
--- a text of which a fact holds for the schema that the words of `sat` name, which is decided on
+-- a text of which a fact holds for the schema that the words of `sat` name
 abbrev pub WritesAsked : Option Files → List (List ℕ) → Option (List ℕ) → Option (List ℕ)
     → (Json → List ℕ → Type 0) → Type 0
 WritesAsked told words old new P =

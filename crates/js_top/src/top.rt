@@ -32,7 +32,7 @@ pub fn run<R, H: Shelf, K: Sink>(
     shelf: &mut H,
     sink: &mut K,
 ) -> Status
-    // The headline: where files are told, no fault is counted and memory suffices, two schemas that are decided on get
+    // The headline: where files are told, no fault is counted and memory suffices, two schemas that are read get
     // a limit exactly where one is passed, and else a document that is valid for the first and not for the second, or
     // a certificate or the line `nodocument`, and with it the inclusion. With `sat` the second is the value `false`.
     ensures headline { Stays (H.faults shelf.old) (H.faults shelf.new) → Stays (K.faults sink.old) (K.faults sink.new)
@@ -68,7 +68,7 @@ pub fn run<R, H: Shelf, K: Sink>(
     ensures refusal { result ≡ Status.Refused → IsCompared words.now
         → WritesRefusal (H.told shelf.old) words.now (K.written sink.old) (K.written sink.new) }
 
-    // And for two schemas that are decided on this means:
+    // And for two schemas that are read this means:
     ensures document { result ≡ Status.Other → IsInclude words.now
         → WritesMeaning (H.told shelf.old) words.now (K.written sink.old) (K.written sink.new) IsCounterexample }
     ensures inclusion { result ≡ Status.Done → IsInclude words.now
@@ -78,7 +78,7 @@ pub fn run<R, H: Shelf, K: Sink>(
     ensures limit { result ≡ Status.Limit
         → WritesMeaning (H.told shelf.old) words.now (K.written sink.old) (K.written sink.new) IsLimit }
 
-    // For the schema of `sat` that is decided on it means: a document that is valid for it, or that no document with
+    // For the schema of `sat` it means: a document that is valid for it, or that no document with
     // whole numbers is.
     ensures satisfied { result ≡ Status.Done → IsSat words.now
         → WritesAsked (H.told shelf.old) words.now (K.written sink.old) (K.written sink.new) IsWitness }

@@ -116,30 +116,10 @@ fn a_file_that_is_no_schema_is_refused(rt: HostRuntime) -> Result<(), Memory> {
     )
 }
 
-/// A file that is no schema is told before a place that isn't decided on.
+/// The first file is told before the second one.
 #[test]
-fn a_place_that_is_not_decided_on_is_refused(rt: HostRuntime) -> Result<(), Memory> {
+fn one_file_that_is_no_schema_is_refused(rt: HostRuntime) -> Result<(), Memory> {
     for (a, b, report) in [
-        (
-            "{\"minProperties\":1}",
-            "true",
-            "refused first notyet \"/minProperties\"\n",
-        ),
-        (
-            "{\"required\":[],\"enum\":[[{}]],\"type\":\"null\"}",
-            "{\"minProperties\":1}",
-            "refused first notyet \"/enum\"\n",
-        ),
-        (
-            "{\"allOf\":[{\"const\":{}}]}",
-            "true",
-            "refused first notyet \"/allOf/0/const\"\n",
-        ),
-        (
-            "true",
-            "{\"not\":{\"properties\":{}}}",
-            "refused second notyet \"/not/properties\"\n",
-        ),
         ("", "{\"minProperties\":1}", "refused first notjson\n"),
         ("{\"minProperties\":1}", "", "refused second notjson\n"),
     ] {

@@ -14,6 +14,8 @@ mod judging;
 #[cfg(test)]
 mod listing;
 #[cfg(test)]
+mod objects;
+#[cfg(test)]
 mod satisfying;
 #[cfg(test)]
 mod setting;

@@ -1,4 +1,4 @@
-//! What `sat` and `include` answer for schemas that ask for more of a document than its kind.
+//! What `sat` and `include` answer for schemas that ask for more of a document than its kind, but for objects.
 
 use crate::setting::{STRING, expect};
 use js_doc::Memory;
@@ -155,7 +155,6 @@ fn sat_refuses_a_file(rt: HostRuntime) -> Result<(), Memory> {
             r#"{"type":"string","pattern":"a{3,2}"}"#,
             "refused first pattern quantifierorder 1 \"/pattern\"\n",
         ),
-        (r#"{"const":[{}]}"#, "refused first notyet \"/const\"\n"),
     ] {
         let files = (a.as_bytes(), b"".as_slice());
         expect(&rt, rt.alloc(), "sat a", files, (3, report))?;

@@ -1,5 +1,4 @@
-use Rattle.std.proofs.Common.{◌≡◌, ◌<◌, ℕ, List, [], ◌∷◌, length, Bool, true, false, not, ◌&&◌, Option, Some, None, Ok, IfSome, ap, ap₂, sym, subst, ◌∙◌, arith}
-use Rattle.std.proofs.lemmas.Bool.{and_from}
+use Rattle.std.proofs.Common.{◌≡◌, ◌<◌, ℕ, List, [], ◌∷◌, length, true, Ok, IfSome, ap, ap₂, sym, subst, ◌∙◌, arith}
 use Rattle.std.proofs.lemmas.Result.{IfOk-weaker}
 use Rattle.documents.specs.Kind as K
 use Rattle.positions.specs.Position.{Position, is_table}
@@ -13,23 +12,15 @@ use Rattle.alternatives.specs.Limit.{most_goals, most_total}
 use Rattle.expansions.specs.Leaves.{words_of}
 use Rattle.expansion_laws.proofs.Containers.{IsCells}
 use Rattle.decisions.specs.Decision.{of_root}
-use Rattle.finder_laws.specs.Objects.{speaks_of_objects}
 use Rattle.finder_laws.proofs.Names.{cells_found}
 use Rattle.finder_laws.proofs.Strings.{string_finder}
 use Rattle.js_scalars.proofs.Found.{found_numbers}
-use Rattle.expander_laws.specs.Expander as X
+use Rattle.expander_laws.specs.Expander.{takes}
 use Rattle.js_expander.specs.Found.{finders, goal_expansion, cells_at}
-use Rattle.js_expander.specs.Taken.{takes}
 use Rattle.js_rounds.specs.Slots.{words_by}
 use Rattle.js_decide.specs.View.{decided_view}
 use Rattle.js_decide.proofs.Deciding.{root_taken, decided_is, decided_means}
 use Rattle.js_decide.proofs.pair.decide.Goals as goal
-
--- a goal is taken, of a table that doesn't speak of objects
-taken_too : (T : List Position) (ranks : List ℕ) → speaks_of_objects T ≡ false → (o : Option (List Signed))
-    → IfSome o (λ g. X.takes T ranks g ≡ true) → IfSome o (λ g. takes T ranks g ≡ true)
-taken_too T ranks none None h = tt
-taken_too T ranks none (Some g) h = and_from (not (speaks_of_objects T)) (X.takes T ranks g) (ap not none) h
 
 module _ (T : List Position) (ranks : List ℕ) (table : is_table T ranks ≡ true) (a b : ℕ) (a_in : a < length T) where
   is_ok : IsTable T
@@ -44,9 +35,8 @@ decide_root-requires c =
     let ranks = c.args.core.now.ranks in
     let root = c.in_ok-root.ensures.goal ∙ ap₂ (λ x y. form T (x ∷ y ∷ [])) c.plus.ensures c.minus.ensures in
     subst (λ x. IfSome c.in_ok-root.root (λ g. takes x.positions x.ranks g ≡ true)) (sym c.new.ensures)
-    (taken_too T ranks c.requires.objectless c.in_ok-root.root
     (root_taken T ranks c.args.a.0 c.args.b.0 c.len-length.ensures.table c.requires.a_in c.requires.b_in
-    c.in_ok-root.root root))
+    c.in_ok-root.root root)
 
 pub returns-clause-decided : goal.returns-clause-decided
 returns-clause-decided c =

@@ -41,9 +41,9 @@ returns-in-Array c =
     ≡ leaf_of c.args.core.now.positions (kind_view k) b.id.number b.set))
     (sym c.in-Array.is) c.array_answer.ensures
 
-pub returns-in_ok-object_alternatives-in-Object : goal.returns-in_ok-object_alternatives-in-Object
-returns-in_ok-object_alternatives-in-Object c =
+pub returns-in-Object : goal.returns-in-Object
+returns-in-Object c =
     let b = c.args.branch.now in
-    subst (λ k. answer_view (Ok c.in_ok-object_alternatives-in-Object.field-0)
-    ≡ leaf_of c.args.core.now.positions (kind_view k) b.id.number b.set)
-    (sym c.in-Object.is) c.in_ok-object_alternatives-in-Object.ensures
+    subst (λ k. IfOk c.object_answer.result (λ a. answer_view a
+    ≡ leaf_of c.args.core.now.positions (kind_view k) b.id.number b.set))
+    (sym c.in-Object.is) c.object_answer.ensures

@@ -1,0 +1,9 @@
+mod MentionLemmas
+mod TargetLemmas
+mod ClassLemmas
+mod LineLemmas
+mod WidthLemmas
+mod CutLemmas
+mod RowLemmas
+mod LabelLemmas
+mod WholeLemmas

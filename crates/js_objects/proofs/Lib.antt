@@ -1,0 +1,10 @@
+mod Ranges
+mod Said
+mod Telling
+mod Framing
+mod Finding
+mod SameAtoms
+mod Past
+mod LeafLaws
+mod Meaning
+mod TestNames

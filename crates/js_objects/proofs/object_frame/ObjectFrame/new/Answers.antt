@@ -1,0 +1,55 @@
+-- What is kept of the set is what its frame asks.
+use Rattle.std.proofs.Common.{◌≡◌, map, min, length, true, ap, ◌∙◌, subst}
+use Rattle.js_algebra.specs.View.{signed_view, are_in_table}
+use Rattle.js_cells.specs.View.{cells_view}
+use Rattle.js_objects.proofs.Framing.{names-in-table, demands-are, bars-within, servers-within, servers-are, values-are-within, values-are, allowed-are, counts-all}
+use Rattle.js_objects.proofs.object_frame.ObjectFrame.new.Goals as goal
+
+pub bars_of-requires : goal.bars_of-requires
+bars_of-requires c =
+    names-in-table c.args.core.now.positions (cells_view c.args.cells) (map signed_view c.args.set.now) c.requires.names
+    (map signed_view c.names-names.result.now) c.names-names.ensures c.requires.in_table
+
+pub demands_of-requires : goal.demands_of-requires
+demands_of-requires c =
+    names-in-table c.args.core.now.positions (cells_view c.args.cells) (map signed_view c.args.set.now) c.requires.names
+    (map signed_view c.names-names.result.now) c.names-names.ensures c.requires.in_table
+
+pub values_of-requires : goal.values_of-requires
+values_of-requires c =
+    names-in-table c.args.core.now.positions (cells_view c.args.cells) (map signed_view c.args.set.now) c.requires.names
+    (map signed_view c.names-names.result.now) c.names-names.ensures c.requires.in_table
+
+pub allowed-requires : goal.allowed-requires
+allowed-requires c =
+    bars-within c.args.core.now.positions (cells_view c.args.cells) (map signed_view c.args.set.now) c.requires.names
+    (map signed_view c.names-names.result.now) c.names-names.ensures c.deref.result.now
+    (c.deref.ensures.value ∙ c.in_ok-bars.ensures)
+
+pub invariant_of-result : goal.invariant_of-result
+invariant_of-result c =
+    let T = c.args.core.now.positions in
+    let C = cells_view c.args.cells in
+    let S = map signed_view c.args.set.now in
+    let X = map signed_view c.names-names.result.now in
+    let named = c.requires.names in
+    let listed = c.names-names.ensures in
+    let demands = demands-are T C S named X listed (map signed_view c.in_ok-demands.demands.literals.items)
+    c.in_ok-demands.ensures.literals in
+    record {
+      lower_is = c.requires.lower;
+      below_is = c.requires.below;
+      demands_are = demands;
+      demands_in_table = subst (λ z. are_in_table T z ≡ true) demands c.in_ok-demands.ensures.in_table;
+      servers_are = servers-are T C S named X listed c.in_ok-demands.demands.tests.items c.in_ok-demands.ensures.tests;
+      servers_within = servers-within T C S named X listed c.in_ok-demands.demands.tests.items
+          c.in_ok-demands.ensures.tests;
+      values_are = values-are T C S named X listed c.in_ok-values.values.items c.in_ok-values.ensures.value;
+      values_within = values-are-within T C S named X listed c.in_ok-values.values.items c.in_ok-values.ensures.value;
+      values_in_table = c.in_ok-values.ensures.in_table;
+      allowed_are = allowed-are T C S named X listed c.deref.result.now
+          (c.deref.ensures.value ∙ c.in_ok-bars.ensures) c.in_ok-allowed.allowed.items c.in_ok-allowed.ensures;
+      counts_are = counts-all (λ k. min 65537 (length (C.words k))) c.in_ok-counts.counts.items (length C.vectors)
+          c.in_ok-counts.ensures.length c.in_ok-counts.ensures.counts
+          (λ k l. ap (λ w. min 65537 (length w)) (c.requires.none_past k l));
+    }

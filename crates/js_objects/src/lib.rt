@@ -1,0 +1,24 @@
+//! The alternatives of branches at objects: their bounds, their frames over the cells of names, and the limits; and the
+//! first names of a cell.
+//!
+//! `object_alternatives` answers the leaf of the definition, and its contract says what the alternatives mean. It costs
+//! the automaton of the names with its cells, the counts of these, and the walk through the plans. `object_words` costs
+//! the automaton with its cells again, and the names.
+#![tactic(auto)]
+
+mod bounds;
+mod cell_tests;
+mod fault;
+mod leaf;
+mod literals;
+mod names;
+mod object_frame;
+mod words;
+
+pub use fault::ObjectFault;
+pub use leaf::{MOST_COUNTS, object_alternatives};
+pub use names::KeptNames;
+pub use words::object_words;
+
+#[cfg(test)]
+mod tests;

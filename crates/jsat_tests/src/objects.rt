@@ -1,0 +1,98 @@
+//! What `sat` and `include` answer for schemas that ask for something of objects.
+
+use crate::setting::expect;
+use js_doc::Memory;
+
+#[test]
+fn an_object_satisfies_a_schema(rt: HostRuntime) -> Result<(), Memory> {
+    for (a, status, report) in [
+        (r#"{"minProperties":1}"#, 0, "document\nnull\n"),
+        (r#"{"const":[{}]}"#, 0, "document\n[{}]\n"),
+        // A name can't be told to be there and to have no value.
+        (
+            r#"{"type":"object","required":["a"],"properties":{"a":false}}"#,
+            1,
+            "nodocument\n",
+        ),
+        (
+            r##"{"type":"object","properties":{"next":{"$ref":"#"}}}"##,
+            0,
+            "document\n{}\n",
+        ),
+        // No document is deep enough.
+        (
+            r##"{"type":"object","required":["next"],"properties":{"next":{"$ref":"#"}}}"##,
+            1,
+            "nodocument\n",
+        ),
+        // Two names are as many as there are.
+        (
+            r#"{"type":"object","propertyNames":{"enum":["a","b"]},"minProperties":2}"#,
+            0,
+            "document\n{\"a\":null,\"b\":null}\n",
+        ),
+        (
+            r#"{"type":"object","propertyNames":{"enum":["a","b"]},"minProperties":3}"#,
+            1,
+            "nodocument\n",
+        ),
+        // One member serves two demands.
+        (
+            r#"{"type":"object","maxProperties":1,"allOf":[{"not":{"patternProperties":{"^a":{"type":"null"}}}},{"not":{"patternProperties":{"b$":{"type":"null"}}}}]}"#,
+            0,
+            "document\n{\"ab\":false}\n",
+        ),
+        (
+            r#"{"dependencies":{"a":["b"]},"required":["a"],"type":"object"}"#,
+            0,
+            "document\n{\"a\":null,\"b\":null}\n",
+        ),
+    ] {
+        let files = (a.as_bytes(), b"false".as_slice());
+        expect(&rt, rt.alloc(), "sat a", files, (status, report))?;
+        expect(&rt, rt.alloc(), "include a b", files, (1 - status, report))?;
+    }
+    Ok(())
+}
+
+const CLOSED: &str =
+    r#"{"type":"object","required":["name"],"properties":{"name":{"type":"string","minLength":1}},"additionalProperties":false}"#;
+
+const WITH_TAGS: &str =
+    r#"{"type":"object","required":["name"],"properties":{"name":{"type":"string","minLength":1},"tags":{"type":"array","items":{"type":"string"}}},"additionalProperties":false}"#;
+
+#[test]
+fn objects_of_one_schema_are_of_another(rt: HostRuntime) -> Result<(), Memory> {
+    for (a, b, status, report) in [
+        (CLOSED, WITH_TAGS, 0, "nodocument\n"),
+        (
+            WITH_TAGS,
+            CLOSED,
+            1,
+            "document\n{\"name\":\"a\",\"tags\":[]}\n",
+        ),
+        (
+            r#"{"properties":{"a":{"type":"string"}}}"#,
+            r#"{"properties":{"a":{"type":["string","null"]}}}"#,
+            0,
+            "nodocument\n",
+        ),
+        (
+            r#"{"properties":{"a":{"type":["string","null"]}}}"#,
+            r#"{"properties":{"a":{"type":"string"}}}"#,
+            1,
+            "document\n{\"a\":null}\n",
+        ),
+    ] {
+        let files = (a.as_bytes(), b.as_bytes());
+        expect(&rt, rt.alloc(), "include a b", files, (status, report))?;
+    }
+    Ok(())
+}
+
+#[test]
+fn more_members_than_are_counted(rt: HostRuntime) -> Result<(), Memory> {
+    let a = br#"{"type":"object","minProperties":65537}"#.as_slice();
+    let files = (a, b"false".as_slice());
+    expect(&rt, rt.alloc(), "sat a", files, (4, "limit counts +0\n"))
+}
