@@ -2,7 +2,7 @@ pub mod Limits
 pub mod Groups
 pub mod Numbers
 pub mod RowsTaken
-mod SameNames
+pub mod SameNames
 pub mod Cells
 pub mod Lengths
 pub mod Containers

@@ -1,0 +1,2 @@
+-- Internal: what one literal says of the number of elements.
+pub mod Elements

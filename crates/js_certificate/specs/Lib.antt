@@ -1,0 +1,8 @@
+-- What a reader must believe stands in `verdicts`. Here is for which bytes a judge stands, by `JudgeView`, and what is
+-- judged of a file, by `FileVerdicts`.
+pub mod Broken
+pub mod LinesView
+pub mod Props
+pub mod JudgeView
+pub mod FileVerdicts
+pub mod FileRead

@@ -1,0 +1,47 @@
+-- Bounds by the numbers of their cells.
+use Rattle.std.proofs.Common.{◌≡◌, ℕ, zero, suc, ◌+◌, inl, inr, cond, nat_eq, nat_le, nat_lt, List, [], ◌∷◌, ◌++◌, length, get_or, Option, Some, None, refl, ap, ap₂, sym, ◌∙◌, arith}
+use Rattle.std.proofs.lemmas.Bool.{cases_eq, cases_lt, eq-eqb, ne_eqb, le-leb, lt-leb, lt-ltb, le-ltb}
+use Rattle.verdicts.specs.Bounds.{Bound, bounds_of}
+use Rattle.verdicts.specs.Leaves.{comes_after}
+use Rattle.js_check_objects.specs.Bounds.{cap_at, past, with_cap}
+
+pub cap_none : (os : List (Option ℕ)) (c : ℕ) → cap_at (os ++ None ∷ []) c ≡ cap_at os c
+cap_none [] zero = refl
+cap_none [] (suc c) = refl
+cap_none (o ∷ os) zero = refl
+cap_none (o ∷ os) (suc c) = cap_none os c
+
+eq_suc : (m n : ℕ) → nat_eq m n ≡ nat_eq (suc m) (suc n)
+eq_suc m n = elim (cases_eq m n) [
+  | inl e ↦ eq-eqb m n e ∙ sym (eq-eqb (suc m) (suc n) (ap suc e))
+  | inr h ↦ ne_eqb m n h ∙ sym (ne_eqb (suc m) (suc n) (λ e. h (omega (arith, e))))
+]
+
+cap_some : (os : List (Option ℕ)) (n c : ℕ) → cap_at (os ++ Some n ∷ []) c ≡ with_cap (length os) n (cap_at os) c
+cap_some [] n zero = refl
+cap_some [] n (suc c) = ap (λ b. cond b (Some n) None) (sym (ne_eqb 0 (suc c) (λ e. omega (arith, e))))
+cap_some (o ∷ os) n zero = ap (λ b. cond b (Some n) o) (sym (ne_eqb (suc (length os)) 0 (λ e. omega (arith, e))))
+cap_some (o ∷ os) n (suc c) =
+    cap_some os n c ∙ ap (λ b. cond b (Some n) (cap_at os c)) (eq_suc (length os) c)
+
+pub cap_end : (os : List (Option ℕ)) (cell cap : ℕ) → length os ≡ cell → (c : ℕ)
+    → cap_at (os ++ Some cap ∷ []) c ≡ with_cap cell cap (cap_at os) c
+cap_end os cell cap e c = cap_some os cap c ∙ ap (λ n. with_cap n cap (cap_at os) c) e
+
+pub cap_next : (caps more : List (Option ℕ)) (bs : List Bound) (cell cap : ℕ) (labels : List ℕ)
+    → ((c : ℕ) → cap_at caps c ≡ bounds_of bs c) → cap ≡ get_or labels 0 0
+    → ((c : ℕ) → cap_at more c ≡ with_cap cell cap (cap_at caps) c) → (c : ℕ)
+    → cap_at more c ≡ bounds_of ((cell, labels) ∷ bs) c
+cap_next caps more bs cell cap labels capped e h c =
+    h c ∙ ap₂ (λ n o. cond (nat_eq cell c) (Some n) o) e (capped c)
+
+lt-le : (a c : ℕ) → nat_lt a c ≡ nat_le (a + 1) c
+lt-le a c = elim (cases_lt a c) [
+  | inl l ↦ lt-ltb a c l ∙ sym (le-leb (a + 1) c (omega (arith, l)))
+  | inr l ↦ le-ltb a c l ∙ sym (lt-leb (a + 1) c (omega (arith, l)))
+]
+
+-- a cell comes after those before where it is past them
+pub after_past : (bs : List Bound) (c : ℕ) → comes_after bs c ≡ nat_le (past bs) c
+after_past [] c = sym (le-leb 0 c (omega arith))
+after_past (b ∷ bs) c = lt-le b.0 c

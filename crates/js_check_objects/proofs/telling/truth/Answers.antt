@@ -1,0 +1,12 @@
+use Rattle.std.proofs.Common.{[], get_or}
+use Rattle.js_check_rows.specs.RowsView.{atoms_of}
+use Rattle.js_check_objects.specs.Cells.{rows_of}
+use Rattle.js_said.proofs.Formulas.{told_planned}
+use Rattle.js_check_objects.proofs.telling.truth.Goals as goal
+
+pub returns-in_ok-tell-in-Planned : goal.returns-in_ok-tell-in-Planned
+returns-in_ok-tell-in-Planned c = told_planned c.args.core.now.positions (atoms_of c.args.rows.now)
+    (get_or (rows_of c.args.rows.now) c.args.row []) c.args.said.now c.in-Planned.plan c.in-Planned.numbers
+    c.in-Planned.is c.requires.said c.truth.result c.deref-in-Planned-2.result.now c.tell.new.truths.items
+    c.deref-in-Planned.result.now c.deref-in-Planned-2.ensures.value c.in_ok-tell-in-Planned.ensures
+    c.deref-in-Planned.ensures.value (c.truth.ensures.holds (get_or (rows_of c.args.rows.now) c.args.row []))

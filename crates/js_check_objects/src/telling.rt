@@ -1,0 +1,102 @@
+//! What is said of the words of a row, by the truths of atoms there.
+
+ghost use Rattle.std.specs.Prelude.{◌≡◌, ◌<◌, ◌≤◌, [], map, length, get_or, true, IfOk, OnOk};
+ghost use Rattle.documents.specs.Tests.{some};
+ghost use Rattle.list_laws.specs.In.{IsIn};
+ghost use Rattle.js_said.specs.AtomNumbers.{is_true_at, are_below};
+ghost use Rattle.js_said.specs.Saying.{IsSaid, tells, told_of};
+ghost use Rattle.js_check_rows.specs.RowsView.{atoms_of};
+ghost use Rattle.js_check_objects.specs.Cells.{rows_of};
+
+use js_algebra::Core;
+use js_check_rows::Rows;
+use js_doc::Memory;
+use js_said::Said;
+use std::alloc::Global;
+
+/// What each of the literals says of the words of a row. `truths` is room that is kept from row to row, and so is
+/// `held`, which has a place for each position.
+pub(crate) fn vector(
+    alloc: Global,
+    core: &Core,
+    rows: &Rows,
+    said: &[Said],
+    row: u32,
+    truths: &mut Vec<bool>,
+    held: &mut [bool],
+) -> Result<Vec<bool>, Memory>
+    requires said { (s : Said) → IsIn s said.now → IsSaid core.now.positions (atoms_of rows.now) s }
+    requires row { row < length (rows_of rows.now) }
+    requires held { length core.now.positions ≤ length held.old }
+    ensures { IfOk result (λ v. v.items
+        ≡ told_of core.now.positions (atoms_of rows.now) said.now (get_or (rows_of rows.now) row [])) }
+{
+    let mut vector = Vec::with_capacity(alloc, said.len())?;
+    for s in said {
+        vector.push(truth(core, rows, s, row, truths, held)?)?;
+    }
+    Ok(vector)
+}
+
+/// Whether what is said is true of the words of a row.
+fn truth(
+    core: &Core,
+    rows: &Rows,
+    said: &Said,
+    row: u32,
+    truths: &mut Vec<bool>,
+    held: &mut [bool],
+) -> Result<bool, Memory>
+    requires said { IsSaid core.now.positions (atoms_of rows.now) said.now }
+    requires row { row < length (rows_of rows.now) }
+    requires held { length core.now.positions ≤ length held.old }
+    ensures { IfOk result (λ b. b ≡ tells core.now.positions (atoms_of rows.now)
+        (get_or (rows_of rows.now) row []) said.now) }
+{
+    match said {
+        Said::AnyOf(numbers) => Ok(is_any_true(rows, numbers, row)),
+        Said::NoneOf(numbers) => Ok(!is_any_true(rows, numbers, row)),
+        Said::Planned(plan, numbers) => {
+            tell(rows, numbers, row, truths)?;
+            Ok(plan.truth(core, truths, held))
+        }
+    }
+}
+
+/// Whether one of the atoms is true of the words of a row.
+fn is_any_true(rows: &Rows, numbers: &[usize], row: u32) -> bool
+    requires numbers { are_below (atoms_of rows.now) numbers.now ≡ true }
+    requires row { row < length (rows_of rows.now) }
+    ensures { result ≡ some (is_true_at (atoms_of rows.now) (get_or (rows_of rows.now) row []))
+        numbers.now }
+{
+    for number in numbers {
+        if is_true(rows, *number, row) {
+            return true;
+        }
+    }
+    false
+}
+
+/// Writes the truths of the atoms at a row, in order.
+fn tell(rows: &Rows, numbers: &[usize], row: u32, truths: &mut Vec<bool>) -> Result<(), Memory>
+    requires numbers { are_below (atoms_of rows.now) numbers.now ≡ true }
+    requires row { row < length (rows_of rows.now) }
+    ensures { OnOk result (truths.new.items
+        ≡ map (is_true_at (atoms_of rows.now) (get_or (rows_of rows.now) row [])) numbers.now) }
+{
+    truths.clear();
+    for number in numbers {
+        truths.push(is_true(rows, *number, row))?;
+    }
+    Ok(())
+}
+
+/// Whether the atom of that number is true of the words of a row.
+fn is_true(rows: &Rows, number: usize, row: u32) -> bool
+    requires number { number < length (atoms_of rows.now) }
+    requires row { row < length (rows_of rows.now) }
+    ensures { result ≡ is_true_at (atoms_of rows.now) (get_or (rows_of rows.now) row []) number }
+{
+    rows.truth(row, number)
+}

@@ -1,0 +1,9 @@
+mod Grown
+mod Served
+mod Seen
+mod Plans
+mod Options
+mod Placing
+mod RoomLemmas
+mod DutyLemmas
+mod LineLemmas

@@ -1,0 +1,29 @@
+-- How far the plan of some servers reaches, and what it places by number, read off them.
+use Rattle.std.specs.Prelude.{◌≡◌, ℕ, ◌-◌, ◌≤◌, min, List, reverse, length, true, cond, nat_lt, Option, Some, None}
+use Rattle.goals.specs.Signed.{Signed}
+use Rattle.frames.specs.Frame.{Frame}
+use Rattle.js_plans.specs.declared.server.Server.{Server}
+use Rattle.js_plans.specs.declared.server.Server.TheVariants as V
+use Rattle.js_plans.specs.Servers.{cells_of, most_used, earlier, are_valid}
+use Rattle.js_plans.specs.Walks.{size_of}
+
+-- each server is there, and serves a demand
+pub record IsPath (frame : Frame) (ws : List Server) : Type 0 where
+  pub few : length ws ≤ length frame.demands
+  pub valid : are_valid frame.heads 0 ws ≡ true
+
+-- how many first places are placed, where so many are used and there are so many members
+abbrev pub heads_of : Frame → ℕ → ℕ → ℕ
+heads_of frame u m = min (size_of frame u m) frame.heads
+
+-- of h first places and m members behind them
+abbrev pub by_number : ℕ → ℕ → ℕ → Option Server
+by_number h m k = cond (nat_lt k h) (Some (V.Head k)) (cond (nat_lt (k - h) m) (Some (V.Member (k - h))) None)
+
+-- what is placed by a number, as a server
+abbrev pub server_at : Frame → List Server → ℕ → Option Server
+server_at frame ws k = by_number (heads_of frame (most_used 0 ws) (length (cells_of ws))) (length (cells_of ws)) k
+
+-- the demands that it serves, the latest first
+abbrev pub served_at : Frame → List Server → Server → List Signed
+served_at frame ws s = reverse (earlier s frame.demands 0 ws)

@@ -1,0 +1,101 @@
+//! What may serve the next demand after a path.
+
+ghost use Rattle.std.specs.Prelude.{◌≡◌, ◌<◌, ◌≤◌, ◌++◌, map, length, get_or, not, IfOk, OnOk};
+ghost use Rattle.std.specs.List.{range_with_len};
+ghost use Rattle.goals.specs.Signed as G;
+ghost use Rattle.frames.specs.Fillers.{times};
+ghost use Rattle.frames.specs.Frame.{is_at_end};
+ghost use Rattle.js_plans.specs.declared.server.Server.TheVariants as V;
+ghost use Rattle.js_plans.specs.Choosing.{serving_cells, open_cells, choices_after};
+
+use crate::check_frame::CheckFrame;
+use crate::path;
+use js_doc::Memory;
+use js_plans::Server;
+use std::alloc::Global;
+
+/// What stands at each first place, each member inside, and a new member in each cell inside that has room.
+pub(crate) fn choices<F: CheckFrame>(
+    alloc: Global,
+    frame: &F,
+    path: &[Server],
+) -> Result<Vec<Server>, Memory>
+    requires { length path.now < length (F.frame frame.now).demands }
+    ensures { IfOk result (λ v. v.items ≡ choices_after (F.frame frame.now) path.now) }
+{
+    let members = path::cells(alloc, path)?;
+    let mut choices = Vec::new(alloc);
+    add_heads(frame.heads(), &mut choices)?;
+    add_members(frame, path.len(), members.as_slice(), &mut choices)?;
+    add_new(frame, path.len(), members.as_slice(), &mut choices)?;
+    Ok(choices)
+}
+
+fn add_heads(heads: u32, choices: &mut Vec<Server>) -> Result<(), Memory>
+    ensures { OnOk result (choices.new.items ≡ choices.old.items ++ map V.Head (range_with_len 0 heads)) }
+{
+    for k in 0..heads {
+        choices.push(Server::Head(k))?;
+    }
+    Ok(())
+}
+
+fn add_members<F: CheckFrame>(
+    frame: &F,
+    demand: usize,
+    members: &[u32],
+    choices: &mut Vec<Server>,
+) -> Result<(), Memory>
+    requires { demand < length (F.frame frame.now).demands }
+    ensures { OnOk result (choices.new.items ≡ choices.old.items
+        ++ serving_cells (F.frame frame.now) (get_or (F.frame frame.now).demands demand (G.Plus 0)) 0 members.now) }
+{
+    for (k, cell) in members.iter().enumerate() {
+        if frame.is_inside(demand, *cell) {
+            choices.push(Server::Member(k))?;
+        }
+    }
+    Ok(())
+}
+
+fn add_new<F: CheckFrame>(
+    frame: &F,
+    demand: usize,
+    members: &[u32],
+    choices: &mut Vec<Server>,
+) -> Result<(), Memory>
+    requires { demand < length (F.frame frame.now).demands }
+    ensures { OnOk result (choices.new.items ≡ choices.old.items
+        ++ open_cells (F.frame frame.now) (get_or (F.frame frame.now).demands demand (G.Plus 0)) members.now
+        (F.frame frame.now).cells) }
+{
+    for cell in frame.cells() {
+        if frame.is_inside(demand, *cell) && has_room(frame.cap(*cell), members, *cell) {
+            choices.push(Server::New(*cell))?;
+        }
+    }
+    Ok(())
+}
+
+fn has_room(cap: Option<u32>, members: &[u32], cell: u32) -> bool
+    ensures { result ≡ not (is_at_end (times cell members.now) cap) }
+{
+    match cap {
+        Some(cap) => count(members, cell) < cap as usize,
+        None => true,
+    }
+}
+
+/// How many of the cells are that one.
+pub(crate) fn count(cells: &[u32], cell: u32) -> usize
+    ensures value { result ≡ times cell cells.now }
+    ensures bound { result ≤ length cells.now }
+{
+    let mut count = 0;
+    for other in cells {
+        if *other == cell {
+            count += 1;
+        }
+    }
+    count
+}

@@ -1,0 +1,2 @@
+mod Wishing
+mod LeastLaws

@@ -1,0 +1,4 @@
+pub mod ChoiceLaws
+pub mod GrowthLaws
+pub mod StepLaws
+pub mod ScalarLaws

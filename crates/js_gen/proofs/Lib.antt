@@ -1,0 +1,5 @@
+pub mod AsciiTexts
+pub mod Listed
+pub mod Ordered
+pub mod Places
+pub mod Views

@@ -1,0 +1,9 @@
+mod Grown
+mod Served
+mod Seen
+mod Plans
+mod Options
+mod Placing
+mod Firsts
+mod Walking
+mod Adding

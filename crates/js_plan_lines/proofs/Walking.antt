@@ -1,0 +1,238 @@
+-- The lines that are left after each plan that is visited.
+use Rattle.std.proofs.Common.{◌≡◌, ℕ, zero, suc, ◌<◌, ◌≤◌, List, [], ◌∷◌, ◌++◌, map, flat_map, take, drop, length, reverse, get_or, true, false, cond, Option, Some, None, refl, arith, ap, ap₂, sym, ◌∙◌, subst, append-nil, append_assoc}
+use Rattle.std.proofs.lemmas.Bool.{and_parts}
+use Rattle.std.proofs.lemmas.List.{length-append, take-append-le, reverse-append}
+use Rattle.std.proofs.Math.Seq.{take-length}
+use Rattle.documents.specs.Tests.{every}
+use Rattle.positions.specs.Position.{Position}
+use Rattle.goals.specs.Signed.{Signed, Plus}
+use Rattle.frames.specs.Frame.{Frame, is_at_end}
+use Rattle.frames.specs.Plan.{Plan, options, size, first_clash}
+use Rattle.certificate_lines.specs.Line as L
+use Rattle.certificate_lines.specs.Line.{Line}
+use Rattle.verdicts.specs.Duties.{Form}
+use Rattle.refutations.specs.PlanTreeLines.{at_line, complete_line, unless_clash, lines_from, plan_lines}
+use Rattle.js_plans.specs.declared.server.Server.{Server}
+use Rattle.js_plans.specs.Serving.{serve, plan_after}
+use Rattle.js_plans.specs.Servers.{cells_of, is_valid}
+use Rattle.js_plans.specs.Choosing.{next_demand, choices_after}
+use Rattle.js_plan_lines.specs.declared.tree.Pending.{Pending}
+use Rattle.js_plan_lines.specs.Reach.{IsPath}
+use Rattle.js_plan_lines.specs.Left.{entry, Fits, AreFine, lines_after, lines_left, Visits}
+use Rattle.js_plan_lines.proofs.Firsts.{drop-past}
+use Rattle.js_plan_lines.proofs.Options.{options-choices, choices-valid}
+use Rattle.js_plan_lines.proofs.Plans.{next-plan, path-take, path-push}
+
+-- a demand is left
+left-on : (n : ℕ) (ds : List Signed) → n < length ds → drop n ds ≡ get_or ds n (Plus 0) ∷ drop (suc n) ds
+left-on n [] l = absurd (omega (arith, l))
+left-on zero (d ∷ ds) l = refl
+left-on (suc n) (d ∷ ds) l = left-on n ds (omega (arith, l))
+
+-- the plan that comes next
+popped : (es old : List Pending) (e : Pending) → old ≡ es ++ e ∷ [] → reverse old ≡ e ∷ reverse es
+popped es old e q = ap reverse q ∙ reverse-append es (e ∷ [])
+
+module _ (frame : Frame) where
+  fine-more : (ws zs : List Server) (es : List Pending) → AreFine frame ws es → AreFine frame (ws ++ zs) es
+  fine-more ws zs [] f = tt
+  fine-more ws zs (e ∷ es) f = (
+    omega (arith, f.0, length-append ws zs),
+    subst (λ us. Fits frame us e.server) (sym (take-append-le e.level ws zs f.0)) f.1,
+    subst (λ us. AreFine frame us es) (sym (take-append-le e.level ws zs f.0)) f.2,
+  )
+
+  fine-entries : (ws ss : List Server) (es : List Pending) → length ws < length frame.demands
+      → every (is_valid frame.heads (length (cells_of ws))) ss ≡ true → AreFine frame ws es
+      → AreFine frame ws (map (entry (length ws)) ss ++ es)
+  fine-entries ws [] es l v f = f
+  fine-entries ws (s ∷ ss) es l v f =
+      let (a, b) = and_parts (is_valid frame.heads (length (cells_of ws)) s) _ v in
+      let rest = fine-entries ws ss es l b f in (
+        omega arith,
+        subst (λ us. Fits frame us s) (sym (take-length ws)) (l, a),
+        subst (λ us. AreFine frame us (map (entry (length ws)) ss ++ es)) (sym (take-length ws)) rest,
+      )
+
+pub empty-path : (frame : Frame) (ws : List Server) → ws ≡ [] → IsPath frame ws
+empty-path frame ws e = subst (IsPath frame) (sym e) (record { few = omega arith; valid = refl })
+
+module _ (number : List Signed → Option ℕ) (form : Form) (T : List Position) (frame : Frame) where
+  abbrev after : List Server → List Line
+  after ws = lines_after number form T frame ws
+
+  abbrev left : List Server → List Pending → List Line
+  left ws es = lines_left number form T frame ws es
+
+  -- servers that come later change nothing of what stands before them
+  left-more : (ws zs : List Server) (es : List Pending) → AreFine frame ws es → left (ws ++ zs) es ≡ left ws es
+  left-more ws zs [] f = refl
+  left-more ws zs (e ∷ es) f = ap (λ us. after (us ++ e.server ∷ []) ++ left us es) (take-append-le e.level ws zs f.0)
+
+  left-entries : (ws ss : List Server) (es : List Pending) → left ws (map (entry (length ws)) ss ++ es)
+      ≡ flat_map (λ s. after (ws ++ s ∷ [])) ss ++ left ws es
+  left-entries ws [] es = refl
+  left-entries ws (s ∷ ss) es =
+      ap (λ us. after (us ++ s ∷ []) ++ left us (map (entry (length ws)) ss ++ es)) (take-length ws)
+      ∙ ap (λ rs. after (ws ++ s ∷ []) ++ rs) (left-entries ws ss es)
+      ∙ sym (append_assoc (after (ws ++ s ∷ [])) (flat_map (λ s. after (ws ++ s ∷ [])) ss) (left ws es))
+
+  over : (ds : List Signed) (p : Plan) → is_at_end (size frame p) frame.below ≡ true
+      → lines_from number form T frame ds p ≡ L.Count ∷ []
+  over [] p e =
+      ap (λ b. cond b (L.Count ∷ []) (unless_clash number form T frame p (first_clash T frame p)
+      (complete_line number form T frame p ∷ []))) e
+  over (d ∷ ds) p e =
+      ap (λ b. cond b (L.Count ∷ []) (unless_clash number form T frame p (first_clash T frame p)
+      (L.Split ∷ flat_map (lines_from number form T frame ds) (options frame d p)))) e
+
+  -- what follows where a plan isn't over
+  by_clash : (p : Plan) (ls : List Line) (o : Option ℕ) → is_at_end (size frame p) frame.below ≡ false
+      → first_clash T frame p ≡ o → cond (is_at_end (size frame p) frame.below) (L.Count ∷ [])
+      (unless_clash number form T frame p (first_clash T frame p) ls) ≡ unless_clash number form T frame p o ls
+  by_clash p ls o under e =
+      ap (λ b. cond b (L.Count ∷ []) (unless_clash number form T frame p (first_clash T frame p) ls)) under
+      ∙ ap (λ x. unless_clash number form T frame p x ls) e
+
+  clashing : (ds : List Signed) (p : Plan) (k : ℕ) → is_at_end (size frame p) frame.below ≡ false
+      → first_clash T frame p ≡ Some k → lines_from number form T frame ds p ≡ at_line form frame p k L.Clashes ∷ []
+  clashing [] p k under e = by_clash p (complete_line number form T frame p ∷ []) (Some k) under e
+  clashing (d ∷ ds) p k under e =
+      by_clash p (L.Split ∷ flat_map (lines_from number form T frame ds) (options frame d p)) (Some k) under e
+
+  -- the options of a plan are the plans of one more server
+  option-lines : (ws ss : List Server) → length ws < length frame.demands
+      → flat_map (lines_from number form T frame (drop (suc (length ws)) frame.demands))
+      (map (serve (next_demand frame ws) (plan_after frame ws)) ss) ≡ flat_map (λ s. after (ws ++ s ∷ [])) ss
+  option-lines ws [] l = refl
+  option-lines ws (s ∷ ss) l =
+      let count : suc (length ws) ≡ length (ws ++ s ∷ []) = omega (arith, length-append ws (s ∷ [])) in
+      ap₂ (λ a b. a ++ b)
+      (ap₂ (λ p n. lines_from number form T frame (drop n frame.demands) p) (sym (next-plan frame ws s l)) count)
+      (option-lines ws ss l)
+
+  lines-split : (ws : List Server) → length ws < length frame.demands
+      → is_at_end (size frame (plan_after frame ws)) frame.below ≡ false
+      → first_clash T frame (plan_after frame ws) ≡ None
+      → after ws ≡ L.Split ∷ flat_map (λ s. after (ws ++ s ∷ [])) (choices_after frame ws)
+  lines-split ws l under clear =
+      let p = plan_after frame ws in
+      let d = next_demand frame ws in
+      let ds = drop (suc (length ws)) frame.demands in
+      ap (λ us. lines_from number form T frame us p) (left-on (length ws) frame.demands l)
+      ∙ by_clash p (L.Split ∷ flat_map (lines_from number form T frame ds) (options frame d p)) None under clear
+      ∙ ap (λ ps. L.Split ∷ flat_map (lines_from number form T frame ds) ps) (options-choices frame d p)
+      ∙ ap (λ ls. L.Split ∷ ls) (option-lines ws (choices_after frame ws) l)
+
+  lines-complete : (ws : List Server) → length frame.demands ≤ length ws
+      → is_at_end (size frame (plan_after frame ws)) frame.below ≡ false
+      → first_clash T frame (plan_after frame ws) ≡ None
+      → after ws ≡ complete_line number form T frame (plan_after frame ws) ∷ []
+  lines-complete ws l under clear =
+      let p = plan_after frame ws in
+      ap (λ us. lines_from number form T frame us p) (drop-past frame.demands (length ws) l)
+      ∙ by_clash p (complete_line number form T frame p ∷ []) None under clear
+
+  -- a plan is visited
+  module _ (ws : List Server) (ps : List Pending) (before now : List Line) where
+    ends : (l : Line) → now ≡ before ++ l ∷ [] → after ws ≡ l ∷ [] → Visits number form T frame ws ps ps before now
+    ends l added e = record {
+      line = l;
+      added = added;
+      told = ap (λ ls. ls ++ left ws (reverse ps)) e;
+      fine = λ f. f;
+    }
+
+    pub visits-over : now ≡ before ++ L.Count ∷ []
+        → is_at_end (size frame (plan_after frame ws)) frame.below ≡ true
+        → Visits number form T frame ws ps ps before now
+    visits-over added e = ends L.Count added (over (drop (length ws) frame.demands) (plan_after frame ws) e)
+
+    pub visits-clash : (k : ℕ) → is_at_end (size frame (plan_after frame ws)) frame.below ≡ false
+        → first_clash T frame (plan_after frame ws) ≡ Some k
+        → now ≡ before ++ at_line form frame (plan_after frame ws) k L.Clashes ∷ []
+        → Visits number form T frame ws ps ps before now
+    visits-clash k under e added =
+        ends (at_line form frame (plan_after frame ws) k L.Clashes) added
+        (clashing (drop (length ws) frame.demands) (plan_after frame ws) k under e)
+
+    pub visits-complete : length frame.demands ≤ length ws
+        → is_at_end (size frame (plan_after frame ws)) frame.below ≡ false
+        → first_clash T frame (plan_after frame ws) ≡ None
+        → now ≡ before ++ complete_line number form T frame (plan_after frame ws) ∷ []
+        → Visits number form T frame ws ps ps before now
+    visits-complete l under clear added =
+        ends (complete_line number form T frame (plan_after frame ws)) added (lines-complete ws l under clear)
+
+    pub visits-split : (qs : List Pending) → length ws < length frame.demands
+        → is_at_end (size frame (plan_after frame ws)) frame.below ≡ false
+        → first_clash T frame (plan_after frame ws) ≡ None
+        → reverse qs ≡ map (entry (length ws)) (choices_after frame ws) ++ reverse ps
+        → now ≡ before ++ L.Split ∷ [] → Visits number form T frame ws ps qs before now
+    visits-split qs l under clear more added = record {
+      line = L.Split;
+      added = added;
+      told =
+          ap (λ ls. ls ++ left ws (reverse ps)) (lines-split ws l under clear)
+          ∙ ap (λ ls. L.Split ∷ ls)
+          (sym (left-entries ws (choices_after frame ws) (reverse ps)) ∙ ap (left ws) (sym more));
+      fine = λ f.
+          subst (AreFine frame ws) (sym more)
+          (fine-entries frame ws (choices_after frame ws) (reverse ps) l (choices-valid frame ws (omega (arith, l))) f);
+    }
+
+  -- lines so far and lines that are left
+  told-all : (before now all ls rest : List Line) (l : Line) → now ≡ before ++ l ∷ [] → ls ≡ l ∷ rest
+      → before ++ ls ≡ all → now ++ rest ≡ all
+  told-all before now all ls rest l added e sum =
+      ap (λ us. us ++ rest) added ∙ append_assoc before (l ∷ []) rest ∙ ap (λ us. before ++ us) (sym e) ∙ sum
+
+  -- the plan that serves nothing
+  module _ (ws : List Server) (ps qs : List Pending) (before now : List Line) (none : ws ≡ []) (no : ps ≡ [])
+      (v : Visits number form T frame ws ps qs before now) where
+    pub first-fine : AreFine frame ws (reverse qs)
+    first-fine = v.fine (subst (λ es. AreFine frame ws (reverse es)) (sym no) tt)
+
+    pub first-lines : now ++ left ws (reverse qs) ≡ before ++ plan_lines number form T frame
+    unfolding plan_lines
+    first-lines =
+        told-all before now _ (after ws ++ left ws (reverse ps)) (left ws (reverse qs)) v.line v.added v.told
+        (ap (λ us. before ++ us)
+        (ap₂ (λ us es. after us ++ left us (reverse es)) none no ∙ append-nil (after [])))
+
+  -- the next plan
+  module _ (path path' : List Server) (es old : List Pending) (e : Pending)
+      (q : old ≡ es ++ e ∷ []) (cut : path' ≡ take e.level path ++ e.server ∷ [])
+      (fine : AreFine frame path (reverse old)) where
+    at_next : AreFine frame path (e ∷ reverse es)
+    at_next = subst (λ us. AreFine frame path us) (popped es old e q) fine
+
+    pub next-path : IsPath frame path → IsPath frame path'
+    next-path p =
+        subst (IsPath frame) (sym cut)
+        (path-push frame (take e.level path) e.server (path-take frame e.level path p) at_next.1)
+
+    next-left : left path (reverse old) ≡ after path' ++ left path' (reverse es)
+    next-left =
+        ap (left path) (popped es old e q)
+        ∙ ap₂ (λ us ls. after us ++ ls) (sym cut)
+        (sym (left-more (take e.level path) (e.server ∷ []) (reverse es) at_next.2)
+        ∙ ap (λ us. left us (reverse es)) (sym cut))
+
+    module _ (qs : List Pending) (before now all : List Line)
+        (v : Visits number form T frame path' es qs before now) where
+      pub next-fine : AreFine frame path' (reverse qs)
+      next-fine =
+          v.fine
+          (subst (λ us. AreFine frame us (reverse es)) (sym cut)
+          (fine-more frame (take e.level path) (e.server ∷ []) (reverse es) at_next.2))
+
+      pub next-lines : before ++ left path (reverse old) ≡ all → now ++ left path' (reverse qs) ≡ all
+      next-lines sum =
+          told-all before now all (left path (reverse old)) (left path' (reverse qs)) v.line v.added
+          (next-left ∙ v.told)
+          sum
+
+      -- one line fewer is left
+      pub next-fewer : length (left path' (reverse qs)) < length (left path (reverse old))
+      next-fewer = omega (arith, ap length (next-left ∙ v.told))

@@ -1,0 +1,30 @@
+-- One more is looked at.
+use Rattle.std.proofs.Common.{◌<◌, ◌+◌, suc, length, Some, None, refl, arith, sym, ◌∙◌}
+use Rattle.frames.specs.Plan.{placed}
+use Rattle.js_plans.specs.Serving.{plan_after}
+use Rattle.js_plan_lines.proofs.Adding.{none_is}
+use Rattle.js_plan_lines.proofs.Firsts.{cited-next}
+use Rattle.js_plan_lines.proofs.placed.first_cited.Goals as goal
+
+pub returns-in-Some : goal.returns-in-Some
+returns-in-Some g c =
+    let frame = g.F.PlanFrame.frame c.args.frame.now in
+    let k = c.loop-number.number in
+    let less : k < length (placed frame (plan_after frame c.args.path.now)) =
+    omega (arith, c.loop-number-test.true, c.of-placed.ensures.count) in
+    sym (cited-next (g.F.PlanFrame.table c.args.frame.now) frame c.args.path.now c.requires c.of-placed.result.heads k
+    (suc k) c.of-placed.ensures.heads less c.in_ok-goal.goal c.in_ok-goal.ensures refl
+    (g.D.DeadGoals.number c.args.dead.now) (Some c.in-Some.cited) (sym c.in-Some.is ∙ c.number_of.ensures))
+    ∙ c.loop-number.invariant
+
+pub loop-number-preserved : goal.loop-number-preserved
+loop-number-preserved g c =
+    let frame = g.F.PlanFrame.frame c.args.frame.now in
+    let k = c.loop-number.number in
+    let less : k < length (placed frame (plan_after frame c.args.path.now)) =
+    omega (arith, c.loop-number-test.true, c.of-placed.ensures.count) in
+    sym (cited-next (g.F.PlanFrame.table c.args.frame.now) frame c.args.path.now c.requires c.of-placed.result.heads k
+    (k + 1) c.of-placed.ensures.heads less c.in_ok-goal.goal c.in_ok-goal.ensures (omega arith)
+    (g.D.DeadGoals.number c.args.dead.now) None
+    (sym (none_is c.number_of.result c.in_default.not-Some) ∙ c.number_of.ensures))
+    ∙ c.loop-number.invariant

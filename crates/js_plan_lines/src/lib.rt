@@ -1,0 +1,18 @@
+//! The lines that show that nothing is arranged by the plans of a frame, as they are printed.
+//!
+//! A frame of arrays or of objects is a `PlanFrame`; which goals no document meets is told by `DeadGoals`. A plan is
+//! kept as what serves each of its demands so far; what is placed, and which demands that serves, is read off that.
+#![tactic(auto)]
+
+mod choices;
+mod dead_goals;
+mod extent;
+mod form;
+mod lines;
+mod path;
+mod placed;
+mod tree;
+
+pub use dead_goals::DeadGoals;
+pub use form::PlanForm;
+pub use tree::add_plan_lines;

@@ -1,0 +1,100 @@
+//! What serves the demands of a plan one after another.
+
+ghost use Rattle.std.specs.Prelude.{◌≡◌, ◌<◌, ◌≤◌, ◌^◌, map, length, get_or, IfOk};
+ghost use Rattle.js_algebra.specs.View.{signed_view};
+ghost use Rattle.js_plans.specs.Serving.{place_view};
+ghost use Rattle.js_plans.specs.Servers.{serves_too, members_after, cells_of, earlier};
+ghost use Rattle.frames.specs.Frame.{In};
+ghost use Rattle.js_plans.specs.Goals.{place_after};
+
+use js_algebra::Signed;
+use js_doc::Memory;
+use js_plans::{Place, Server};
+use std::alloc::Global;
+
+/// How many members there are when one more demand is served.
+pub(crate) fn members_after(members: usize, server: Server) -> usize
+    requires { members < 2 ^ 63 }
+    ensures { result ≡ members_after members server }
+{
+    match server {
+        Server::New(_) => members + 1,
+        _ => members,
+    }
+}
+
+/// Whether what serves a demand also serves an earlier one, before which there were so many members.
+fn serves_too(server: Server, members: usize, earlier: Server) -> bool
+    ensures { result ≡ serves_too server members earlier }
+{
+    match (server, earlier) {
+        (Server::Head(k), Server::Head(i)) => i == k,
+        (Server::Member(k), Server::Member(i)) => i == k,
+        (Server::Member(k), Server::New(_)) => members == k,
+        _ => false,
+    }
+}
+
+/// The demands of the path that `server` serves, the earliest first.
+pub(crate) fn earlier(
+    alloc: Global,
+    path: &[Server],
+    demands: &[Signed],
+    server: Server,
+) -> Result<Vec<Signed>, Memory>
+    requires { length path.now ≤ length demands.now }
+    ensures { IfOk result (λ v. map signed_view v.items
+        ≡ earlier server (map signed_view demands.now) 0 path.now) }
+{
+    let mut found = Vec::new(alloc);
+    let mut members = 0;
+    for (i, other) in path.iter().enumerate() {
+        if serves_too(server, members, *other) {
+            found.push(demands[i])?;
+        }
+        members = members_after(members, *other);
+    }
+    Ok(found)
+}
+
+/// The cells of the members, in order.
+pub(crate) fn cells(alloc: Global, path: &[Server]) -> Result<Vec<u32>, Memory>
+    ensures { IfOk result (λ v. v.items ≡ cells_of path.now) }
+{
+    let mut cells = Vec::new(alloc);
+    for server in path {
+        if let Server::New(cell) = *server {
+            cells.push(cell)?;
+        }
+    }
+    Ok(cells)
+}
+
+/// The cell of that number.
+fn cell_at(cells: &[u32], number: usize) -> u32
+    ensures { result ≡ get_or cells.now number 0 }
+{
+    match cells.get(number) {
+        Some(cell) => *cell,
+        None => 0,
+    }
+}
+
+/// The place of the member of that number.
+fn place_of_member(alloc: Global, path: &[Server], number: usize) -> Result<Place, Memory>
+    ensures { IfOk result (λ place. place_view place ≡ In (get_or (cells_of path.now) number 0)) }
+{
+    let cells = cells(alloc, path)?;
+    Ok(Place::In(cell_at(cells.as_slice(), number)))
+}
+
+/// The place of a server, after a path.
+pub(crate) fn place_of(alloc: Global, path: &[Server], server: Server) -> Result<Place, Memory>
+    ensures { IfOk result (λ place. place_view place ≡ place_after path.now server) }
+{
+    match server {
+        Server::Head(k) => Ok(Place::Head(k)),
+        Server::Member(k) => place_of_member(alloc, path, k),
+        Server::New(cell) => Ok(Place::In(cell)),
+    }
+}

@@ -1,0 +1,133 @@
+//! What a plan places, by its number: the first that clashes, and the first that no document meets.
+
+ghost use Rattle.std.specs.Prelude.{◌≡◌, ◌≤◌, ◌^◌, map, true, length, IfOk};
+ghost use Rattle.frames.specs.Plan.{goal_of, first_clash, placed};
+ghost use Rattle.refutations.specs.PlanTreeLines.{number_of};
+ghost use Rattle.js_algebra.specs.View.{signed_view, are_in_table};
+ghost use Rattle.js_plans.specs.Serving.{place_view, plan_after};
+ghost use Rattle.js_plan_lines.specs.Reach.{server_at, served_at, seen, IsPath};
+ghost use Rattle.js_plan_lines.specs.Cited.{cited_from};
+
+use crate::dead_goals::DeadGoals;
+use crate::extent::Placed;
+use crate::path::{self, place_of};
+use js_algebra::{Goal, Signed, form};
+use js_doc::Memory;
+use js_plans::{Place, PlanFrame, Server};
+use std::alloc::Global;
+
+/// What is placed by that number, where so many first places are: one of them, or a member behind them.
+fn server_at(heads: u64, number: u64) -> Server
+    requires { heads ≤ 2 ^ 32 }
+    ensures { result ≡ server_at heads number }
+{
+    if number < heads {
+        Server::Head(number as u32)
+    } else {
+        Server::Member((number - heads) as usize)
+    }
+}
+
+/// The goal of what stands at a place and serves these demands, none where its list clashes.
+pub(crate) fn goal_of<F: PlanFrame>(
+    alloc: Global,
+    frame: &F,
+    place: Place,
+    served: &[Signed],
+) -> Result<Option<Goal>, Memory>
+    requires { are_in_table (F.table frame.now) (map signed_view served.now) ≡ true }
+    ensures { IfOk result (λ o. o ≡ goal_of (F.table frame.now) (F.frame frame.now)
+        (place_view place, map signed_view served.now)) }
+{
+    let mut list = Vec::new(alloc);
+    frame.add_each(place, &mut list)?;
+    for demand in served {
+        frame.add_serving(place, *demand, &mut list)?;
+    }
+    form(alloc, frame.core(), list.as_slice())
+}
+
+/// The demands of the path that `server` serves, the latest first.
+fn served_by<F: PlanFrame>(
+    alloc: Global,
+    frame: &F,
+    path: &[Server],
+    server: Server,
+) -> Result<Vec<Signed>, Memory>
+    requires { length path.now ≤ length (F.frame frame.now).demands }
+    ensures value { IfOk result (λ v. map signed_view v.items ≡ served_at (F.frame frame.now) path.now server) }
+    ensures in_table { IfOk result (λ v. are_in_table (F.table frame.now) (map signed_view v.items) ≡ true) }
+{
+    let mut served = path::earlier(alloc, path, frame.demands(), server)?;
+    served.reverse();
+    Ok(served)
+}
+
+/// The goal of what is placed by that number, where so many first places are.
+fn goal_at<F: PlanFrame>(
+    alloc: Global,
+    frame: &F,
+    path: &[Server],
+    heads: u64,
+    number: u64,
+) -> Result<Option<Goal>, Memory>
+    requires few { length path.now ≤ length (F.frame frame.now).demands }
+    requires heads { heads ≤ 2 ^ 32 }
+    ensures { IfOk result (λ o. o ≡ goal_of (F.table frame.now) (F.frame frame.now)
+        (seen (F.frame frame.now) path.now (server_at heads number))) }
+{
+    let server = server_at(heads, number);
+    let served = served_by(alloc, frame, path, server)?;
+    let place = place_of(alloc, path, server)?;
+    goal_of(alloc, frame, place, served.as_slice())
+}
+
+/// The number of the first that is placed and whose list clashes.
+pub(crate) fn first_clash<F: PlanFrame>(
+    alloc: Global,
+    frame: &F,
+    path: &[Server],
+) -> Result<Option<u64>, Memory>
+    requires { IsPath (F.frame frame.now) path.now }
+    ensures { IfOk result (λ o. o ≡ first_clash (F.table frame.now) (F.frame frame.now)
+        (plan_after (F.frame frame.now) path.now)) }
+{
+    let placed = Placed::of(frame, path);
+    for number in 0..placed.count {
+        if goal_at(alloc, frame, path, placed.heads, number)?.is_none() {
+            return Ok(Some(number));
+        }
+    }
+    Ok(None)
+}
+
+/// The number of the goal of a list, if the list forms one.
+fn number_of<D: DeadGoals>(dead: &D, goal: Option<Goal>) -> Option<u32>
+    ensures { result ≡ number_of (D.number dead.now) goal }
+{
+    match goal {
+        Some(goal) => dead.number(&goal),
+        None => None,
+    }
+}
+
+/// The number of the first that is placed and that no document meets, with the number of its goal.
+pub(crate) fn first_cited<F: PlanFrame, D: DeadGoals>(
+    alloc: Global,
+    frame: &F,
+    dead: &D,
+    path: &[Server],
+) -> Result<Option<(u64, u32)>, Memory>
+    requires { IsPath (F.frame frame.now) path.now }
+    ensures { IfOk result (λ o. o ≡ cited_from (D.number dead.now) (F.table frame.now) (F.frame frame.now) 0
+        (placed (F.frame frame.now) (plan_after (F.frame frame.now) path.now))) }
+{
+    let placed = Placed::of(frame, path);
+    for number in 0..placed.count {
+        let goal = goal_at(alloc, frame, path, placed.heads, number)?;
+        if let Some(cited) = number_of(dead, goal) {
+            return Ok(Some((number, cited)));
+        }
+    }
+    Ok(None)
+}

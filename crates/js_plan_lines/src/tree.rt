@@ -1,0 +1,135 @@
+//! The lines of all plans, in pre-order.
+//!
+//! Plans still to be visited stand in a list, the next one last, each as what serves the next demand after the first
+//! part of the path.
+
+ghost use Rattle.std.specs.Prelude.{◌≡◌, ◌++◌, ◌∷◌, [], ◌<◌, length, map, reverse, take, OnOk};
+ghost use Rattle.certificate_lines.specs.Line as L;
+ghost use Rattle.refutations.specs.PlanTreeLines.{plan_lines};
+ghost use Rattle.js_lines.specs.View.{line_view};
+ghost use Rattle.js_plans.specs.Choosing.{choices_after};
+ghost use Rattle.js_plan_lines.specs.FormView.{form_view};
+ghost use Rattle.js_plan_lines.specs.Reach.{IsPath};
+ghost use Rattle.js_plan_lines.specs.Left.{entry, Visits};
+
+use crate::choices::choices;
+use crate::dead_goals::DeadGoals;
+use crate::extent::is_over;
+use crate::form::PlanForm;
+use crate::lines::{add_at, add_complete};
+use crate::placed::first_clash;
+use js_doc::Memory;
+use js_lines::{CertEnd, CertLine};
+use js_plans::{PlanFrame, Server};
+use std::alloc::Global;
+
+/// A plan to come: the first `level` of the path serve as before, and `server` serves the next demand.
+#[derive(Clone, Copy)]
+struct Pending {
+    level: usize,
+    server: Server,
+}
+
+/// Adds the lines that show that nothing is arranged by the plans of the frame, where goals with a number have no
+/// document. Where a number of what is placed needs more than 32 bits, that is want of memory.
+pub fn add_plan_lines<F: PlanFrame, D: DeadGoals>(
+    alloc: Global,
+    frame: &F,
+    form: PlanForm,
+    dead: &D,
+    lines: &mut Vec<CertLine>,
+) -> Result<(), Memory>
+    ensures { OnOk result (map line_view lines.new.items ≡ map line_view lines.old.items
+        ++ plan_lines (D.number dead.now) (form_view form) (F.table frame.now) (F.frame frame.now)) }
+{
+    let mut path = Vec::new(alloc);
+    let mut pending = Vec::new(alloc);
+    visit(
+        alloc,
+        frame,
+        form,
+        dead,
+        path.as_slice(),
+        &mut pending,
+        lines,
+    )?;
+    while let Some(next) = pending.pop() {
+        go_to(next, &mut path)?;
+        visit(
+            alloc,
+            frame,
+            form,
+            dead,
+            path.as_slice(),
+            &mut pending,
+            lines,
+        )?;
+    }
+    Ok(())
+}
+
+/// The path to a plan to come.
+fn go_to(next: Pending, path: &mut Vec<Server>) -> Result<(), Memory>
+    ensures { OnOk result (path.new.items ≡ take next.level path.old.items ++ next.server ∷ []) }
+{
+    path.truncate(next.level);
+    path.push(next.server)?;
+    Ok(())
+}
+
+/// Adds the line of the plan of the path. Its options are still to be visited.
+fn visit<F: PlanFrame, D: DeadGoals>(
+    alloc: Global,
+    frame: &F,
+    form: PlanForm,
+    dead: &D,
+    path: &[Server],
+    pending: &mut Vec<Pending>,
+    lines: &mut Vec<CertLine>,
+) -> Result<(), Memory>
+    requires { IsPath (F.frame frame.now) path.now }
+    ensures { OnOk result (Visits (D.number dead.now) (form_view form) (F.table frame.now) (F.frame frame.now) path.now
+        pending.old.items pending.new.items (map line_view lines.old.items) (map line_view lines.new.items)) }
+{
+    if is_over(frame, path) {
+        lines.push(CertLine::Count)?;
+        return Ok(());
+    }
+    if let Some(number) = first_clash(alloc, frame, path)? {
+        return add_at(frame, form, path, number, CertEnd::Clash, lines);
+    }
+    if path.len() < frame.demands().len() {
+        return split(alloc, frame, path, pending, lines);
+    }
+    add_complete(alloc, frame, form, dead, path, lines)
+}
+
+/// Adds the line of a plan that is split into its options, which are still to be visited.
+fn split<F: PlanFrame>(
+    alloc: Global,
+    frame: &F,
+    path: &[Server],
+    pending: &mut Vec<Pending>,
+    lines: &mut Vec<CertLine>,
+) -> Result<(), Memory>
+    requires { length path.now < length (F.frame frame.now).demands }
+    ensures pending { OnOk result (reverse pending.new.items
+        ≡ map (entry (length path.now)) (choices_after (F.frame frame.now) path.now) ++ reverse pending.old.items) }
+    ensures lines { OnOk result (map line_view lines.new.items ≡ map line_view lines.old.items ++ L.Split ∷ []) }
+{
+    let options = choices(alloc, frame, path)?;
+    add_pending(path.len(), options, pending)?;
+    lines.push(CertLine::Split)?;
+    Ok(())
+}
+
+/// Adds plans to come, the first one next.
+fn add_pending(level: usize, servers: Vec<Server>, pending: &mut Vec<Pending>) -> Result<(), Memory>
+    ensures { OnOk result (reverse pending.new.items ≡ map (entry level) servers.items ++ reverse pending.old.items) }
+{
+    let mut servers = servers;
+    while let Some(server) = servers.pop() {
+        pending.push(Pending { level, server })?;
+    }
+    Ok(())
+}

@@ -1,0 +1,63 @@
+//! The lines of a set that no string meets.
+
+ghost use Rattle.std.specs.Prelude.{◌≡◌, ◌++◌, map, true, OnOk};
+ghost use Rattle.refutations.specs.StatedRows as stated;
+ghost use Rattle.refutations.specs.StringLines.{length_lines, string_lines};
+ghost use Rattle.js_algebra.specs.View.{signed_view, are_in_table};
+ghost use Rattle.js_nfa.specs.AtomView.{atom_view};
+ghost use Rattle.js_automaton.specs.AutomatonView.{atoms_of, rows_of};
+ghost use Rattle.js_lines.specs.View.{line_view};
+
+use crate::least::least_line;
+use crate::rows::add_row_lines;
+use crate::string_atoms::string_atoms;
+use js_algebra::{Core, Signed};
+use js_automaton::{Automaton, build};
+use js_doc::Memory;
+use js_lines::CertLine;
+use js_nfa::Atom;
+use std::alloc::Global;
+
+/// Adds the lines of rows and of least lengths of a set's words.
+///
+/// Where the atoms of the set pass a limit it answers want of memory. None is passed where bounds don't cross and no
+/// string was found.
+pub fn add_string_lines(
+    alloc: Global,
+    core: &Core,
+    set: &[Signed],
+    lines: &mut Vec<CertLine>,
+) -> Result<(), Memory>
+    requires { are_in_table core.now.positions (map signed_view set.now) ≡ true }
+    ensures { OnOk result (map line_view lines.new.items ≡ map line_view lines.old.items
+        ++ string_lines core.now.positions (map signed_view set.now)) }
+{
+    let atoms = string_atoms(alloc, core, set)?;
+    add_lines_of(alloc, atoms.as_slice(), lines)
+}
+
+/// Adds the lines of the atoms' automaton.
+fn add_lines_of(alloc: Global, atoms: &[Atom], lines: &mut Vec<CertLine>) -> Result<(), Memory>
+    ensures { OnOk result (map line_view lines.new.items ≡ map line_view lines.old.items
+        ++ length_lines (map atom_view atoms.now) (stated.rows_of (map atom_view atoms.now))) }
+{
+    match build(alloc, atoms) {
+        Ok(automaton) => add_length_lines(alloc, &automaton, lines),
+        Err(_) => Err(Memory),
+    }
+}
+
+/// Adds the lines of an automaton's rows, and the lengths of their words.
+fn add_length_lines(
+    alloc: Global,
+    automaton: &Automaton,
+    lines: &mut Vec<CertLine>,
+) -> Result<(), Memory>
+    ensures { OnOk result (map line_view lines.new.items ≡ map line_view lines.old.items
+        ++ length_lines (atoms_of automaton.now) (rows_of automaton.now)) }
+{
+    lines.push(CertLine::Strings(automaton.rows()))?;
+    add_row_lines(alloc, automaton, lines)?;
+    lines.push(least_line(alloc, automaton)?)?;
+    Ok(())
+}

@@ -1,0 +1,3 @@
+-- What a reader must believe: the number of each rule, and what a fault tells of a line.
+pub mod RuleView
+pub mod Told

@@ -1,0 +1,14 @@
+//! What a literal says of a name, by the numbers of atoms.
+
+use js_tableau::NamePlan;
+
+/// What a literal says of a name.
+#[derive(Drop)]
+pub enum Said {
+    /// One of these atoms is true.
+    AnyOf(Vec<usize>),
+    /// None of these atoms is true.
+    NoneOf(Vec<usize>),
+    /// The root of a plan holds, by the truths of the atoms of its leaves.
+    Planned(NamePlan, Vec<usize>),
+}
