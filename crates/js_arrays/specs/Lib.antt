@@ -1,5 +1,3 @@
--- What one literal says of the count, and what it asks of an element.
-pub mod Elements
 -- The faults of plans as faults of arrays.
 pub mod Faults
 -- The frame that a frame of arrays stands for.

@@ -3,17 +3,17 @@
 ghost use Rattle.std.specs.Prelude.{◌≡◌, map, true};
 ghost use Rattle.js_algebra.specs.View.{signed_view, are_in_table};
 
-use crate::bounds::Bounds;
-use crate::elements::{asked, demands, longest, served};
 use js_algebra::{Core, Signed};
+use js_bounds::Bounds;
 use js_doc::Memory;
+use js_elements::{asked, demands, longest, served};
 use js_plans::{Place, PlanFrame};
 use std::alloc::Global;
 
 /// What a set asks of the elements of an array: its first elements are the first places, and there is one cell past
 /// them. `frame_view` is the frame that it stands for.
 #[derive(Drop)]
-pub(crate) struct ArrayFrame<'a> {
+pub struct ArrayFrame<'a> {
     core: &'a Core,
     set: &'a [Signed],
     demands: Vec<Signed>,
@@ -32,7 +32,7 @@ impl<'a> ArrayFrame<'a> {
     ghost use Rattle.js_arrays.specs.FrameView.{frame_view};
 
     /// The frame of a set, which asks for so many elements.
-    pub(crate) fn new(
+    pub fn new(
         alloc: Global,
         core: &'a Core,
         set: &'a [Signed],

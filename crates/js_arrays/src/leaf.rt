@@ -5,9 +5,9 @@ ghost use Rattle.js_algebra.specs.View.{are_in_table};
 ghost use Rattle.js_arrays.specs.Leaves.{Answers, Follows, Makes};
 
 use crate::array_frame::ArrayFrame;
-use crate::bounds::Bounds;
 use crate::fault::ArrayFault;
 use js_algebra::{BranchId, Core, JsonKind};
+use js_bounds::Bounds;
 use js_expansion::{AlternativeList, Leaf};
 use js_plans::{Naming, plan_alternatives};
 use js_tableau::Branch;
@@ -40,7 +40,7 @@ fn leaf(alloc: Global, core: &Core, branch: &Branch) -> Result<Leaf, ArrayFault>
     ensures { Answers core.now.positions branch.now.id.number branch.now.set result }
 {
     let set = branch.set.as_slice();
-    let bounds = Bounds::of(core, set);
+    let bounds = Bounds::of_arrays(core, set);
     if bounds.are_crossed() {
         return Ok(Leaf {
             alternatives: AlternativeList::from_vec(Vec::new(alloc)),

@@ -5,11 +5,10 @@
 #![tactic(auto)]
 
 mod array_frame;
-mod bounds;
-mod elements;
 mod fault;
 mod leaf;
 
+pub use array_frame::ArrayFrame;
 pub use fault::ArrayFault;
 pub use leaf::{MOST_COUNTS, array_alternatives};
 

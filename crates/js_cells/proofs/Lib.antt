@@ -1,6 +1,2 @@
--- Key lemmas: `taken_one` and `takes_then` of `Taking`.
-pub mod Taking
-pub mod Formulas
-pub mod Literals
-pub mod Vectors
+-- Key lemma: `words_in` of `RowMarks`.
 pub mod RowMarks

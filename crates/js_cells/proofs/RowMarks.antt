@@ -1,12 +1,11 @@
 -- The rows of a cell are those of its names: a name is in the cell of the row to which it leads.
-use Rattle.std.proofs.Common.{◌≡◌, ℕ, zero, suc, ◌<◌, ◌≤◌, inl, inr, Bool, true, false, cond, min, nat_eq, List, [], ◌∷◌, ◌++◌, map, length, get_or, refl, ap, sym, ◌∙◌, subst, arith}
+use Rattle.std.proofs.Common.{◌≡◌, ℕ, ◌<◌, Bool, true, false, min, nat_eq, List, [], ◌∷◌, ◌++◌, map, length, get_or, ap, sym, ◌∙◌, subst, arith}
 use Rattle.std.specs.List.{list_all}
 use Rattle.std.proofs.lemmas.List.{get_or-map, length-map}
 use Rattle.std.proofs.lemmas.List.Folds.{list_all-append}
 use Rattle.std.proofs.lemmas.Bool.{and_from}
 use Rattle.patterns.specs.CharSet.{is_scalar}
-use Rattle.list_laws.specs.In.{IsIn}
-use Rattle.list_laws.proofs.Lists.{in_get, from_map}
+use Rattle.list_laws.proofs.Lists.{in_get}
 use Rattle.word_states.specs.Atom.{Atom}
 use Rattle.word_states.specs.Rows.{AreRows, row_of, longer_by_one}
 use Rattle.word_states.specs.WordState.{have_same_state}
@@ -17,8 +16,7 @@ use Rattle.word_laws.proofs.States as W
 use Rattle.positions.specs.Position.{Position}
 use Rattle.goals.specs.Signed as G
 use Rattle.goals.specs.Signed.{Signed, same_signed}
-use Rattle.goal_laws.proofs.Signs.{same_signed-true, same_signed-itself}
-use Rattle.cells.specs.Cells.{says, vector, same_vector, place, vector_at, told, vectors_of}
+use Rattle.cells.specs.Cells.{says, vector, place, vector_at, told, vectors_of}
 use Rattle.cells.specs.WordsInOrder.{shorter}
 use Rattle.cell_laws.proofs.Rows.{row_is}
 use Rattle.cell_laws.proofs.Listed.{filter_same}
@@ -27,7 +25,7 @@ use Rattle.cell_laws.proofs.Characters as C
 use Rattle.finders.specs.WordsFound.{far, words_found}
 use Rattle.finder_laws.proofs.Strings.{scalars_same}
 use Rattle.js_row_words.specs.RowWords.{is_marked, words_from}
-use Rattle.js_cells.proofs.Vectors.{same_laws, mentions-length}
+use Rattle.js_said.proofs.RowVectors.{told_at, of_row, kept_at, mark_at}
 
 -- marks of the rows of a cell
 
@@ -43,21 +41,11 @@ module _ (T : List Position) (xs : List Signed) (atoms : List Atom) (rows : List
       ap length marked ∙ length-map places (λ k. nat_eq k c)
       ∙ ap length placed ∙ length-map rows (λ w. place (vector T xs w) (vectors_of T xs rows))
 
-  mark_at : (r : ℕ) → r < length rows → get_or marks r false ≡ in_cell (get_or rows r [])
-  mark_at r l =
-      let p : length places ≡ length rows =
-      ap length placed ∙ length-map rows (λ w. place (vector T xs w) (vectors_of T xs rows)) in
-      let m : r < length places = omega (arith, p, l) in
-      ap (λ z. get_or z r false) marked
-      ∙ get_or-map (λ k. nat_eq k c) places r 0 false m
-      ∙ ap (λ z. nat_eq (get_or z r 0) c) placed
-      ∙ ap (λ z. nat_eq z c) (get_or-map (λ w. place (vector T xs w) (vectors_of T xs rows)) rows r [] 0 l)
-
   -- the row to which a word leads is marked where the word is in the cell
   marked_right : (w : List ℕ) → list_all is_scalar w ≡ true → is_marked atoms rows marks w ≡ in_cell w
   marked_right w s =
       let (l, e) = row_is atoms rows are w s in
-      mark_at (row_of atoms rows w) l
+      mark_at T xs rows places placed c marks marked (row_of atoms rows w) l
       ∙ ap (λ z. nat_eq (place z (vectors_of T xs rows)) c) (sym (same w (get_or rows (row_of atoms rows w) []) e))
 
   pub words_in : (r : ℕ) → r < length rows
@@ -90,71 +78,19 @@ module _ (T : List Position) (xs : List Signed) (atoms : List Atom) (rows : List
 
 -- what a vector tells of a literal
 
-in_vectors : (c : ℕ) (vs : List (List Bool)) → c < length vs → IsIn (vector_at vs c) vs
-in_vectors c [] l = absurd (omega (arith, l))
-in_vectors c (v ∷ vs) l = go c l (λ k m. in_vectors k vs m) where
-  go : (c : ℕ) → c < length (v ∷ vs) → ((c : ℕ) → c < length vs → IsIn (vector_at vs c) vs)
-      → IsIn (vector_at (v ∷ vs) c) (v ∷ vs)
-  go zero l more = inl refl
-  go (suc c) l more = inr (more c (omega (arith, l)))
-
-told_in : (T : List Position) (xs : List Signed) (w : List ℕ) (x : Signed) → IsIn x xs
-    → told xs (vector T xs w) x ≡ says T x w
-told_in T [] w x i = absurd i
-told_in T (y ∷ xs) w x i = go (same_signed x y) refl i (told_in T xs w x) where
-  go : (b : Bool) → same_signed x y ≡ b → IsIn x (y ∷ xs)
-      → (IsIn x xs → told xs (vector T xs w) x ≡ says T x w)
-      → cond b (says T y w) (told xs (vector T xs w) x) ≡ says T x w
-  go true e i more = ap (λ z. says T z w) (sym (same_signed-true x y e))
-  go false e (inl q) more = let f : same_signed x y ≡ true =
-      subst (λ z. same_signed x z ≡ true) q (same_signed-itself x) in cc
-  go false e (inr i) more = more i
-
-told_at : (T : List Position) (xs : List Signed) (w : List ℕ) (i : ℕ) → i < length xs
-    → told xs (vector T xs w) (get_or xs i (G.Plus 0)) ≡ get_or (vector T xs w) i false
-told_at T xs w i l =
-    told_in T xs w (get_or xs i (G.Plus 0)) (in_get xs i (G.Plus 0) l)
-    ∙ sym (get_or-map (λ x. says T x w) xs i (G.Plus 0) false l)
-
 module _ (T : List Position) (xs : List Signed) (rows : List (List ℕ)) (c : ℕ)
     (l : c < length (vectors_of T xs rows)) where
-  -- each vector is that of a row
-  of_row : (w : List ℕ) × (vector_at (vectors_of T xs rows) c ≡ vector T xs w)
-  of_row =
-      elim (M.mentions_only same_vector same_laws [] (map (vector T xs) rows) (vector_at (vectors_of T xs rows) c)
-      (in_vectors c (vectors_of T xs rows) l)) [
-        | inl i ↦ absurd i
-        | inr i ↦ let (w, j, e) = from_map (vector T xs) (vector_at (vectors_of T xs rows) c) rows i in (w, e)
-      ]
-
   pub vector-length : length (vector_at (vectors_of T xs rows) c) ≡ length xs
-  vector-length = let (w, e) = of_row in ap length e ∙ length-map xs (λ x. says T x w)
+  vector-length = let (w, e) = of_row T xs rows c l in ap length e ∙ length-map xs (λ x. says T x w)
 
   pub vector-told : (i : ℕ) → i < length xs
       → get_or (vector_at (vectors_of T xs rows) c) i false
       ≡ told xs (vector_at (vectors_of T xs rows) c) (get_or xs i (G.Plus 0))
   vector-told i m =
-      let (w, e) = of_row in
+      let (w, e) = of_row T xs rows c l in
       ap (λ v. get_or v i false) e ∙ sym (told_at T xs w i m) ∙ ap (λ v. told xs v (get_or xs i (G.Plus 0))) (sym e)
 
-pub vectors-few : (T : List Position) (xs : List Signed) (rows : List (List ℕ))
-    → length (vectors_of T xs rows) ≤ length rows
-vectors-few T xs rows =
-    let a = mentions-length [] (map (vector T xs) rows) in
-    let b = length-map rows (vector T xs) in
-    omega (arith, a, b)
-
 -- a kept vector is the one of its number
-pub kept_at : {V : Type 0} (items : V → List Bool) (ks : List V) (c : ℕ) (d : V) → c < length ks
-    → vector_at (map items ks) c ≡ items (get_or ks c d)
-kept_at items [] c d l = absurd (omega (arith, l))
-kept_at {V = V} items (k ∷ ks) c d l = go c l (kept_at items ks) where
-  go : (c : ℕ) → c < length (k ∷ ks)
-      → ((c : ℕ) (d : V) → c < length ks → vector_at (map items ks) c ≡ items (get_or ks c d))
-      → vector_at (items k ∷ map items ks) c ≡ items (get_or (k ∷ ks) c d)
-  go zero l more = refl
-  go (suc c) l more = more c d (omega (arith, l))
-
 pub kept_vector : {V : Type 0} (items : V → List Bool) (ks new : List V) (c : ℕ) (v : V) (vs : List (List Bool))
     → new ≡ ks → map items ks ≡ vs → v ≡ get_or new c v → c < length vs → items v ≡ vector_at vs c
 kept_vector items ks new c v vs e g i l =

@@ -6,15 +6,15 @@ ghost use Rattle.list_laws.specs.In.{IsIn};
 ghost use Rattle.word_states.specs.Mention.{mention, mention_all};
 ghost use Rattle.cells.specs.Cells.{same_vector, place};
 ghost use Rattle.js_automaton.specs.AutomatonView.{atoms_of, rows_of};
-ghost use Rattle.js_cells.specs.Saying.{IsSaid};
-ghost use Rattle.js_cells.specs.Groups.{vectors_in, told_of};
+ghost use Rattle.js_said.specs.Saying.{IsSaid, told_of};
+ghost use Rattle.js_said.specs.Vectors.{vectors_in};
 
-use crate::said::Said;
 use crate::telling::vector;
 use indexmap::IndexSet;
 use js_algebra::Core;
 use js_automaton::Automaton;
 use js_doc::Memory;
+use js_said::Said;
 use std::alloc::Global;
 
 /// The vectors of what is said of rows, each once, and for each row the number of its vector.

@@ -5,16 +5,17 @@ ghost use Rattle.cells.specs.Cells.{naming};
 ghost use Rattle.js_algebra.specs.View.{signed_view};
 ghost use Rattle.js_automaton.specs.AutomatonView.{atoms_of, rows_of};
 ghost use Rattle.js_row_words.specs.CounterView as counted;
-ghost use Rattle.js_cells.specs.Groups.{vectors_in, row_vectors, row_places, ShareVectors};
-ghost use Rattle.js_cells.specs.AtomCode.{same_atoms-prop};
+ghost use Rattle.js_said.specs.Vectors.{vectors_in, row_vectors, row_places};
+ghost use Rattle.js_cells.specs.Groups.{ShareVectors};
+ghost use Rattle.js_said.specs.AtomCode.{same_atoms-prop};
 
 use crate::grouping::group;
-use crate::taken::Taken;
 use indexmap::IndexSet;
 use js_algebra::{Core, Signed};
 use js_automaton::Automaton;
 use js_doc::{Memory, StrList};
 use js_row_words::WordCounter;
+use js_said::Taken;
 use std::alloc::Global;
 
 /// The cells of the names of a set. Contracts see them by `cells_view`, with the cell of a name by the row to which it
@@ -63,6 +64,8 @@ impl<'a> Cells<'a> {
         requires atoms { atoms_of automaton.now ≡ atoms_of_names core.now.positions (map signed_view set.now) }
         ensures cells { IfOk result (λ c. cells_view c ≡ cells characters far most_words core.now.positions
             (map signed_view set.now) (rows_of automaton.now)) }
+        ensures table { IfOk result (λ c. c.core.now.positions ≡ core.now.positions) }
+        ensures rows { IfOk result (λ c. rows_of c.automaton.now ≡ rows_of automaton.now) }
     {
         let taken = Taken::of(alloc, core, set)?;
         let grouped = group(alloc, core, automaton, taken.said.as_slice())?;

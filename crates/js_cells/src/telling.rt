@@ -4,14 +4,13 @@ ghost use Rattle.std.specs.Prelude.{◌≡◌, ◌<◌, ◌≤◌, [], map, leng
 ghost use Rattle.documents.specs.Tests.{some};
 ghost use Rattle.list_laws.specs.In.{IsIn};
 ghost use Rattle.js_automaton.specs.AutomatonView.{atoms_of, rows_of};
-ghost use Rattle.js_cells.specs.AtomNumbers.{is_true_at, are_below};
-ghost use Rattle.js_cells.specs.Saying.{IsSaid, tells};
-ghost use Rattle.js_cells.specs.Groups.{told_of};
+ghost use Rattle.js_said.specs.AtomNumbers.{is_true_at, are_below};
+ghost use Rattle.js_said.specs.Saying.{IsSaid, tells, told_of};
 
-use crate::said::Said;
 use js_algebra::Core;
 use js_automaton::Automaton;
 use js_doc::Memory;
+use js_said::Said;
 use std::alloc::Global;
 
 /// What each of the literals says of the words of a row. `truths` is room that is kept from row to row, and so is

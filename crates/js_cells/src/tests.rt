@@ -2,11 +2,12 @@
 
 ghost use Rattle.std.specs.Prelude.{◌≡◌, IfOk, length};
 
-use crate::{Cells, name_atoms};
+use crate::Cells;
 use js_algebra::{Core, NameSet, Node, NodeList, Pattern, PatternList, Pos, RankList, Signed};
 use js_automaton::build;
 use js_doc::{Str, StrList};
 use js_pattern::read_pattern;
+use js_said::name_atoms;
 use std::alloc::Global;
 use std::test::Fail;
 

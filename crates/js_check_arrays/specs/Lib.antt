@@ -1,5 +1,3 @@
--- What one literal asks of an element.
-pub mod Elements
 -- The frame that a frame of arrays stands for.
 pub mod FrameView
 -- What contracts see of the arrays of a set.

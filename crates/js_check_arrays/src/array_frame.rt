@@ -3,11 +3,11 @@
 ghost use Rattle.std.specs.Prelude.{◌≡◌, map, true};
 ghost use Rattle.js_algebra.specs.View.{signed_view, are_in_table};
 
-use crate::elements::{asked, demands, longest, served};
 use js_algebra::{Core, Signed};
 use js_bounds::Bounds;
 use js_check_plans::CheckFrame;
 use js_doc::Memory;
+use js_elements::{asked, demands, longest, served};
 use js_plans::Place;
 use std::alloc::Global;
 

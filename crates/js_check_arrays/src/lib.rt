@@ -5,7 +5,6 @@
 #![tactic(auto)]
 
 mod array_frame;
-mod elements;
 mod open_array;
 
 pub use open_array::OpenArray;

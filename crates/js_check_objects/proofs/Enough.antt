@@ -9,8 +9,8 @@ use Rattle.verdicts.specs.RowLines.{Table, stated}
 use Rattle.verdicts.specs.Bounds.{is_right}
 use Rattle.verdicts.specs.Leaves.{table_cells}
 use Rattle.js_check_rows.specs.Labels.{are_kept, AreBounds}
-use Rattle.js_check_objects.specs.Cells.{row_places}
-use Rattle.js_check_objects.proofs.RowCells.{mark_at}
+use Rattle.js_said.specs.Vectors.{row_places}
+use Rattle.js_said.proofs.RowVectors.{mark_at}
 
 pub kept_right : (T : List Position) (S : List Signed) (atoms : List Atom) (t : Table (List ℕ)) (places : List ℕ)
     (marks seen : List Bool) (labels : List ℕ) (cell : ℕ) → AreBounds atoms t seen labels

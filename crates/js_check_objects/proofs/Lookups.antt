@@ -1,12 +1,14 @@
 -- What is read at a number, where there is something and where there is nothing.
 use Rattle.std.proofs.Common.{◌≡◌, ℕ, zero, suc, ◌<◌, ◌≤◌, Bool, true, false, ◌&&◌, nat_lt, List, [], ◌∷◌, map, length, get_or, Option, None, refl, ap, ap₂, sym, ◌∙◌, arith}
 use Rattle.std.proofs.lemmas.Bool.{lt-ltb, le-ltb}
+use Rattle.std.proofs.lemmas.List.{length-map}
 use Rattle.cells.specs.Cells.{vector_at}
 use Rattle.js_check_rows.specs.Labels.{are_kept, BoundTells}
 use Rattle.js_check_rows.specs.declared.fault.RowFault.{RowFault}
 use Rattle.js_check_rows.specs.declared.fault.RowFault.TheVariants as R
 use Rattle.verdicts.specs.RowLines.{Table}
 use Rattle.word_states.specs.Atom.{Atom}
+use Rattle.js_said.proofs.RowVectors.{kept_at, vector-past}
 use Rattle.js_check_objects.specs.Bounds.{cap_at}
 
 -- bounds of cells
@@ -30,20 +32,8 @@ cap-past os new c e l = cap_none new c l ∙ ap (λ z. cap_at z c) e
 
 -- bits of vectors
 
-kept_at : {V : Type 0} (items : V → List Bool) (ks : List V) (c : ℕ) (d : V) → c < length ks
-    → vector_at (map items ks) c ≡ items (get_or ks c d)
-kept_at items [] c d l = absurd (omega (arith, l))
-kept_at {V = V} items (k ∷ ks) c d l = go c l (kept_at items ks) where
-  go : (c : ℕ) → c < length (k ∷ ks)
-      → ((c : ℕ) (d : V) → c < length ks → vector_at (map items ks) c ≡ items (get_or ks c d))
-      → vector_at (items k ∷ map items ks) c ≡ items (get_or (k ∷ ks) c d)
-  go zero l more = refl
-  go (suc c) l more = more c d (omega (arith, l))
-
 none_at : {V : Type 0} (items : V → List Bool) (ks : List V) (c : ℕ) → length ks ≤ c → vector_at (map items ks) c ≡ []
-none_at items [] c l = refl
-none_at items (k ∷ ks) zero l = absurd (omega (arith, l))
-none_at items (k ∷ ks) (suc c) l = none_at items ks c (omega (arith, l))
+none_at items ks c l = let n = length-map ks items in vector-past (map items ks) c (omega (arith, n, l))
 
 pub bit-within : {V : Type 0} (items : V → List Bool) (ks new : List V) (c i : ℕ) (v : V) (bits : List Bool)
     → new ≡ ks → c < length new → v ≡ get_or new c v → bits ≡ items v

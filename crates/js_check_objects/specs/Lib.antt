@@ -7,7 +7,3 @@ pub mod Told
 pub mod Cells
 pub mod Bounds
 pub mod FrameView
--- What literals that speak of names ask of members, each by its number among them.
-pub mod NameTests
--- The faults of rows as rules that lines break.
-pub mod Faults

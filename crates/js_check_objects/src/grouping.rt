@@ -7,7 +7,7 @@ ghost use Rattle.word_states.specs.Mention.{mention, mention_all};
 ghost use Rattle.cells.specs.Cells.{same_vector, place};
 ghost use Rattle.js_said.specs.Saying.{IsSaid, told_of};
 ghost use Rattle.js_check_rows.specs.RowsView.{atoms_of};
-ghost use Rattle.js_check_objects.specs.Told.{vectors_in};
+ghost use Rattle.js_said.specs.Vectors.{vectors_in};
 ghost use Rattle.js_check_objects.specs.Cells.{rows_of};
 
 use crate::telling::vector;

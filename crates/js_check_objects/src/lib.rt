@@ -6,9 +6,7 @@
 #![tactic(auto)]
 
 mod cell_tests;
-mod fault;
 mod grouping;
-mod literals;
 mod name_cells;
 mod object_frame;
 mod open_bounds;

@@ -2,7 +2,8 @@
 
 ghost use Rattle.std.specs.Prelude.{◌<◌, ◌^◌, map, length};
 ghost use Rattle.js_algebra.specs.View.{signed_view};
-ghost use Rattle.js_check_objects.specs.Told.{AreTold, vectors_in};
+ghost use Rattle.js_said.specs.Vectors.{vectors_in};
+ghost use Rattle.js_check_objects.specs.Told.{AreTold};
 
 use js_algebra::Signed;
 

@@ -6,15 +6,15 @@ ghost use Rattle.frames.specs.Frame.{In};
 ghost use Rattle.frames.specs.ObjectFrame as O;
 ghost use Rattle.js_algebra.specs.View.{signed_view, are_in_table};
 ghost use Rattle.js_check_objects.specs.Cells.{cells_in};
-ghost use Rattle.js_check_objects.specs.NameTests.{passes, asks, are_within, values_within, values_in_table};
+ghost use Rattle.js_name_tests.specs.NameTests.{passes, asks, are_within, values_within, values_in_table};
 
 use crate::cell_tests::{allowed, says};
-use crate::literals::{NameTest, ValueTest, asked_of_server, bars_of, demands_of, values_of};
 use crate::name_cells::NameCells;
 use js_algebra::{Core, Signed};
 use js_bounds::Bounds;
 use js_check_plans::CheckFrame;
 use js_doc::Memory;
+use js_name_tests::{NameTest, ValueTest, asked_of_server, bars_of, demands_of, values_of};
 use js_plans::Place;
 use std::alloc::Global;
 
@@ -61,7 +61,7 @@ impl<'a> ObjectFrame<'a> {
     ghost use Rattle.js_check_objects.specs.Cells.{cells_in};
     ghost use Rattle.js_check_objects.specs.Bounds.{cap_at};
     ghost use Rattle.js_check_objects.specs.FrameView.{frame_view};
-    ghost use Rattle.js_check_objects.specs.NameTests.{asks};
+    ghost use Rattle.js_name_tests.specs.NameTests.{asks};
 
     /// The frame of a set by the cells of its names, with these bounds of the number of names of cells.
     pub(crate) fn new(

@@ -8,8 +8,8 @@ ghost use Rattle.js_algebra.specs.View.{signed_view, are_in_table};
 ghost use Rattle.js_check_rows.specs.RowsView.{atoms_of, count_of, table_of};
 ghost use Rattle.js_check_rows.specs.Labels.{are_kept, AreBounds};
 ghost use Rattle.js_said.specs.AtomCode.{same_atoms-prop};
-ghost use Rattle.js_check_objects.specs.Told.{vectors_in};
-ghost use Rattle.js_check_objects.specs.Cells.{rows_of, row_vectors, row_places};
+ghost use Rattle.js_said.specs.Vectors.{vectors_in, row_vectors, row_places};
+ghost use Rattle.js_check_objects.specs.Cells.{rows_of};
 ghost use Rattle.js_check_objects.specs.Bounds.{bounds_in, cap_at, past, with_cap};
 
 use crate::name_cells::NameCells;

@@ -12,9 +12,8 @@ ghost use Rattle.js_check_rows.specs.RowsView.{atoms_of, count_of, table_of};
 ghost use Rattle.js_check_rows.specs.RowTaking.{may_begin};
 ghost use Rattle.js_said.specs.AtomCode.{same_atoms-prop};
 
-use crate::fault::rule_of;
 use js_algebra::{Core, Signed};
-use js_check_rows::Rows;
+use js_check_rows::{Rows, rule_of};
 use js_nfa::Atom;
 use js_rules::RuleFault;
 use js_said::name_atoms;

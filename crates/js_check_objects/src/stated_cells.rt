@@ -5,8 +5,8 @@ ghost use Rattle.cells.specs.Cells.{naming};
 ghost use Rattle.finders.specs.Names.{atoms_of_names};
 ghost use Rattle.js_algebra.specs.View.{signed_view, are_in_table};
 ghost use Rattle.js_check_rows.specs.RowsView.{atoms_of};
-ghost use Rattle.js_check_objects.specs.Told.{vectors_in};
-ghost use Rattle.js_check_objects.specs.Cells.{rows_of, row_vectors, row_places};
+ghost use Rattle.js_said.specs.Vectors.{vectors_in, row_vectors, row_places};
+ghost use Rattle.js_check_objects.specs.Cells.{rows_of};
 
 use crate::grouping::group;
 use crate::name_cells::NameCells;

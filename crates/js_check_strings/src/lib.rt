@@ -4,10 +4,7 @@
 //! kept from line to line are the rows that were stated, the truths that the literals ask for, and the bound.
 #![tactic(auto)]
 
-mod asked;
 mod open_strings;
-mod rules;
 mod wanted;
-mod wish;
 
 pub use open_strings::OpenStrings;

@@ -4,15 +4,14 @@ ghost use Rattle.std.specs.Prelude.{◌≡◌, ℕ, List};
 ghost use Rattle.finders.specs.Strings as S;
 ghost use Rattle.finders.specs.Strings.{string_atoms, is_wanted};
 ghost use Rattle.js_check_rows.specs.RowsView.{atoms_of};
-ghost use Rattle.js_check_strings.specs.AtomCode.{same_atoms-prop};
-ghost use Rattle.js_check_strings.specs.Asking.{atoms_in, asks};
+ghost use Rattle.js_said.specs.AtomCode.{same_atoms-prop};
+ghost use Rattle.js_asked.specs.Asking.{atoms_in, asks};
 
-use crate::rules::rule_of;
 use crate::wanted::is_as_asked;
-use crate::wish::Asked;
 use js_algebra::{Core, Signed, SignedList};
+use js_asked::Asked;
 use js_bounds::{Bounds, is_at_end};
-use js_check_rows::Rows;
+use js_check_rows::{Rows, rule_of};
 use js_lines::CertLine;
 use js_rules::{Rule, RuleFault};
 use std::alloc::Global;
@@ -46,7 +45,7 @@ impl<'a> OpenStrings<'a> {
     ghost use Rattle.js_lines.specs.View.{line_view};
     ghost use Rattle.js_rules.specs.Told.{Breaks};
     ghost use Rattle.js_check_rows.specs.RowsView.{atoms_of, count_of, table_of as rows_table};
-    ghost use Rattle.js_check_strings.specs.Asking.{atoms_in, asks};
+    ghost use Rattle.js_asked.specs.Asking.{atoms_in, asks};
     ghost use Rattle.js_check_strings.specs.View.{table_of, duties_of};
 
     /// Begins with a line that so many rows follow. It finds the classes of what the literals ask of words.

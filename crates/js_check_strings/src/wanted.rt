@@ -2,9 +2,9 @@
 
 ghost use Rattle.std.specs.Prelude.{◌≡◌, ◌<◌, [], length, get_or};
 ghost use Rattle.js_check_rows.specs.RowsView.{atoms_of, table_of};
-ghost use Rattle.js_check_strings.specs.Asking.{atoms_in, asks};
+ghost use Rattle.js_asked.specs.Asking.{atoms_in, asks};
 
-use crate::wish::Asked;
+use js_asked::Asked;
 use js_check_rows::Rows;
 
 /// Whether the words of a row that was mentioned are as asked for.

@@ -1,7 +1,3 @@
-mod Ranges
-mod Said
-mod Telling
-mod Framing
 mod Finding
 mod SameAtoms
 mod Past

@@ -1,6 +1,7 @@
 -- A cell that isn't there has no words.
-use Rattle.std.proofs.Common.{◌≡◌, ℕ, ◌<◌, ◌≤◌, inl, Bool, true, false, cond, List, [], ◌∷◌, map, filter, length, nat_eq, Ok, refl, ap, sym, ◌∙◌, subst, arith}
-use Rattle.std.proofs.lemmas.Bool.{and_parts, ltb-true, ne_eqb}
+use Rattle.std.proofs.Common.{◌≡◌, ℕ, ◌<◌, ◌≤◌, inl, inr, Bool, true, false, cond, List, [], ◌∷◌, map, filter, length, get_or, nat_eq, Ok, refl, ap, sym, ◌∙◌, subst, arith}
+use Rattle.std.proofs.lemmas.Bool.{and_parts, cases_lt, ltb-true, ne_eqb}
+use Rattle.std.proofs.lemmas.List.{get_or_past}
 use Rattle.word_states.specs.Classes.{characters}
 use Rattle.word_states.specs.Mention.{mention_all}
 use Rattle.positions.specs.Position.{Position, is_table}
@@ -17,6 +18,14 @@ use Rattle.js_algebra.specs.View.{is_in_table, are_in_table}
 use Rattle.js_automaton.specs.AutomatonView.{atoms_of, rows_of}
 use Rattle.js_automaton.specs.declared.automaton.Automaton.{Automaton}
 use Rattle.js_objects.specs.Steps.{IsOfNames, cells_by}
+
+-- a list that has the first numbers has them all, where the others are none
+pub counts-all : (f : ℕ → ℕ) (xs : List ℕ) (n : ℕ) → length xs ≡ n → ((c : ℕ) → c < n → get_or xs c 0 ≡ f c)
+    → ((c : ℕ) → n ≤ c → f c ≡ 0) → (c : ℕ) → get_or xs c 0 ≡ f c
+counts-all f xs n e first rest c = elim (cases_lt c n) [
+  | inl l ↦ first c l
+  | inr l ↦ get_or_past xs c 0 (omega (arith, e, l)) ∙ sym (rest c l)
+]
 
 none_in : (ws : List (List ℕ)) → ((w : List ℕ) → IsIn w ws → ⊥) → ws ≡ []
 none_in [] h = refl

@@ -2,8 +2,6 @@
 pub mod Leaves
 -- What the steps to a leaf have found.
 pub mod Steps
--- What literals that speak of names ask of members, each by its number among them.
-pub mod NameTests
 -- The frame that a frame of objects stands for.
 pub mod FrameView
 -- The faults of automata and of plans as faults of objects.

@@ -10,7 +10,7 @@ use Rattle.finders.specs.WordsFound.{far}
 use Rattle.finders.specs.Names.{atoms_of_names, cells_of}
 use Rattle.js_automaton.specs.AutomatonView.{atoms_of, rows_of}
 use Rattle.js_automaton.specs.declared.automaton.Automaton.{Automaton}
-use Rattle.js_objects.specs.declared.bounds.Bounds.{Bounds}
+use Rattle.js_bounds.specs.declared.bounds.Bounds.{Bounds}
 
 -- those of the set, and no more than may be asked for
 pub record AreOpen (T : List Position) (S : List Signed) (bounds : Bounds) : Type 0 where

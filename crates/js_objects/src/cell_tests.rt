@@ -4,11 +4,11 @@ ghost use Rattle.std.specs.Prelude.{◌≡◌, ◌<◌, ◌≤◌, ℕ, min, not
 ghost use Rattle.std.specs.List.{range_with_len};
 ghost use Rattle.documents.specs.Tests.{some};
 ghost use Rattle.js_cells.specs.View.{cells_view};
-ghost use Rattle.js_objects.specs.NameTests.{says_at, passes, are_within};
+ghost use Rattle.js_name_tests.specs.NameTests.{says_at, passes, are_within};
 
-use crate::literals::NameTest;
 use js_cells::Cells;
 use js_doc::Memory;
+use js_name_tests::NameTest;
 use std::alloc::Global;
 
 /// What the literal of that number says of the names of a cell; false where there is no such cell.

@@ -7,16 +7,18 @@ ghost use Rattle.frames.specs.ObjectFrame as O;
 ghost use Rattle.expansions.specs.Leaves.{by_name, plan_alternative, by_plans};
 ghost use Rattle.finders.specs.Names.{cells_of};
 ghost use Rattle.js_algebra.specs.View.{signed_view, are_in_table};
+ghost use Rattle.js_automaton.specs.AutomatonView.{rows_of};
+ghost use Rattle.js_cells.specs.View.{cells_view};
 ghost use Rattle.js_objects.specs.FrameView.{frame_view};
 ghost use Rattle.js_objects.specs.Leaves.{Answers, Follows, Makes, Says, planned_leaf};
 ghost use Rattle.js_objects.specs.Steps.{AreOpen, IsOfNames, cells_by};
 
-use crate::bounds::Bounds;
 use crate::fault::ObjectFault;
 use crate::names::{KeptNames, Names};
 use crate::object_frame::ObjectFrame;
 use js_algebra::{BranchId, Core, JsonKind, Signed};
 use js_automaton::Automaton;
+use js_bounds::Bounds;
 use js_cells::Cells;
 use js_doc::Memory;
 use js_expansion::{AlternativeList, Leaf};
@@ -66,7 +68,7 @@ fn leaf(
     requires table { is_table core.now.positions core.now.ranks ≡ true }
     ensures { Answers core.now.positions number (map signed_view set.now) result }
 {
-    let bounds = Bounds::of(core, set);
+    let bounds = Bounds::of_objects(core, set);
     if bounds.are_crossed() {
         return Ok(Leaf {
             alternatives: AlternativeList::from_vec(Vec::new(alloc)),
@@ -134,7 +136,7 @@ fn planned(alloc: Global, frame: &ObjectFrame, number: u32) -> Result<Leaf, Obje
 }
 
 /// The frame over the cells of the automaton's rows.
-fn frame_of<'a>(
+pub fn frame_of<'a>(
     alloc: Global,
     core: &'a Core,
     set: &'a [Signed],
@@ -148,6 +150,10 @@ fn frame_of<'a>(
     ensures frame { IfOk result (λ f. frame_view f ≡ O.object_frame core.now.positions
         (cells_by core.now.positions (map signed_view set.now) automaton.now) (map signed_view set.now)) }
     ensures table { IfOk result (λ f. f.core.now.positions ≡ core.now.positions) }
+    ensures cells { IfOk result (λ f. cells_view f.cells
+        ≡ cells_by core.now.positions (map signed_view set.now) automaton.now) }
+    ensures cell_table { IfOk result (λ f. f.cells.core.now.positions ≡ core.now.positions) }
+    ensures rows { IfOk result (λ f. rows_of f.cells.automaton.now ≡ rows_of automaton.now) }
 {
     let cells = Cells::new(alloc, core, set, automaton)?;
     ObjectFrame::new(alloc, core, set, bounds, cells)

@@ -6,18 +6,17 @@
 //! the automaton with its cells again, and the names.
 #![tactic(auto)]
 
-mod bounds;
 mod cell_tests;
 mod fault;
 mod leaf;
-mod literals;
 mod names;
 mod object_frame;
 mod words;
 
 pub use fault::ObjectFault;
-pub use leaf::{MOST_COUNTS, object_alternatives};
-pub use names::KeptNames;
+pub use leaf::{MOST_COUNTS, frame_of, object_alternatives};
+pub use names::{KeptNames, Names};
+pub use object_frame::ObjectFrame;
 pub use words::object_words;
 
 #[cfg(test)]

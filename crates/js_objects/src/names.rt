@@ -11,21 +11,21 @@ ghost use Rattle.finders.specs.Names.{cells_of};
 ghost use Rattle.js_algebra.specs.View.{signed_view, are_in_table};
 ghost use Rattle.js_nfa.specs.AtomView.{atom_view};
 ghost use Rattle.js_automaton.specs.AutomatonView.{atoms_of};
-ghost use Rattle.js_cells.specs.AtomCode.{same_atoms-prop};
+ghost use Rattle.js_said.specs.AtomCode.{same_atoms-prop};
 ghost use Rattle.js_objects.specs.Leaves.{NamesFail};
 ghost use Rattle.js_objects.specs.Steps.{IsOfNames};
 
 use js_algebra::{Core, Signed};
 use js_automaton::{AutoFault, Automaton, build};
-use js_cells::name_atoms;
 use js_nfa::Atom;
+use js_said::name_atoms;
 use std::alloc::Global;
 
 /// An automaton with the atoms that it was built of.
 #[derive(Drop)]
-pub(crate) struct Names {
+pub struct Names {
     atoms: Vec<Atom>,
-    pub(crate) automaton: Automaton,
+    pub automaton: Automaton,
     ghost of_atoms: { atoms_of automaton ≡ map atom_view atoms.items } by { same_atoms-prop (atoms_of automaton) (map atom_view atoms.items) },
     ghost positions: { positions_of (map atom_view atoms.items) ≤ 16384 },
     ghost classes: { class_count (map atom_view atoms.items) ≤ 1024 },
@@ -34,7 +34,7 @@ pub(crate) struct Names {
 /// What is kept of names between two branches.
 #[derive(Drop)]
 pub struct KeptNames {
-    pub(crate) names: Option<Names>,
+    pub names: Option<Names>,
 }
 
 impl KeptNames {
@@ -47,7 +47,7 @@ impl KeptNames {
 impl Names {
     /// The automaton of the atoms of what a set says of names: its rows make the cells. The one that is kept serves where
     /// it is of the same atoms in the same order.
-    pub(crate) fn of_set(
+    pub fn of_set(
         alloc: Global,
         core: &Core,
         set: &[Signed],

@@ -6,14 +6,14 @@ ghost use Rattle.frames.specs.Frame.{In};
 ghost use Rattle.frames.specs.ObjectFrame as O;
 ghost use Rattle.js_algebra.specs.View.{signed_view, are_in_table};
 ghost use Rattle.js_cells.specs.View.{cells_view};
-ghost use Rattle.js_objects.specs.NameTests.{passes, asks, are_within, values_within, values_in_table};
+ghost use Rattle.js_name_tests.specs.NameTests.{passes, asks, are_within, values_within, values_in_table};
 
-use crate::bounds::Bounds;
 use crate::cell_tests::{allowed, counts, says};
-use crate::literals::{NameTest, ValueTest, asked_of_server, bars_of, demands_of, values_of};
 use js_algebra::{Core, Signed};
+use js_bounds::Bounds;
 use js_cells::Cells;
 use js_doc::Memory;
+use js_name_tests::{NameTest, ValueTest, asked_of_server, bars_of, demands_of, values_of};
 use js_plans::{Place, PlanFrame};
 use std::alloc::Global;
 
@@ -23,7 +23,7 @@ const MOST_NAMES: u32 = 65_537;
 /// What a set asks of the members of an object, by the cells of their names. `frame_view` is the frame that it stands
 /// for.
 #[derive(Drop)]
-pub(crate) struct ObjectFrame<'a> {
+pub struct ObjectFrame<'a> {
     core: &'a Core,
     set: &'a [Signed],
     cells: Cells<'a>,
@@ -63,7 +63,7 @@ impl<'a> ObjectFrame<'a> {
     ghost use Rattle.js_algebra.specs.View.{signed_view, are_in_table};
     ghost use Rattle.js_cells.specs.View.{cells_view};
     ghost use Rattle.js_objects.specs.FrameView.{frame_view};
-    ghost use Rattle.js_objects.specs.NameTests.{asks};
+    ghost use Rattle.js_name_tests.specs.NameTests.{asks};
 
     /// The frame of a set, which asks for so many members, by the cells of its names.
     pub(crate) fn new(
@@ -82,6 +82,7 @@ impl<'a> ObjectFrame<'a> {
         ensures frame { IfOk result (λ f. frame_view f
             ≡ O.object_frame core.now.positions (cells_view cells.entry) (map signed_view set.now)) }
         ensures table { IfOk result (λ f. f.core.now.positions ≡ core.now.positions) }
+        ensures cells { IfOk result (λ f. f.cells ≡ cells.entry) }
     {
         let names = cells.names();
         let bars = bars_of(alloc, core, names)?;
@@ -101,6 +102,13 @@ impl<'a> ObjectFrame<'a> {
             allowed,
             counts,
         })
+    }
+
+    /// The cells of the names.
+    pub fn name_cells(&self) -> &Cells<'a>
+        ensures { result.now ≡ self.now.cells }
+    {
+        &self.cells
     }
 
     /// How many names a cell has, cut.

@@ -2,8 +2,6 @@
 pub mod Adding
 -- A row is named by an earlier one, whose word is shorter by one letter.
 pub mod RowLengths
--- Atoms that are added, each once.
-pub mod AtomKeys
 -- The rows of an automaton are those that are stated.
 pub mod OwnRows
 -- Numbers of words that lead into a cell, row by row.

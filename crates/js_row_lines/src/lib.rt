@@ -6,7 +6,6 @@
 mod caps;
 mod least;
 mod rows;
-mod string_atoms;
 mod strings;
 
 pub use caps::add_cap_lines;

@@ -10,9 +10,10 @@ ghost use Rattle.js_lines.specs.View.{line_view};
 
 use crate::least::least_line;
 use crate::rows::add_row_lines;
-use crate::string_atoms::string_atoms;
 use js_algebra::{Core, Signed};
+use js_asked::Asked;
 use js_automaton::{Automaton, build};
+use js_bounds::Bounds;
 use js_doc::Memory;
 use js_lines::CertLine;
 use js_nfa::Atom;
@@ -32,8 +33,9 @@ pub fn add_string_lines(
     ensures { OnOk result (map line_view lines.new.items ≡ map line_view lines.old.items
         ++ string_lines core.now.positions (map signed_view set.now)) }
 {
-    let atoms = string_atoms(alloc, core, set)?;
-    add_lines_of(alloc, atoms.as_slice(), lines)
+    let least = Bounds::of_strings(core, set).lower;
+    let asked = Asked::of(alloc, core, set, least)?;
+    add_lines_of(alloc, asked.atoms(), lines)
 }
 
 /// Adds the lines of the atoms' automaton.

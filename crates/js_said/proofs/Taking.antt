@@ -1,6 +1,5 @@
 -- Atoms that are taken get numbers, and keep them.
-use Rattle.std.proofs.Common.{◌≡◌, ℕ, suc, ◌+◌, ◌<◌, Bool, true, false, ◌||◌, if◌then◌else◌, nat_lt, List, [], ◌∷◌, ◌++◌, map, flat_map, take, drop, drop-cons, length, get_or, Some, slice_get, refl, ap, ap₂, sym, ◌∙◌, subst, append-nil, append_assoc, length-append, arith}
-use Rattle.std.specs.List.{list_any}
+use Rattle.std.proofs.Common.{◌≡◌, ℕ, suc, ◌+◌, ◌<◌, Bool, true, nat_lt, List, [], ◌∷◌, ◌++◌, map, flat_map, take, drop, drop-cons, length, get_or, Some, slice_get, refl, ap, ap₂, sym, ◌∙◌, subst, append-nil, append_assoc, length-append, arith}
 use Rattle.std.proofs.Math.Seq.{take-suc}
 use Rattle.std.proofs.lemmas.Bool.{and_parts, and_from, lt-ltb, ltb-true}
 use Rattle.std.proofs.lemmas.List.{length-map, map-append, get_or_append_left, get_or-map}
@@ -25,6 +24,7 @@ use Rattle.js_algebra.specs.declared.names.NameSet.TheVariants as E
 use Rattle.js_nfa.specs.AtomView.{atom_view}
 use Rattle.js_nfa.specs.declared.atom.Atom.{Atom}
 use Rattle.js_said.specs.AtomNumbers.{atom_at, are_below, AreNumbers, Takes}
+use Rattle.js_said.proofs.AtomKeys.{same_key, keys_views}
 
 -- numbers stay where atoms are added
 
@@ -59,27 +59,6 @@ numbers_push B ks ys i a n l e = record {
       (and_from (nat_lt i (length B)) true (lt-ltb i (length B) l) refl);
   atoms = map-append (atom_at B) ks (i ∷ []) ∙ ap₂ (λ zs z. zs ++ z ∷ []) n.atoms e;
 }
-
--- the keys of a set as atoms
-
-abbrev same_key : Atom → Atom → Bool
-same_key a b = same_atom (atom_view a) (atom_view b)
-
-any_views : (a : Atom) (ks : List Atom)
-    → list_any (same_key a) ks ≡ list_any (same_atom (atom_view a)) (map atom_view ks)
-any_views a [] = refl
-any_views a (k ∷ ks) = ap (λ y. same_atom (atom_view a) (atom_view k) || y) (any_views a ks)
-
-keys_views : (a : Atom) (ks : List Atom)
-    → map atom_view (insert_key same_key ks a) ≡ mention same_atom (map atom_view ks) (atom_view a)
-keys_views a ks =
-    go (list_any (same_key a) ks)
-    ∙ ap (λ b. if b then map atom_view ks else map atom_view ks ++ atom_view a ∷ []) (any_views a ks) where
-      go : (b : Bool) → map atom_view (if b then ks else ks ++ a ∷ [])
-          ≡ (if b then map atom_view ks else map atom_view ks
-          ++ atom_view a ∷ [])
-      go true = refl
-      go false = map-append atom_view ks (a ∷ [])
 
 -- an atom is taken by a set of keys, and its number is added
 pub taken_one : (ks new : List Atom) (ls more : List ℕ) (a : Atom) (i : ℕ) → new ≡ insert_key same_key ks a

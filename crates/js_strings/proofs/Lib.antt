@@ -1,3 +1,2 @@
-mod Wishing
 mod Finding
 pub mod LeafLaws

@@ -5,12 +5,9 @@
 //! for. It is spelled backwards by the steps that first named each row.
 #![tactic(auto)]
 
-mod asked;
-mod bounds;
 mod rows;
 mod strings;
 #[cfg(test)]
 mod tests;
-mod wish;
 
 pub use strings::{string_alternatives, string_words};

@@ -3,9 +3,9 @@
 ghost use Rattle.std.specs.Prelude.{◌≡◌, ◌<◌, ℕ, [], length, get_or, true, false};
 ghost use Rattle.std.specs.Option.{MatchOption};
 ghost use Rattle.js_automaton.specs.AutomatonView.{atoms_of, rows_of};
-ghost use Rattle.js_strings.specs.Asking.{atoms_in, asks};
+ghost use Rattle.js_asked.specs.Asking.{atoms_in, asks};
 
-use crate::wish::Asked;
+use js_asked::Asked;
 use js_automaton::Automaton;
 
 /// The first row whose words are as asked for.

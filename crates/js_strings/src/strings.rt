@@ -15,11 +15,11 @@ ghost use Rattle.js_automaton.specs.AutomatonView.{rows_of};
 ghost use Rattle.js_expansion.specs.AlternativeView.{alternative_view};
 ghost use Rattle.js_strings.specs.Answers.{FaultSays};
 
-use crate::bounds::{below, is_at_end, lower};
 use crate::rows::first_row;
-use crate::wish::Asked;
 use js_algebra::{BranchId, Core, JsonKind, Signed};
+use js_asked::Asked;
 use js_automaton::{AutoFault, Automaton, build};
+use js_bounds::{Bounds, is_at_end};
 use js_doc::{Memory, Str, StrList};
 use js_expansion::{Alternative, AlternativeList, FillerList, Leaf, PlacedList, Shape};
 use js_row_words::{letters_of, spell, steps};
@@ -33,15 +33,14 @@ fn find(alloc: Global, core: &Core, set: &[Signed]) -> Result<Option<Vec<char>>,
         ≡ Ok (option_map (λ v. reverse v.items) letters)) }
     ensures fault { IfErr result (λ fault. FaultSays (strings_of core.now.positions (map signed_view set.now)) fault) }
 {
-    let least = lower(core, set);
-    let end = below(core, set);
-    if is_at_end(least, end) {
+    let bounds = Bounds::of_strings(core, set);
+    if bounds.are_crossed() {
         return Ok(None);
     }
-    let asked = Asked::of(alloc, core, set, least)?;
+    let asked = Asked::of(alloc, core, set, bounds.lower)?;
     let automaton = build(alloc, asked.atoms())?;
     match first_row(&asked, &automaton) {
-        Some(row) => Ok(if_below(reached(alloc, &automaton, row)?, end)),
+        Some(row) => Ok(if_below(reached(alloc, &automaton, row)?, bounds.below)),
         None => Ok(None),
     }
 }

@@ -1,7 +1,7 @@
 use Rattle.std.proofs.Common.{arith}
 use Rattle.js_automaton.specs.AutomatonView.{atoms_of, rows_of}
-use Rattle.js_cells.specs.Groups.{told_of}
-use Rattle.js_cells.proofs.Vectors.{grouped_next, grouped_few}
+use Rattle.js_said.specs.Saying.{told_of}
+use Rattle.js_said.proofs.Vectors.{grouped_next, grouped_few}
 use Rattle.js_cells.proofs.grouping.group.Goals as goal
 
 pub add-requires : goal.add-requires

@@ -1,8 +1,9 @@
 -- The rows before are grouped.
 use Rattle.std.proofs.Common.{◌≤◌, take, length}
 use Rattle.js_automaton.specs.AutomatonView.{atoms_of, rows_of}
-use Rattle.js_cells.specs.Groups.{vectors_in, told_of}
-use Rattle.js_cells.proofs.Vectors.{AreGrouped}
+use Rattle.js_said.specs.Saying.{told_of}
+use Rattle.js_said.specs.Vectors.{vectors_in}
+use Rattle.js_said.proofs.Vectors.{AreGrouped}
 use Rattle.js_cells.proofs.grouping.group.Given as goal
 
 abbrev pub invariant-loop-row : goal.invariant-loop-row

@@ -2,7 +2,7 @@
 use Rattle.std.proofs.Common.{◌≡◌, [], drop, get_or, true}
 use Rattle.documents.specs.Tests.{some}
 use Rattle.js_automaton.specs.AutomatonView.{atoms_of, rows_of}
-use Rattle.js_cells.specs.AtomNumbers.{is_true_at, are_below}
+use Rattle.js_said.specs.AtomNumbers.{is_true_at, are_below}
 use Rattle.js_cells.proofs.telling.is_any_true.Given as goal
 
 abbrev pub invariant-loop-number : goal.invariant-loop-number

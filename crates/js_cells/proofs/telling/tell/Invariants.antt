@@ -1,7 +1,7 @@
 -- The truths so far, and then those of the atoms that are left.
 use Rattle.std.proofs.Common.{◌≡◌, ◌++◌, [], map, drop, get_or, true}
 use Rattle.js_automaton.specs.AutomatonView.{atoms_of, rows_of}
-use Rattle.js_cells.specs.AtomNumbers.{is_true_at, are_below}
+use Rattle.js_said.specs.AtomNumbers.{is_true_at, are_below}
 use Rattle.js_cells.proofs.telling.tell.Given as goal
 
 abbrev pub invariant-loop-number : goal.invariant-loop-number

@@ -1,6 +1,6 @@
 use Rattle.std.proofs.Common.{[], get_or}
 use Rattle.js_automaton.specs.AutomatonView.{atoms_of, rows_of}
-use Rattle.js_cells.proofs.Formulas.{told_planned}
+use Rattle.js_said.proofs.Formulas.{told_planned}
 use Rattle.js_cells.proofs.telling.truth.Goals as goal
 
 pub returns-in_ok-tell-in-Planned : goal.returns-in_ok-tell-in-Planned

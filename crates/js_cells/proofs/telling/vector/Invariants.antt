@@ -1,7 +1,7 @@
 -- What is said so far, and then what is left.
 use Rattle.std.proofs.Common.{◌≡◌, ◌++◌, [], drop, get_or}
 use Rattle.js_automaton.specs.AutomatonView.{atoms_of, rows_of}
-use Rattle.js_cells.specs.Groups.{told_of}
+use Rattle.js_said.specs.Saying.{told_of}
 use Rattle.js_cells.proofs.telling.vector.Given as goal
 
 abbrev pub invariant-loop-s : goal.invariant-loop-s

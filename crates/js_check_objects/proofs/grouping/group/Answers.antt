@@ -2,7 +2,7 @@ use Rattle.std.proofs.Common.{arith}
 use Rattle.js_check_rows.specs.RowsView.{atoms_of}
 use Rattle.js_check_objects.specs.Cells.{rows_of}
 use Rattle.js_said.specs.Saying.{told_of}
-use Rattle.js_check_objects.proofs.Vectors.{grouped_next, grouped_few}
+use Rattle.js_said.proofs.Vectors.{grouped_next, grouped_few}
 use Rattle.js_check_objects.proofs.grouping.group.Goals as goal
 
 pub add-requires : goal.add-requires

@@ -3,8 +3,8 @@ use Rattle.std.proofs.Common.{◌≤◌, take, length}
 use Rattle.js_check_rows.specs.RowsView.{atoms_of}
 use Rattle.js_check_objects.specs.Cells.{rows_of}
 use Rattle.js_said.specs.Saying.{told_of}
-use Rattle.js_check_objects.specs.Told.{vectors_in}
-use Rattle.js_check_objects.proofs.Vectors.{AreGrouped}
+use Rattle.js_said.specs.Vectors.{vectors_in}
+use Rattle.js_said.proofs.Vectors.{AreGrouped}
 use Rattle.js_check_objects.proofs.grouping.group.Given as goal
 
 abbrev pub invariant-loop-row : goal.invariant-loop-row

@@ -6,9 +6,10 @@ use Rattle.js_algebra.specs.View.{signed_view}
 use Rattle.js_nfa.specs.AtomView.{atom_view}
 use Rattle.js_said.proofs.Literals.{said_each, said_vectors, said_places}
 use Rattle.js_check_rows.specs.RowsView.{atoms_of}
-use Rattle.js_check_objects.specs.Told.{vectors_in}
+use Rattle.js_said.specs.Vectors.{vectors_in}
 use Rattle.js_check_objects.specs.Cells.{rows_of}
-use Rattle.js_check_objects.proofs.RowCells.{are_told, vectors-few}
+use Rattle.js_said.proofs.RowVectors.{vectors-few}
+use Rattle.js_check_objects.proofs.RowCells.{are_told}
 use Rattle.js_check_objects.proofs.stated_cells.stated_cells.Goals as goal
 
 pub group-requires : goal.group-requires

@@ -2,8 +2,8 @@ use Rattle.std.proofs.Common.{not, arith}
 use Rattle.std.proofs.lemmas.Grind.{common_steps}
 use Rattle.documents.specs.Tests.{some}
 use Rattle.js_cells.specs.View.{cells_view}
-use Rattle.js_objects.specs.NameTests.{passes}
-use Rattle.js_objects.proofs.Ranges.{filter-range-more}
+use Rattle.js_name_tests.specs.NameTests.{passes}
+use Rattle.js_name_tests.proofs.Ranges.{filter-range-more}
 use Rattle.js_objects.proofs.cell_tests.allowed.Goals as goal
 
 pub loop-cell-preserved : goal.loop-cell-preserved

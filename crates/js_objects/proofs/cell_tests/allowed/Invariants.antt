@@ -3,7 +3,7 @@ use Rattle.std.proofs.Common.{◌≡◌, filter, not}
 use Rattle.std.specs.List.{range_with_len}
 use Rattle.documents.specs.Tests.{some}
 use Rattle.js_cells.specs.View.{cells_view}
-use Rattle.js_objects.specs.NameTests.{passes}
+use Rattle.js_name_tests.specs.NameTests.{passes}
 use Rattle.js_objects.proofs.cell_tests.allowed.Given as goal
 
 abbrev pub invariant-loop-cell : goal.invariant-loop-cell

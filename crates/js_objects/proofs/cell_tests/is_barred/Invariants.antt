@@ -2,7 +2,7 @@
 use Rattle.std.proofs.Common.{◌≡◌, drop, length, true}
 use Rattle.documents.specs.Tests.{some}
 use Rattle.js_cells.specs.View.{cells_view}
-use Rattle.js_objects.specs.NameTests.{passes, are_within}
+use Rattle.js_name_tests.specs.NameTests.{passes, are_within}
 use Rattle.js_objects.proofs.cell_tests.is_barred.Given as goal
 
 abbrev pub invariant-loop-bar : goal.invariant-loop-bar

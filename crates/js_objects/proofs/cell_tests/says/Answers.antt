@@ -3,7 +3,7 @@ use Rattle.std.proofs.Common.{◌∙◌, get_or, sym, arith}
 use Rattle.goals.specs.Signed.{Plus}
 use Rattle.std.proofs.lemmas.Bool.{le-ltb}
 use Rattle.js_cells.specs.View.{cells_view}
-use Rattle.js_objects.proofs.Telling.{truth-past}
+use Rattle.js_name_tests.proofs.Telling.{truth-past}
 use Rattle.js_objects.proofs.cell_tests.says.Goals as goal
 
 pub returns-else-cell-len : goal.returns-else-cell-len

@@ -1,7 +1,7 @@
 -- No row before is as asked for.
 use Rattle.std.proofs.Common.{◌≡◌, ℕ, ◌<◌, [], get_or, false}
 use Rattle.js_automaton.specs.AutomatonView.{rows_of}
-use Rattle.js_strings.specs.Asking.{asks}
+use Rattle.js_asked.specs.Asking.{asks}
 use Rattle.js_strings.proofs.rows.first_row.Given as goal
 
 abbrev pub invariant-loop-row : goal.invariant-loop-row

@@ -1,8 +1,8 @@
 -- The wishes that are left decide.
 use Rattle.std.proofs.Common.{◌≡◌, [], drop, get_or, true}
 use Rattle.js_automaton.specs.AutomatonView.{rows_of}
-use Rattle.js_strings.specs.Asking.{atoms_in}
-use Rattle.js_strings.specs.Wishes.{are_within, are_met}
+use Rattle.js_asked.specs.Asking.{atoms_in}
+use Rattle.js_asked.specs.Wishes.{are_within, are_met}
 use Rattle.js_strings.proofs.rows.is_as_asked.Given as goal
 
 abbrev pub invariant-loop-wish : goal.invariant-loop-wish

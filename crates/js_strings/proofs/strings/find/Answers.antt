@@ -5,18 +5,19 @@ use Rattle.finders.specs.Strings.{string_atoms, strings_of}
 use Rattle.js_algebra.specs.View.{signed_view}
 use Rattle.js_nfa.specs.AtomView.{atom_view}
 use Rattle.js_automaton.specs.AutomatonView.{rows_of}
-use Rattle.js_strings.specs.Asking.{asks}
+use Rattle.js_asked.specs.Asking.{asks}
 use Rattle.js_strings.proofs.Finding.{crossed_none, fault_says, none_answer, row_answer, end_of, memory_says, passed_says}
 use Rattle.js_strings.proofs.strings.find.Goals as goal
 
-pub returns-then-is_at_end-clause-found : goal.returns-then-is_at_end-clause-found
-returns-then-is_at_end-clause-found c =
+pub returns-then-are_crossed-clause-found : goal.returns-then-are_crossed-clause-found
+returns-then-are_crossed-clause-found c =
     let T = c.args.core.now.positions in
     let X = map signed_view c.args.set.now in
     crossed_none T X
-    (end_of T X c.lower-least.result c.below-end.result c.is_at_end.result true c.lower-least.ensures
-    c.below-end.ensures
-    c.is_at_end.ensures c.if-is_at_end.true)
+    (end_of T X c.of_strings-bounds.result.lower c.of_strings-bounds.result.below c.are_crossed.result true
+    c.of_strings-bounds.ensures.lower
+    c.of_strings-bounds.ensures.below
+    c.are_crossed.ensures c.if-are_crossed.true)
 
 pub returns-in_err-asked-clause-fault : goal.returns-in_err-asked-clause-fault
 returns-in_err-asked-clause-fault c = memory_says c.from_residual.result
@@ -29,8 +30,9 @@ returns-in_err-automaton-clause-fault c =
     passed_says c.from_residual-in_err-automaton.result (strings_of T X) c.in_err-automaton.field-0.0
     c.from_residual-in_err-automaton.ensures.1
     (fault_says T X
-    (end_of T X c.lower-least.result c.below-end.result c.is_at_end.result false c.lower-least.ensures
-    c.below-end.ensures c.is_at_end.ensures c.if-is_at_end.false)
+    (end_of T X c.of_strings-bounds.result.lower c.of_strings-bounds.result.below c.are_crossed.result false
+    c.of_strings-bounds.ensures.lower
+    c.of_strings-bounds.ensures.below c.are_crossed.ensures c.if-are_crossed.false)
     (map atom_view c.atoms.result.now) (c.atoms.ensures ∙ c.in_ok-asked.ensures.atoms) c.in_err-automaton.field-0.0
     c.in_err-automaton.ensures.limit_positions c.in_err-automaton.ensures.limit_classes
     c.in_err-automaton.ensures.limit_states)
@@ -46,14 +48,15 @@ returns-in-Some-clause-found c =
     let X = map signed_view c.args.set.now in
     let a = c.in_ok-automaton.automaton in
     row_answer T X
-    (end_of T X c.lower-least.result c.below-end.result c.is_at_end.result false c.lower-least.ensures
-    c.below-end.ensures c.is_at_end.ensures c.if-is_at_end.false)
+    (end_of T X c.of_strings-bounds.result.lower c.of_strings-bounds.result.below c.are_crossed.result false
+    c.of_strings-bounds.ensures.lower
+    c.of_strings-bounds.ensures.below c.are_crossed.ensures c.if-are_crossed.false)
     (map atom_view c.atoms.result.now) (c.atoms.ensures ∙ c.in_ok-asked.ensures.atoms) (rows_of a)
     (subst (λ z. AreRows z (rows_of a)) c.in_ok-automaton.ensures.atoms a.found.1.0) a.found.1.1
     c.in_ok-automaton.ensures.positions c.in_ok-automaton.ensures.classes (asks c.in_ok-asked.asked)
     c.in_ok-asked.ensures.words c.in-Some.row c.in-Some.ensures.0 c.in-Some.ensures.1 c.in-Some.ensures.2
     ∙ ap Ok
-    (ap₂ (λ b w. S.if_below b (Some w)) (sym c.below-end.ensures) (sym c.in_ok-reached-in-Some.ensures)
+    (ap₂ (λ b w. S.if_below b (Some w)) (sym c.of_strings-bounds.ensures.below) (sym c.in_ok-reached-in-Some.ensures)
     ∙ sym c.if_below.ensures)
 
 pub returns-clause-found : goal.returns-clause-found
@@ -62,8 +65,9 @@ returns-clause-found c =
     let X = map signed_view c.args.set.now in
     let a = c.in_ok-automaton.automaton in
     none_answer T X
-    (end_of T X c.lower-least.result c.below-end.result c.is_at_end.result false c.lower-least.ensures
-    c.below-end.ensures c.is_at_end.ensures c.if-is_at_end.false)
+    (end_of T X c.of_strings-bounds.result.lower c.of_strings-bounds.result.below c.are_crossed.result false
+    c.of_strings-bounds.ensures.lower
+    c.of_strings-bounds.ensures.below c.are_crossed.ensures c.if-are_crossed.false)
     (map atom_view c.atoms.result.now) (c.atoms.ensures ∙ c.in_ok-asked.ensures.atoms) (rows_of a)
     (subst (λ z. AreRows z (rows_of a)) c.in_ok-automaton.ensures.atoms a.found.1.0) a.found.1.1
     c.in_ok-automaton.ensures.positions c.in_ok-automaton.ensures.classes (asks c.in_ok-asked.asked)

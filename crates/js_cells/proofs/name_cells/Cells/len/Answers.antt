@@ -3,7 +3,7 @@ use Rattle.std.proofs.lemmas.List.{length-map}
 use Rattle.cells.specs.Cells.{naming}
 use Rattle.js_algebra.specs.View.{signed_view}
 use Rattle.js_automaton.specs.AutomatonView.{rows_of}
-use Rattle.js_cells.proofs.RowMarks.{vectors-few}
+use Rattle.js_said.proofs.RowVectors.{vectors-few}
 use Rattle.js_cells.proofs.name_cells.Cells.len.Goals as goal
 
 pub overflow_cast-result : goal.overflow_cast-result

@@ -3,8 +3,8 @@ use Rattle.cells.specs.Cells.{naming}
 use Rattle.js_algebra.specs.View.{signed_view}
 use Rattle.js_automaton.specs.AutomatonView.{atoms_of, rows_of}
 use Rattle.js_nfa.specs.AtomView.{atom_view}
-use Rattle.js_cells.specs.Groups.{vectors_in}
-use Rattle.js_cells.proofs.Literals.{said_each, said_vectors, said_places, said_same}
+use Rattle.js_said.specs.Vectors.{vectors_in}
+use Rattle.js_said.proofs.Literals.{said_each, said_vectors, said_places, said_same}
 use Rattle.js_cells.proofs.name_cells.Cells.new.Goals as goal
 
 pub group-requires : goal.group-requires

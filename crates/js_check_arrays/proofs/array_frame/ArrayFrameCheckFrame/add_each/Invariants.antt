@@ -1,7 +1,7 @@
 -- The literals that are left.
 use Rattle.std.proofs.Common.{◌≡◌, ◌++◌, drop, map, flat_map, true}
 use Rattle.js_algebra.specs.View.{signed_view, are_in_table}
-use Rattle.js_check_arrays.specs.Elements.{asked_at}
+use Rattle.js_elements.specs.Elements.{asked_at}
 use Rattle.js_check_arrays.proofs.array_frame.ArrayFrameCheckFrame.add_each.Given as goal
 
 abbrev pub invariant-loop-x : goal.invariant-loop-x

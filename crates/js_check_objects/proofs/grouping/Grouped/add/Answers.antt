@@ -1,5 +1,5 @@
 use Rattle.std.proofs.Common.{[], ◌∷◌, ◌++◌, map, ap, ◌∙◌}
-use Rattle.js_check_objects.proofs.Vectors.{items_mention, items_place}
+use Rattle.js_said.proofs.Vectors.{items_mention, items_place}
 use Rattle.js_check_objects.proofs.grouping.Grouped.add.Goals as goal
 
 pub returns-clause-vectors : goal.returns-clause-vectors

@@ -2,7 +2,7 @@
 use Rattle.std.proofs.Common.{◌≡◌, ◌++◌, drop, map, flat_map, length, true}
 use Rattle.js_algebra.specs.View.{signed_view, are_in_table}
 use Rattle.js_check_objects.specs.Cells.{cells_in}
-use Rattle.js_check_objects.specs.NameTests.{asks, values_within, values_in_table}
+use Rattle.js_name_tests.specs.NameTests.{asks, values_within, values_in_table}
 use Rattle.js_check_objects.proofs.object_frame.ObjectFrame.add_values.Given as goal
 
 abbrev pub invariant-loop-test : goal.invariant-loop-test

@@ -3,7 +3,7 @@ use Rattle.std.proofs.Common.{◌≡◌, map, true, ap, ◌∙◌, subst}
 use Rattle.frames.specs.ObjectFrame as O
 use Rattle.js_algebra.specs.View.{signed_view, are_in_table}
 use Rattle.js_check_objects.specs.Cells.{cells_in}
-use Rattle.js_check_objects.proofs.Framing.{names-in-table, demands-are, bars-within, servers-within, servers-are, values-are-within, values-are, allowed-are}
+use Rattle.js_name_tests.proofs.Framing.{names-in-table, demands-are, bars-within, servers-within, servers-are, values-are-within, values-are, allowed-are}
 use Rattle.js_check_objects.proofs.object_frame.ObjectFrame.new.Goals as goal
 
 pub bars_of-requires : goal.bars_of-requires

@@ -2,7 +2,7 @@
 use Rattle.std.proofs.Common.{map, sym, append-nil}
 use Rattle.js_algebra.specs.View.{signed_view}
 use Rattle.js_check_objects.specs.Cells.{cells_in}
-use Rattle.js_check_objects.proofs.Framing.{each-head}
+use Rattle.js_name_tests.proofs.Framing.{each-head}
 use Rattle.js_check_objects.proofs.object_frame.ObjectFrameCheckFrame.add_each.Goals as goal
 
 pub returns-in-Head-clause-added : goal.returns-in-Head-clause-added

@@ -4,8 +4,8 @@ use Rattle.std.specs.Bool.{beq}
 use Rattle.frames.specs.ObjectFrame as O
 use Rattle.js_algebra.specs.View.{signed_view}
 use Rattle.js_check_objects.specs.Cells.{cells_in}
-use Rattle.js_check_objects.specs.NameTests.{passes}
-use Rattle.js_check_objects.proofs.Framing.{told-at, told-many, within-at}
+use Rattle.js_name_tests.specs.NameTests.{passes}
+use Rattle.js_name_tests.proofs.Framing.{told-at, told-many, within-at}
 use Rattle.js_check_objects.proofs.object_frame.ObjectFrameCheckFrame.is_inside.Goals as goal
 
 pub index-server-requires : goal.index-server-requires

@@ -2,7 +2,8 @@
 use Rattle.std.proofs.Common.{◌≡◌, map, min, length, true, ap, ◌∙◌, subst}
 use Rattle.js_algebra.specs.View.{signed_view, are_in_table}
 use Rattle.js_cells.specs.View.{cells_view}
-use Rattle.js_objects.proofs.Framing.{names-in-table, demands-are, bars-within, servers-within, servers-are, values-are-within, values-are, allowed-are, counts-all}
+use Rattle.js_name_tests.proofs.Framing.{names-in-table, demands-are, bars-within, servers-within, servers-are, values-are-within, values-are, allowed-are}
+use Rattle.js_objects.proofs.Past.{counts-all}
 use Rattle.js_objects.proofs.object_frame.ObjectFrame.new.Goals as goal
 
 pub bars_of-requires : goal.bars_of-requires

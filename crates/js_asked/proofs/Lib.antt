@@ -1,0 +1,2 @@
+-- Key lemmas: `wished_atoms` and `wished_words` of `Wishing`.
+mod Wishing

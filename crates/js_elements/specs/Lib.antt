@@ -1,0 +1,2 @@
+-- What a reader must believe: what one literal asks of an element.
+pub mod Elements
