@@ -1,9 +1,7 @@
 -- The duties of plans to come: what a plan at hand leaves, and the options that come in its place.
-use Rattle.std.proofs.Common.{◌≡◌, ℕ, zero, suc, ◌<◌, List, [], ◌∷◌, ◌++◌, map, take, drop, length, reverse, get_or, Bool, true, false, Ok, refl, arith, ap, ap₂, sym, ◌∙◌, subst}
-use Rattle.std.proofs.lemmas.Bool.{and_parts}
-use Rattle.std.proofs.lemmas.List.{length-append, take-append-le, reverse-append}
+use Rattle.std.proofs.Common.{◌≡◌, ℕ, zero, suc, ◌<◌, List, [], ◌∷◌, ◌++◌, map, take, drop, length, reverse, get_or, Bool, true, false, Option, Some, None, IfSome, Ok, refl, arith, ap, ap₂, sym, ◌∙◌, subst}
+use Rattle.std.proofs.lemmas.List.{length-append, length-take-le, take-append-le, reverse-append}
 use Rattle.std.proofs.Math.Seq.{take-length}
-use Rattle.documents.specs.Tests.{every}
 use Rattle.positions.specs.Position.{Position}
 use Rattle.goals.specs.Signed.{Signed, Plus}
 use Rattle.frames.specs.Frame.{Frame}
@@ -17,9 +15,13 @@ use Rattle.js_plans.specs.Serving.{serve, plan_after}
 use Rattle.js_plans.specs.Servers.{cells_of, is_valid}
 use Rattle.js_plans.specs.Choosing.{next_demand, choices_after}
 use Rattle.js_check_plans.specs.declared.open_plans.Pending.{Pending}
+use Rattle.js_check_plans.specs.declared.choices.Choice.{Choice}
+use Rattle.js_check_plans.specs.declared.choices.Slot.{Slot}
+use Rattle.js_check_plans.specs.declared.choices.Slot.TheVariants as S
 use Rattle.js_check_plans.specs.Reach.{IsPath}
-use Rattle.js_check_plans.specs.OpenDuties.{at_hand, pending_duties, entry, Fits, AreFine}
-use Rattle.js_check_plans.proofs.Options.{options-choices, choices-valid}
+use Rattle.js_check_plans.specs.Slots.{choices_at, with_rest_at}
+use Rattle.js_check_plans.specs.OpenDuties.{at_hand, option_duties, pending_duties, entry, AreFine}
+use Rattle.js_check_plans.proofs.Options.{options-choices, choices-are}
 use Rattle.js_check_plans.proofs.Plans.{next-plan, path-take, path-push}
 
 -- where a test decides, nothing or the rule is left
@@ -29,50 +31,9 @@ by_test form frame left true r = refl
 by_test form frame left false r = refl
 
 module _ (frame : Frame) where
-  -- servers that come later change nothing of what stands before them
-  pub pending-more : (form : Form) (ws zs : List Server) (es : List Pending) → AreFine frame ws es
-      → pending_duties form frame (ws ++ zs) es ≡ pending_duties form frame ws es
-  pending-more form ws zs [] f = refl
-  pending-more form ws zs (e ∷ es) f =
-      ap (λ us. at_hand form frame (us ++ e.server ∷ []) ∷ pending_duties form frame us es)
-      (take-append-le e.level ws zs f.0)
-
-  pub fine-more : (ws zs : List Server) (es : List Pending) → AreFine frame ws es → AreFine frame (ws ++ zs) es
-  fine-more ws zs [] f = tt
-  fine-more ws zs (e ∷ es) f = (
-    omega (arith, f.0, length-append ws zs),
-    subst (λ us. Fits frame us e.server) (sym (take-append-le e.level ws zs f.0)) f.1,
-    subst (λ us. AreFine frame us es) (sym (take-append-le e.level ws zs f.0)) f.2,
-  )
-
-  pub pending-entries : (form : Form) (ws ss : List Server) (es : List Pending)
-      → pending_duties form frame ws (map (entry (length ws)) ss ++ es)
-      ≡ map (λ s. at_hand form frame (ws ++ s ∷ [])) ss ++ pending_duties form frame ws es
-  pending-entries form ws [] es = refl
-  pending-entries form ws (s ∷ ss) es =
-      ap (λ us. at_hand form frame (us ++ s ∷ []) ∷ pending_duties form frame us (map (entry (length ws)) ss ++ es))
-      (take-length ws)
-      ∙ ap (λ rs. at_hand form frame (ws ++ s ∷ []) ∷ rs) (pending-entries form ws ss es)
-
-  pub fine-entries : (ws ss : List Server) (es : List Pending) → length ws < length frame.demands
-      → every (is_valid frame.heads (length (cells_of ws))) ss ≡ true → AreFine frame ws es
-      → AreFine frame ws (map (entry (length ws)) ss ++ es)
-  fine-entries ws [] es l v f = f
-  fine-entries ws (s ∷ ss) es l v f =
-      let (a, b) = and_parts (is_valid frame.heads (length (cells_of ws)) s) _ v in
-      let rest = fine-entries ws ss es l b f in (
-        omega arith,
-        subst (λ us. Fits frame us s) (sym (take-length ws)) (l, a),
-        subst (λ us. AreFine frame us (map (entry (length ws)) ss ++ es)) (sym (take-length ws)) rest,
-      )
-
-  -- the plan that comes next
+  -- the plans that come next
   pub popped : (es old : List Pending) (e : Pending) → old ≡ es ++ e ∷ [] → reverse old ≡ e ∷ reverse es
   popped es old e q = ap reverse q ∙ reverse-append es (e ∷ [])
-
-  pub next-fine : (ws : List Server) (es old : List Pending) (e : Pending) → old ≡ es ++ e ∷ []
-      → AreFine frame ws (reverse old) → AreFine frame ws (e ∷ reverse es)
-  next-fine ws es old e q f = subst (λ us. AreFine frame ws us) (popped es old e q) f
 
   -- a demand is left
   left-on : (n : ℕ) (ds : List Signed) → n < length ds
@@ -115,41 +76,98 @@ module _ (frame : Frame) where
       → (d : Signed) × (ds : List Signed) × (drop (length ws) frame.demands ≡ d ∷ ds)
   some-left ws l = (_, _, left-on (length ws) frame.demands l)
 
-  -- the next plan in the place of the one at hand
-  module _ (path path' : List Server) (es old : List Pending) (e : Pending) (q : old ≡ es ++ e ∷ [])
-      (cut : path' ≡ take e.level path ++ e.server ∷ []) (fine : AreFine frame path (reverse old)) where
+  -- what a choice tells, of a path that is known otherwise
+  pub some-choice : (us cut : List Server) (o : Option Choice) (choice : Choice) (slot : Slot) → us ≡ cut
+      → o ≡ Some choice → with_rest_at frame us o ≡ choices_at frame us slot
+      → choices_at frame cut slot ≡ choice.server ∷ choices_at frame cut choice.rest
+  some-choice us cut o choice slot e is w =
+      ap (λ vs. choices_at frame vs slot) (sym e) ∙ sym w ∙ ap₂ (λ vs p. with_rest_at frame vs p) e is
+
+  pub valid-choice : (us cut : List Server) (o : Option Choice) (choice : Choice) → us ≡ cut → o ≡ Some choice
+      → IfSome o (λ choice. is_valid frame.heads (length (cells_of us)) choice.server ≡ true)
+      → is_valid frame.heads (length (cells_of cut)) choice.server ≡ true
+  valid-choice us cut o choice e is v =
+      subst (λ vs. is_valid frame.heads (length (cells_of vs)) choice.server ≡ true) e
+      (subst (λ p. IfSome p (λ choice. is_valid frame.heads (length (cells_of us)) choice.server ≡ true)) is v)
+
+  pub no-choice : (us cut : List Server) (o : Option Choice) (slot : Slot) → us ≡ cut → o ≡ None
+      → with_rest_at frame us o ≡ choices_at frame us slot → choices_at frame cut slot ≡ []
+  no-choice us cut o slot e is w =
+      ap (λ vs. choices_at frame vs slot) (sym e) ∙ sym w ∙ ap (λ p. with_rest_at frame us p) is
+
+  -- the entry that comes next
+  module _ (path cut : List Server) (es old : List Pending) (e : Pending) (q : old ≡ es ++ e ∷ [])
+      (back : cut ≡ take e.level path) (fine : AreFine frame path (reverse old)) where
     at_next : AreFine frame path (e ∷ reverse es)
-    at_next = next-fine path es old e q fine
+    at_next = subst (AreFine frame path) (popped es old e q) fine
 
-    pub next-path : IsPath frame path → IsPath frame path'
-    next-path p =
-        subst (IsPath frame) (sym cut)
-        (path-push frame (take e.level path) e.server (path-take frame e.level path p) at_next.1)
+    pub cut-long : length cut ≡ e.level
+    cut-long = ap length back ∙ length-take-le e.level path at_next.0
 
-    pub next-pending : AreFine frame path' (reverse es)
-    next-pending =
-        subst (λ us. AreFine frame us (reverse es)) (sym cut)
-        (fine-more (take e.level path) (e.server ∷ []) (reverse es) at_next.2)
+    pub cut-left : length cut < length frame.demands
+    cut-left = omega (arith, cut-long, at_next.1)
 
-    pub next-duties : (form : Form) → at_hand form frame path' ∷ pending_duties form frame path' (reverse es)
-        ≡ pending_duties form frame path (reverse old)
-    next-duties form =
-        ap (λ us. at_hand form frame us ∷ pending_duties form frame us (reverse es)) cut
-        ∙ ap (λ ds. at_hand form frame (take e.level path ++ e.server ∷ []) ∷ ds)
-        (pending-more form (take e.level path) (e.server ∷ []) (reverse es) at_next.2)
-        ∙ ap (pending_duties form frame path) (sym (popped es old e q))
+    pub cut-path : IsPath frame path → IsPath frame cut
+    cut-path p = subst (IsPath frame) (sym back) (path-take frame e.level path p)
+
+    pub cut-fine : AreFine frame cut (reverse es)
+    cut-fine = subst (λ us. AreFine frame us (reverse es)) (sym back) at_next.2
+
+    pub cut-duties : (form : Form) → pending_duties form frame path (reverse old)
+        ≡ option_duties form frame cut e.next ++ pending_duties form frame cut (reverse es)
+    cut-duties form =
+        ap (pending_duties form frame path) (popped es old e q)
+        ∙ ap (λ us. option_duties form frame us e.next ++ pending_duties form frame us (reverse es)) (sym back)
+
+    -- it has no choice left
+    pub none-duties : (form : Form) → choices_at frame cut e.next ≡ []
+        → pending_duties form frame cut (reverse es) ≡ pending_duties form frame path (reverse old)
+    none-duties form none =
+        sym (cut-duties form
+        ∙ ap (λ ss. map (λ s. at_hand form frame (cut ++ s ∷ [])) ss ++ pending_duties form frame cut (reverse es))
+        none)
+
+    -- a choice is taken, and those after it come next
+    module _ (s : Server) (rest : Slot) (path' : List Server) (new : List Pending) (grown : path' ≡ cut ++ s ∷ [])
+        (put : new ≡ es ++ entry e.level rest ∷ []) where
+      kept : take e.level path' ≡ cut
+      kept =
+          ap (take e.level) grown ∙ take-append-le e.level cut (s ∷ []) (omega (arith, cut-long))
+          ∙ ap (λ n. take n cut) (sym cut-long) ∙ take-length cut
+
+      pub next-path : IsPath frame path → is_valid frame.heads (length (cells_of cut)) s ≡ true → IsPath frame path'
+      next-path p v = subst (IsPath frame) (sym grown) (path-push frame cut s (cut-path p) (cut-left, v))
+
+      pub next-fine : AreFine frame path' (reverse new)
+      next-fine =
+          subst (AreFine frame path') (sym (popped es new (entry e.level rest) put)) (
+            omega (arith, cut-long, ap length grown, length-append cut (s ∷ [])),
+            at_next.1,
+            subst (λ us. AreFine frame us (reverse es)) (sym kept) cut-fine,
+          )
+
+      pub next-duties : (form : Form) → choices_at frame cut e.next ≡ s ∷ choices_at frame cut rest
+          → at_hand form frame path' ∷ pending_duties form frame path' (reverse new)
+          ≡ pending_duties form frame path (reverse old)
+      next-duties form some =
+          ap₂ (λ us es. at_hand form frame us ∷ pending_duties form frame path' es) grown
+          (popped es new (entry e.level rest) put)
+          ∙ ap (λ us. at_hand form frame (cut ++ s ∷ [])
+          ∷ (option_duties form frame us rest ++ pending_duties form frame us (reverse es))) kept
+          ∙ sym (cut-duties form
+          ∙ ap (λ ss. map (λ s. at_hand form frame (cut ++ s ∷ [])) ss ++ pending_duties form frame cut (reverse es))
+          some)
 
   -- the options in the place of the plan at hand
-  module _ (ws ss : List Server) (ps qs : List Pending) (n : ℕ) (l : length ws < length frame.demands)
-      (are : ss ≡ choices_after frame ws) (count : n ≡ length ws)
-      (added : reverse qs ≡ map (entry n) ss ++ reverse ps) where
-    all : reverse qs ≡ map (entry (length ws)) (choices_after frame ws) ++ reverse ps
-    all = added ∙ ap₂ (λ k us. map (entry k) us ++ reverse ps) count are
+  module _ (ws : List Server) (ps qs : List Pending) (n : ℕ) (l : length ws < length frame.demands)
+      (count : n ≡ length ws) (put : qs ≡ ps ++ entry n (S.Head 0) ∷ []) where
+    all : reverse qs ≡ entry (length ws) (S.Head 0) ∷ reverse ps
+    all = popped ps qs (entry n (S.Head 0)) put ∙ ap (λ k. entry k (S.Head 0) ∷ reverse ps) count
 
     pub split-fine : AreFine frame ws (reverse ps) → AreFine frame ws (reverse qs)
     split-fine f =
         subst (AreFine frame ws) (sym all)
-        (fine-entries ws (choices_after frame ws) (reverse ps) l (choices-valid frame ws (omega (arith, l))) f)
+        (omega arith, l, subst (λ us. AreFine frame us (reverse ps)) (sym (take-length ws)) f)
 
     pub split-duties : (T : List Position) (cite : ℕ → List Signed → Bool) (form : Form) (ds : List Duty)
         → ds ≡ pending_duties form frame ws (reverse qs)
@@ -158,5 +176,8 @@ module _ (frame : Frame) where
         ap (and_then (λ us. run T cite (us ++ pending_duties form frame ws (reverse ps)) []))
         (after-split T cite form ws l)
         ∙ ap Ok
-        (sym (pending-entries form ws (choices_after frame ws) (reverse ps))
+        (ap (λ ss. map (λ s. at_hand form frame (ws ++ s ∷ [])) ss ++ pending_duties form frame ws (reverse ps))
+        (sym (choices-are frame ws (omega (arith, l))))
+        ∙ ap (λ us. option_duties form frame us (S.Head 0) ++ pending_duties form frame us (reverse ps))
+        (sym (take-length ws))
         ∙ ap (pending_duties form frame ws) (sym all) ∙ sym e)

@@ -1,9 +1,7 @@
--- The options of a demand are its choices; the choices by the cells of the members, and that each of them is there.
-use Rattle.std.proofs.Common.{◌≡◌, ℕ, zero, suc, ◌+◌, ◌-◌, ◌<◌, ◌≤◌, List, [], ◌∷◌, ◌++◌, map, filter, length, Bool, true, false, ◌&&◌, not, cond, nat_eq, refl, arith, ap, ap₂, sym, ◌∙◌}
+-- The options of a demand are its choices, and these are the choices from the first slot on.
+use Rattle.std.proofs.Common.{◌≡◌, ℕ, suc, ◌+◌, ◌-◌, ◌<◌, ◌≤◌, List, [], ◌∷◌, ◌++◌, map, filter, length, Bool, true, false, ◌&&◌, not, cond, nat_eq, refl, arith, ap, ap₂, sym, ◌∙◌}
 use Rattle.std.specs.List.{range_with_len}
-use Rattle.std.proofs.lemmas.Bool.{and_parts, and_from, lt-ltb}
 use Rattle.std.proofs.lemmas.List.{map-append}
-use Rattle.documents.specs.Tests.{every}
 use Rattle.goals.specs.Signed.{Signed}
 use Rattle.frames.specs.Frame.{Frame, is_at_end}
 use Rattle.frames.specs.Plan.{Plan, Member, plan, member, serve_head, serve_member, count_in, has_room, servers, options}
@@ -11,9 +9,11 @@ use Rattle.frames.specs.Fillers.{times}
 use Rattle.js_plans.specs.declared.server.Server.{Server}
 use Rattle.js_plans.specs.declared.server.Server.TheVariants as V
 use Rattle.js_plans.specs.Serving.{serve, choices, plan_after}
-use Rattle.js_plans.specs.Servers.{cells_of, is_valid}
+use Rattle.js_plans.specs.Servers.{cells_of}
 use Rattle.js_plans.specs.Choosing.{next_demand, choices_after, serving_cells, open_cells}
-use Rattle.js_check_plans.proofs.Plans.{heads-long, members-count, cells-all}
+use Rattle.js_check_plans.specs.declared.choices.Slot.TheVariants as S
+use Rattle.js_check_plans.specs.Slots.{choices_at}
+use Rattle.js_check_plans.proofs.Plans.{heads-long, cells-all}
 
 by_head : (d : Signed) (p : Plan) (xs : List ℕ)
     → map (λ k. plan (serve_head d p.heads k) p.members) xs ≡ map (serve d p) (map V.Head xs)
@@ -85,53 +85,16 @@ module _ (frame : Frame) where
         go false us = refl
 
   pub choices-are : (ws : List Server) → length ws ≤ length frame.demands
-      → (map V.Head (range_with_len 0 frame.heads) ++ serving_cells frame (next_demand frame ws) 0 (cells_of ws))
-      ++ open_cells frame (next_demand frame ws) (cells_of ws) frame.cells ≡ choices_after frame ws
+      → choices_at frame ws (S.Head 0) ≡ choices_after frame ws
   choices-are ws l =
       let d = next_demand frame ws in
       let p = plan_after frame ws in
-      ap₂ (λ h cs. (map V.Head (range_with_len 0 h) ++ serving_cells frame d 0 cs) ++ open_cells frame d cs frame.cells)
+      ap (λ n. map V.Head (range_with_len 0 n) ++ serving_cells frame d 0 (cells_of ws)
+      ++ open_cells frame d (cells_of ws) frame.cells) whole
+      ∙ ap₂ (λ h cs. (map V.Head (range_with_len 0 h) ++ serving_cells frame d 0 cs) ++ open_cells frame d cs
+      frame.cells)
       (sym (heads-long frame ws)) (sym (cells-all frame ws l))
       ∙ ap₂ (λ xs ys. (map V.Head (range_with_len 0 (length p.heads)) ++ xs) ++ ys) (serving-members d 0 p.members)
-      (open-members d p.members frame.cells)
-
-  servers-few : (d : Signed) (k n : ℕ) (ms : List Member) (h : ℕ) → k + length ms ≤ n
-      → every (is_valid h n) (map V.Member (servers frame d k ms)) ≡ true
-  servers-few d k n [] h l = refl
-  servers-few d k n (m ∷ ms) h l =
-      go (frame.inside d m.cell) (servers-few d (suc k) n ms h (omega (arith, l))) where
-        go : (b : Bool) → every (is_valid h n) (map V.Member (servers frame d (suc k) ms)) ≡ true
-            → every (is_valid h n) (map V.Member (cond b (k ∷ servers frame d (suc k) ms) (servers frame d (suc k) ms)))
-            ≡ true
-        go true more = and_from _ _ (lt-ltb k n (omega (arith, l))) more
-        go false more = more
-
-  -- each choice is there
-  pub choices-valid : (ws : List Server) → length ws ≤ length frame.demands
-      → every (is_valid frame.heads (length (cells_of ws))) (choices_after frame ws) ≡ true
-  choices-valid ws l =
-      let p = plan_after frame ws in
-      let d = next_demand frame ws in
-      let n = length (cells_of ws) in
-      let cs = filter (λ c. frame.inside d c && has_room frame p.members c) frame.cells in
-      every-append _ (map V.Head (range_with_len 0 (length p.heads)) ++ map V.Member (servers frame d 0 p.members))
-      (map V.New cs)
-      (every-append _ (map V.Head (range_with_len 0 (length p.heads))) (map V.Member (servers frame d 0 p.members))
-      (heads-few 0 (length p.heads) (omega (arith, heads-long frame ws)))
-      (servers-few d 0 n p.members frame.heads (omega (arith, members-count frame ws l))))
-      (new-few cs) where
-        every-append : (q : Server → Bool) (xs ys : List Server) → every q xs ≡ true → every q ys ≡ true
-            → every q (xs ++ ys) ≡ true
-        every-append q [] ys a b = b
-        every-append q (x ∷ xs) ys a b =
-            let (h, t) = and_parts (q x) (every q xs) a in and_from _ _ h (every-append q xs ys t b)
-
-        heads-few : (k n : ℕ) → k + n ≤ frame.heads
-            → every (is_valid frame.heads (length (cells_of ws))) (map V.Head (range_with_len k n)) ≡ true
-        heads-few k zero l = refl
-        heads-few k (suc n) l =
-            and_from _ _ (lt-ltb k frame.heads (omega (arith, l))) (heads-few (k + 1) n (omega (arith, l)))
-
-        new-few : (cs : List ℕ) → every (is_valid frame.heads (length (cells_of ws))) (map V.New cs) ≡ true
-        new-few [] = refl
-        new-few (c ∷ cs) = new-few cs
+      (open-members d p.members frame.cells) where
+        whole : frame.heads - 0 ≡ frame.heads
+        whole = omega arith

@@ -3,4 +3,5 @@
 pub mod FormView
 pub mod Reach
 pub mod Rooms
+pub mod Slots
 pub mod OpenDuties

@@ -1,5 +1,5 @@
 -- The plans that are still to be shown empty, as duties.
-use Rattle.std.specs.Prelude.{◌≡◌, ℕ, ◌<◌, ◌≤◌, List, [], ◌∷◌, ◌++◌, take, drop, length, reverse, Bool, true, false, cond, Result, slice_get, ⊤}
+use Rattle.std.specs.Prelude.{◌≡◌, ℕ, ◌<◌, ◌≤◌, List, [], ◌∷◌, ◌++◌, map, take, drop, length, reverse, Bool, true, false, cond, Result, slice_get, ⊤}
 use Rattle.std.specs.Coded.{Coded-set, coded_bool, le_prop, Unit-prop}
 use Rattle.positions.specs.Position.{Position}
 use Rattle.goals.specs.Signed.{Signed}
@@ -16,7 +16,9 @@ use Rattle.js_plans.specs.Serving.{plan_after}
 use Rattle.js_plans.specs.Servers.{cells_of, is_valid}
 use Rattle.js_check_plans.specs.declared.open_plans.OpenPlans.{OpenPlans}
 use Rattle.js_check_plans.specs.declared.open_plans.Pending.{Pending}
+use Rattle.js_check_plans.specs.declared.choices.Slot.{Slot}
 use Rattle.js_check_plans.specs.Reach.{IsPath}
+use Rattle.js_check_plans.specs.Slots.{choices_at}
 
 abbrev pub is_split : L.Line → Bool
 is_split L.Split = true
@@ -36,11 +38,15 @@ after_at T gs frame ws n e =
     if_so not_refuted
     (is_refuted_at T (cites gs) frame (slice_get (placed frame (plan_after frame ws)) n) (ending e)) []
 
+-- the plans of a path with each choice from a slot on
+abbrev pub option_duties : Form → Frame → List Server → Slot → List Duty
+option_duties form frame ws slot = map (λ s. at_hand form frame (ws ++ s ∷ [])) (choices_at frame ws slot)
+
 -- the plans to come, the next one first
 abbrev pub pending_duties : Form → Frame → List Server → List Pending → List Duty
 pending_duties form frame ws [] = []
 pending_duties form frame ws (e ∷ es) =
-    at_hand form frame (take e.level ws ++ e.server ∷ []) ∷ pending_duties form frame (take e.level ws) es
+    option_duties form frame (take e.level ws) e.next ++ pending_duties form frame (take e.level ws) es
 
 abbrev pub others : Form → Frame → OpenPlans → List Duty
 others form frame w = pending_duties form frame w.path.items (reverse w.pending.items)
@@ -48,8 +54,8 @@ others form frame w = pending_duties form frame w.path.items (reverse w.pending.
 abbrev pub duties : Form → Frame → OpenPlans → List Duty
 duties form frame w = cond w.has_plan (at_hand form frame w.path.items ∷ others form frame w) []
 
-abbrev pub entry : ℕ → Server → Pending
-entry n s = record { level = n; server = s }
+abbrev pub entry : ℕ → Slot → Pending
+entry n slot = record { level = n; next = slot }
 
 -- it can serve the next demand
 abbrev pub Fits : Frame → List Server → Server → Type 0
@@ -58,7 +64,7 @@ Fits frame ws s = (length ws < length frame.demands) × (is_valid frame.heads (l
 abbrev pub AreFine : Frame → List Server → List Pending → Type 0
 AreFine frame ws [] = ⊤
 AreFine frame ws (e ∷ es) =
-    (e.level ≤ length ws) × Fits frame (take e.level ws) e.server × AreFine frame (take e.level ws) es
+    (e.level ≤ length ws) × (e.level < length frame.demands) × AreFine frame (take e.level ws) es
 
 -- plans of that frame
 pub record IsOpen (frame : Frame) (w : OpenPlans) : Type 0 where
@@ -70,7 +76,7 @@ AreFine-prop : (frame : Frame) (ws : List Server) (es : List Pending) → IsProp
 AreFine-prop frame ws [] = Unit-prop
 AreFine-prop frame ws (e ∷ es) = λ x y i. (
   le_prop x.0 y.0 i,
-  (le_prop x.1.0 y.1.0 i, Coded-set coded_bool _ _ x.1.1 y.1.1 i),
+  le_prop x.1 y.1 i,
   AreFine-prop frame (take e.level ws) es x.2 y.2 i,
 )
 

@@ -1,12 +1,14 @@
-//! What may serve the next demand after a path.
+//! What may serve the next demand after a path, one choice at a time.
+//!
+//! Choices are found and never listed, as a frame may have many first places.
 
-ghost use Rattle.std.specs.Prelude.{◌≡◌, ◌<◌, ◌≤◌, ◌++◌, map, length, get_or, not, IfOk, OnOk};
-ghost use Rattle.std.specs.List.{range_with_len};
+ghost use Rattle.std.specs.Prelude.{◌≡◌, ◌<◌, ◌≤◌, ◌++◌, drop, length, get_or, not, true, IfOk, IfSome};
 ghost use Rattle.goals.specs.Signed as G;
 ghost use Rattle.frames.specs.Fillers.{times};
 ghost use Rattle.frames.specs.Frame.{is_at_end};
-ghost use Rattle.js_plans.specs.declared.server.Server.TheVariants as V;
-ghost use Rattle.js_plans.specs.Choosing.{serving_cells, open_cells, choices_after};
+ghost use Rattle.js_plans.specs.Servers.{cells_of, is_valid};
+ghost use Rattle.js_plans.specs.Choosing.{serving_cells, open_cells};
+ghost use Rattle.js_check_plans.specs.Slots.{choices_from, choices_at, with_rest, with_rest_at};
 
 use crate::check_frame::CheckFrame;
 use crate::path;
@@ -14,67 +16,120 @@ use js_doc::Memory;
 use js_plans::Server;
 use std::alloc::Global;
 
-/// What stands at each first place, each member inside, and a new member in each cell inside that has room.
-pub(crate) fn choices<F: CheckFrame>(
+/// What is tried for a demand, in this order: what stands at each first place, each member, and a new member in each
+/// cell, told by its place in the list of cells.
+#[derive(Clone, Copy)]
+pub(crate) enum Slot {
+    Head(u32),
+    Member(usize),
+    Cell(usize),
+}
+
+/// What may serve a demand, and from where on others are found.
+#[derive(Clone, Copy)]
+pub(crate) struct Choice {
+    pub server: Server,
+    pub rest: Slot,
+}
+
+/// The first choice from a slot on, if there is one.
+pub(crate) fn first_choice<F: CheckFrame>(
     alloc: Global,
     frame: &F,
     path: &[Server],
-) -> Result<Vec<Server>, Memory>
+    slot: Slot,
+) -> Result<Option<Choice>, Memory>
     requires { length path.now < length (F.frame frame.now).demands }
-    ensures { IfOk result (λ v. v.items ≡ choices_after (F.frame frame.now) path.now) }
+    ensures choices { IfOk result (λ o. with_rest_at (F.frame frame.now) path.now o
+        ≡ choices_at (F.frame frame.now) path.now slot) }
+    ensures valid { IfOk result (λ o. IfSome o (λ choice. is_valid (F.frame frame.now).heads
+        (length (cells_of path.now)) choice.server ≡ true)) }
 {
     let members = path::cells(alloc, path)?;
-    let mut choices = Vec::new(alloc);
-    add_heads(frame.heads(), &mut choices)?;
-    add_members(frame, path.len(), members.as_slice(), &mut choices)?;
-    add_new(frame, path.len(), members.as_slice(), &mut choices)?;
-    Ok(choices)
+    Ok(first_from(frame, path.len(), members.as_slice(), slot))
 }
 
-fn add_heads(heads: u32, choices: &mut Vec<Server>) -> Result<(), Memory>
-    ensures { OnOk result (choices.new.items ≡ choices.old.items ++ map V.Head (range_with_len 0 heads)) }
-{
-    for k in 0..heads {
-        choices.push(Server::Head(k))?;
-    }
-    Ok(())
-}
-
-fn add_members<F: CheckFrame>(
+/// The first choice from a slot on, with members in these cells.
+fn first_from<F: CheckFrame>(
     frame: &F,
     demand: usize,
     members: &[u32],
-    choices: &mut Vec<Server>,
-) -> Result<(), Memory>
+    slot: Slot,
+) -> Option<Choice>
     requires { demand < length (F.frame frame.now).demands }
-    ensures { OnOk result (choices.new.items ≡ choices.old.items
-        ++ serving_cells (F.frame frame.now) (get_or (F.frame frame.now).demands demand (G.Plus 0)) 0 members.now) }
+    ensures choices { with_rest (F.frame frame.now) (get_or (F.frame frame.now).demands demand (G.Plus 0)) members.now
+        result ≡ choices_from (F.frame frame.now) (get_or (F.frame frame.now).demands demand (G.Plus 0)) members.now
+        slot }
+    ensures valid { IfSome result (λ choice. is_valid (F.frame frame.now).heads (length members.now) choice.server
+        ≡ true) }
 {
-    for (k, cell) in members.iter().enumerate() {
-        if frame.is_inside(demand, *cell) {
-            choices.push(Server::Member(k))?;
+    match slot {
+        Slot::Head(k) => {
+            if k < frame.heads() {
+                Some(Choice {
+                    server: Server::Head(k),
+                    rest: Slot::Head(k + 1),
+                })
+            } else {
+                first_member(frame, demand, members, 0)
+            }
         }
+        Slot::Member(k) => first_member(frame, demand, members, k),
+        Slot::Cell(i) => first_new(frame, demand, members, i),
     }
-    Ok(())
 }
 
-fn add_new<F: CheckFrame>(
+/// The first choice among the members from a number on, or among new ones.
+fn first_member<F: CheckFrame>(
     frame: &F,
     demand: usize,
     members: &[u32],
-    choices: &mut Vec<Server>,
-) -> Result<(), Memory>
+    from: usize,
+) -> Option<Choice>
     requires { demand < length (F.frame frame.now).demands }
-    ensures { OnOk result (choices.new.items ≡ choices.old.items
-        ++ open_cells (F.frame frame.now) (get_or (F.frame frame.now).demands demand (G.Plus 0)) members.now
-        (F.frame frame.now).cells) }
+    ensures choices { with_rest (F.frame frame.now) (get_or (F.frame frame.now).demands demand (G.Plus 0)) members.now
+        result ≡ serving_cells (F.frame frame.now) (get_or (F.frame frame.now).demands demand (G.Plus 0)) from
+        (drop from members.now) ++ open_cells (F.frame frame.now)
+        (get_or (F.frame frame.now).demands demand (G.Plus 0)) members.now (F.frame frame.now).cells }
+    ensures valid { IfSome result (λ choice. is_valid (F.frame frame.now).heads (length members.now) choice.server
+        ≡ true) }
 {
-    for cell in frame.cells() {
-        if frame.is_inside(demand, *cell) && has_room(frame.cap(*cell), members, *cell) {
-            choices.push(Server::New(*cell))?;
+    for k in from..members.len() {
+        if frame.is_inside(demand, members[k]) {
+            return Some(Choice {
+                server: Server::Member(k),
+                rest: Slot::Member(k + 1),
+            });
         }
     }
-    Ok(())
+    first_new(frame, demand, members, 0)
+}
+
+/// The first choice among new members, in the cells from a place on.
+fn first_new<F: CheckFrame>(
+    frame: &F,
+    demand: usize,
+    members: &[u32],
+    from: usize,
+) -> Option<Choice>
+    requires { demand < length (F.frame frame.now).demands }
+    ensures choices { with_rest (F.frame frame.now) (get_or (F.frame frame.now).demands demand (G.Plus 0)) members.now
+        result ≡ open_cells (F.frame frame.now) (get_or (F.frame frame.now).demands demand (G.Plus 0)) members.now
+        (drop from (F.frame frame.now).cells) }
+    ensures valid { IfSome result (λ choice. is_valid (F.frame frame.now).heads (length members.now) choice.server
+        ≡ true) }
+{
+    let cells = frame.cells();
+    for i in from..cells.len() {
+        let cell = cells[i];
+        if frame.is_inside(demand, cell) && has_room(frame.cap(cell), members, cell) {
+            return Some(Choice {
+                server: Server::New(cell),
+                rest: Slot::Cell(i + 1),
+            });
+        }
+    }
+    None
 }
 
 fn has_room(cap: Option<u32>, members: &[u32], cell: u32) -> bool

@@ -1,9 +1,10 @@
 //! The plans that are still to be shown empty, in the order in which lines come to them.
 //!
-//! Plans to come stand in a list, the next one last, each as what serves the next demand after the first part of the
-//! path: so plans share what they have in common, and a line costs what it adds.
+//! Plans to come stand in a list, the next ones last: those with the choices that are left of a demand are one entry,
+//! after the first part of the path. So plans share what they have in common, and a split adds the same however many
+//! options there are.
 
-ghost use Rattle.std.specs.Prelude.{◌≡◌, List, ◌++◌, [], ◌∷◌, length, ◌<◌, map, reverse, Ok, Err, true, IfErr, OnOk};
+ghost use Rattle.std.specs.Prelude.{◌≡◌, List, [], ◌∷◌, Ok, Err, true, IfErr, OnOk};
 ghost use Rattle.goals.specs.Signed as G;
 ghost use Rattle.certificate_lines.specs.Line as L;
 ghost use Rattle.frames.specs.Frame.{Frame};
@@ -13,10 +14,10 @@ ghost use Rattle.verdicts.specs.Verdict.{cites};
 ghost use Rattle.js_rules.specs.Told.{Breaks};
 ghost use Rattle.js_lines.specs.View.{line_view};
 ghost use Rattle.js_check_plans.specs.FormView.{form_view};
-ghost use Rattle.js_check_plans.specs.OpenDuties.{IsOpen, duties, others, entry};
+ghost use Rattle.js_check_plans.specs.OpenDuties.{IsOpen, duties, others};
 
 use crate::check_frame::CheckFrame;
-use crate::choices::choices;
+use crate::choices::{Slot, first_choice};
 use crate::form::PlanForm;
 use crate::lines::{ends, is_split};
 use js_algebra::Goal;
@@ -26,11 +27,12 @@ use js_plans::Server;
 use js_rules::{Rule, RuleFault};
 use std::alloc::Global;
 
-/// A plan to come: the first `level` of the path serve as before, and `server` serves the next demand.
+/// Plans to come: the first `level` of the path serve as before, and each choice from `next` on serves the demand after
+/// them.
 #[derive(Clone, Copy)]
 struct Pending {
     level: usize,
-    server: Server,
+    next: Slot,
 }
 
 /// The plans of a frame that are still to be shown empty; `duties` is what contracts see of them. All calls are to be
@@ -121,7 +123,7 @@ impl OpenPlans {
             return self.split(alloc, frame);
         }
         ends(alloc, form, frame, self.path.as_slice(), goals, line)?;
-        self.go_on()?;
+        self.go_on(alloc, frame)?;
         Ok(())
     }
 
@@ -140,37 +142,35 @@ impl OpenPlans {
         if self.path.len() == frame.demands().len() {
             return Err(RuleFault::Breaks(Rule::NoDemand));
         }
-        let options = choices(alloc, frame, self.path.as_slice())?;
-        add_pending(self.path.len(), options, &mut self.pending)?;
-        self.go_on()?;
+        let level = self.path.len();
+        self.pending.push(Pending {
+            level,
+            next: Slot::Head(0),
+        })?;
+        self.go_on(alloc, frame)?;
         Ok(())
     }
 
     /// The next plan comes in the place of the one at hand.
-    fn go_on(&mut self) -> Result<(), Memory>
-        requires { self.old.has_plan ≡ true }
-        ensures plans { OnOk result ((frame : Frame) → IsOpen frame self.old → IsOpen frame self.new) }
-        ensures duties { OnOk result ((form : Form) (frame : Frame) → IsOpen frame self.old
-            → duties form frame self.new ≡ others form frame self.old) }
+    fn go_on<F: CheckFrame>(&mut self, alloc: Global, frame: &F) -> Result<(), Memory>
+        requires plans { IsOpen (F.frame frame.now) self.old }
+        requires left { self.old.has_plan ≡ true }
+        ensures plans { OnOk result (IsOpen (F.frame frame.now) self.new) }
+        ensures duties { OnOk result ((form : Form) → duties form (F.frame frame.now) self.new
+            ≡ others form (F.frame frame.now) self.old) }
     {
-        match self.pending.pop() {
-            Some(next) => {
-                self.path.truncate(next.level);
-                self.path.push(next.server)?;
+        while let Some(last) = self.pending.pop() {
+            self.path.truncate(last.level);
+            if let Some(choice) = first_choice(alloc, frame, self.path.as_slice(), last.next)? {
+                self.pending.push(Pending {
+                    next: choice.rest,
+                    ..last
+                })?;
+                self.path.push(choice.server)?;
+                return Ok(());
             }
-            None => self.has_plan = false,
         }
+        self.has_plan = false;
         Ok(())
     }
-}
-
-/// Adds plans to come, the first one next.
-fn add_pending(level: usize, servers: Vec<Server>, pending: &mut Vec<Pending>) -> Result<(), Memory>
-    ensures { OnOk result (reverse pending.new.items ≡ map (entry level) servers.items ++ reverse pending.old.items) }
-{
-    let mut servers = servers;
-    while let Some(server) = servers.pop() {
-        pending.push(Pending { level, server })?;
-    }
-    Ok(())
 }

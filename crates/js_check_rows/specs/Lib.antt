@@ -3,6 +3,7 @@ pub mod RowsView
 pub mod RowTaking
 pub mod Taking
 pub mod Labels
+pub mod Rules
 -- Rows that were mentioned, and their words; lines of targets; classes.
 pub mod Mentions
 pub mod MentionsView

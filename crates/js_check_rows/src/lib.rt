@@ -10,10 +10,12 @@ mod labels;
 mod mention;
 mod mentions;
 mod rows;
+mod rules;
 mod widths;
 
 pub use fault::RowFault;
 pub use rows::Rows;
+pub use rules::rule_of;
 
 #[cfg(test)]
 mod tests;
