@@ -1,9 +1,12 @@
 mod Answered
-mod Sweeps
+mod Using
+mod Rising
+mod Woken
+mod Taking
 mod Rounding
+mod Running
 mod SpreadLemmas
 mod Marks
-mod Using
 mod Needs
 mod Members
 mod InOrder

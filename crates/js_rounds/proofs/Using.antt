@@ -1,22 +1,24 @@
 -- Back through the goals in order: what is marked, and what was found.
-use Rattle.std.proofs.Common.{◌≡◌, ℕ, zero, suc, ◌≤◌, ◌<◌, List, [], ◌∷◌, ◌++◌, filter, length, take, drop, get_or, reverse, Bool, true, false, ◌&&◌, ◌||◌, cond, Option, Some, None, nat_eq, refl, ap, ap₂, sym, ◌∙◌, subst, arith, drop-cons}
+use Rattle.std.proofs.Common.{◌≡◌, ℕ, zero, suc, ◌≤◌, ◌<◌, List, [], ◌∷◌, ◌++◌, filter, length, take, drop, get_or, reverse, is_some, nat_le, ◌⊎◌, inl, inr, Bool, true, false, ◌&&◌, ◌||◌, cond, Option, Some, None, nat_eq, refl, ap, ap₂, sym, ◌∙◌, subst, arith, drop-cons}
+use Rattle.std.proofs.lemmas.Bool.{le-leb, lt-leb, cases_lt}
 use Rattle.std.proofs.lemmas.List.{append-nil, reverse-append, drop_all, take_all}
 use Rattle.documents.specs.Tests.{some}
 use Rattle.goals.specs.Signed.{Signed}
 use Rattle.alternatives.specs.Expansion.{Expansion}
 use Rattle.search.specs.Explored.{Found}
 use Rattle.list_laws.specs.In.{IsIn}
-use Rattle.search.specs.Rounds.{NumberedPlaced, Numbered, round, alternatives_of}
+use Rattle.search.specs.Rounds.{NumberedPlaced, Numbered, round, answer, alternatives_of}
 use Rattle.search.specs.Uses as U
 use Rattle.search.specs.Uses.{in_order, chosen_in, contents_in, contents_of, round_before, contents, satisfied, uses, used_goals}
-use Rattle.search_laws.proofs.Answers.{added_low}
+use Rattle.search_laws.proofs.Answers.{Enters, Least, answer_least, before_too, added_low}
+use Rattle.search_laws.proofs.Rise.{answer_round}
+use Rattle.search_laws.proofs.Settled.{rise_to}
 use Rattle.search_laws.proofs.Used.{Entered, entered, has_order}
 use Rattle.search_laws.proofs.Marking.{in_at, marked, mark_tells}
 use Rattle.js_explore.specs.Exploration.{Exploration, Explores, alternatives_at}
 use Rattle.js_rounds.specs.Seen.{is_by, seen}
 use Rattle.js_rounds.specs.State.{AreRounds, answer_to, contents_seen, contents_at}
 use Rattle.js_rounds.specs.declared.rounds.Rounds.{Rounds}
-use Rattle.js_rounds.proofs.Sweeps.{seen_by}
 
 or_apart : (a b c : Bool) → ((a || b) || c) ≡ (a || (c || b))
 or_apart true b c = refl
@@ -32,12 +34,44 @@ get_take (suc k) (x ∷ xs) zero d l = refl
 get_take (suc k) (x ∷ xs) (suc j) d l = get_take k xs j d (omega (arith, l))
 
 module _ (expansion : List Signed → Expansion) (f : Found) where
+  abbrev Answer : ℕ → ℕ → Option (ℕ × ℕ)
+  Answer r n = answer expansion f r n
+
+  -- answers of a later round tell an earlier one
+  seen_by : (q m n : ℕ) → q ≤ m → is_by q (Answer m n) ≡ round expansion f q n
+  seen_by q m n l = go (Answer m n) refl where
+    differ : true ≡ false → ⊥
+    differ e = cc
+
+    not_true : (b : Bool) → (b ≡ true → ⊥) → b ≡ false
+    not_true true h = absurd (h refl)
+    not_true false h = refl
+
+    go : (o : Option (ℕ × ℕ)) → Answer m n ≡ o → is_by q o ≡ round expansion f q n
+    go None e =
+        let b : round expansion f m n ≡ false = sym (answer_round expansion f m n) ∙ ap is_some e in
+        sym (before_too expansion f q m n l b)
+    go (Some a) e = by (cases_lt x.q q) where
+      x : Least expansion f m n a.0 a.1
+      x = answer_least expansion f m n a.0 a.1 e
+
+      y : Enters expansion f n x.q a.1
+      y = x.enters
+
+      by : (x.q < q) ⊎ (q ≤ x.q) → nat_le a.0 q ≡ round expansion f q n
+      by (inl k) =
+          let s = x.is in
+          le-leb a.0 q (omega (arith, k, s)) ∙ sym (rise_to expansion f (suc x.q) q n (omega (arith, k)) y.has)
+      by (inr k) =
+          let s = x.is in
+          lt-leb a.0 q (omega (arith, k, s)) ∙ sym (before_too expansion f q x.q n k y.before)
+
   -- what the program looks at is what the definitions say
   module _ (e : Exploration) (x : Explores expansion e) (same : e.found ≡ f) (r : Rounds) (h : AreRounds expansion f r)
     where
       pub seen_all : (q g : ℕ) → q ≤ length f.goals → seen r.known.items q g ≡ round expansion f q g
       seen_all q g l =
-          ap (λ o. is_by q o) (h.answers g) ∙ seen_by expansion f q (length f.goals) g l
+          ap (λ o. is_by q o) (h.answers g) ∙ seen_by q (length f.goals) g l
 
       pub chosen_same : (g : ℕ) → chosen_in (alternatives_at e g) (answer_to r g) ≡ U.chosen expansion f g
       chosen_same g =

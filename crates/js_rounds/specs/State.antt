@@ -1,11 +1,13 @@
 -- What rounds hold: before they were run, while they are, and after.
-use Rattle.std.specs.Prelude.{◌≡◌, ℕ, suc, ◌+◌, List, [], ◌∷◌, length, Bool, true, false, not, ◌&&◌, cond, Option, Some, None, is_some, get_or, take}
+use Rattle.std.specs.Prelude.{◌≡◌, ℕ, suc, ◌+◌, ◌<◌, List, [], ◌∷◌, length, Bool, true, false, cond, nat_eq, Option, Some, None, is_some, get_or, take}
 use Rattle.goals.specs.Signed.{Signed}
 use Rattle.alternatives.specs.Expansion.{Expansion}
 use Rattle.search.specs.Explored.{Found}
-use Rattle.search.specs.Rounds.{NumberedPlaced, Numbered, is_met, first_place, told, alternatives_of, round, answer}
+use Rattle.search.specs.Rounds.{NumberedPlaced, Numbered, is_met, first_place, alternatives_of, round, answer}
 use Rattle.search.specs.Uses.{contents_of, round_before, chosen_in, satisfied, last_round, in_order}
 use Rattle.js_explore.specs.Exploration.{Exploration, alternatives_at}
+use Rattle.js_waiting.specs.Counts.{uncounted}
+use Rattle.js_waiting.specs.Mentioned.{mentions_of}
 use Rattle.js_rounds.specs.Seen.{seen}
 use Rattle.js_rounds.specs.declared.rounds.Rounds.{Rounds}
 
@@ -14,11 +16,17 @@ abbrev pub answered : List (Option (ℕ × ℕ)) → ℕ
 answered [] = 0
 answered (o ∷ os) = cond (is_some o) 1 0 + answered os
 
--- there is room for n goals
+-- how often a number is in a list
+abbrev pub times : ℕ → List ℕ → ℕ
+times g [] = 0
+times g (x ∷ xs) = cond (nat_eq x g) 1 0 + times g xs
+
+-- there is room for n goals; those that have an answer are noted once, and no others
 pub record IsRoomy (n : ℕ) (r : Rounds) : Type 0 where
   pub known : length r.known.items ≡ n
   pub order : length r.order.items ≡ n
   pub count : r.count ≡ answered r.known.items
+  pub noted : (g : ℕ) → times g (take r.count r.order.items) ≡ cond (is_some (get_or r.known.items g None)) 1 0
 
 -- no round was run
 pub record IsNew (n : ℕ) (r : Rounds) : Type 0 where
@@ -36,10 +44,6 @@ pub record IsFor (n : ℕ) (r : Rounds) : Type 0 where
 abbrev pub answer_to : Rounds → ℕ → Option (ℕ × ℕ)
 answer_to r g = get_or r.known.items g None
 
--- the answer of a goal after one more look at it
-abbrev pub look_at : Exploration → List (Option (ℕ × ℕ)) → ℕ → ℕ → Option (ℕ × ℕ)
-look_at e known r g = told r (get_or known g None) (first_place (is_met (seen known r)) (alternatives_at e g))
-
 -- what the answer's alternative is made of
 abbrev pub contents_seen : (ℕ → Bool) → Option Numbered → List NumberedPlaced
 contents_seen has None = []
@@ -49,9 +53,14 @@ abbrev pub contents_at : Exploration → Rounds → ℕ → List NumberedPlaced
 contents_at e r g =
     contents_seen (seen r.known.items (round_before (answer_to r g))) (chosen_in (alternatives_at e g) (answer_to r g))
 
--- the goal, where the look found an answer
-abbrev pub with_goal : ℕ → Option (ℕ × ℕ) → Option (ℕ × ℕ) → List ℕ
-with_goal g before now = cond (is_some now && not (is_some before)) (g ∷ []) []
+-- nothing was counted, and the places that name goals are those of an exploration
+pub record IsUncounted (e : Exploration) (r : Rounds) : Type 0 where
+  pub waiting : r.waiting ≡ uncounted e
+  pub mentions : (m : ℕ) → m < length e.found.goals → get_or r.mentions m [] ≡ mentions_of e m
+
+-- rounds that were made for an exploration
+abbrev pub IsMade : Exploration → Rounds → Type 0
+IsMade e r = r.has_run ≡ false → IsUncounted e r
 
 module _ (expansion : List Signed → Expansion) (f : Found) where
   -- all rounds up to k were run

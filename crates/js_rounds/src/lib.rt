@@ -1,7 +1,7 @@
 //! Rounds over explored goals: which goals have a document, by which alternative, and the document's parts.
 //!
 //! A round has the goals with an alternative whose goals the round before has; so the least round of a goal is no less
-//! than the depth of its document. `run` costs a look at each place of each alternative in each round.
+//! than the depth of its document. `run` counts each place of each alternative once at most.
 #![tactic(auto)]
 
 mod elements;
@@ -11,6 +11,7 @@ mod parts;
 mod rounds;
 mod runs;
 mod used;
+mod waking;
 
 pub use rounds::Rounds;
 

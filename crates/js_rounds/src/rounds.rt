@@ -1,20 +1,21 @@
-//! Rounds by sweeps over all goals.
+//! Rounds by waiting counts: a goal enters when the first of its alternatives wakes.
 
-ghost use Rattle.std.specs.Prelude.{◌≡◌, ◌<◌, ◌≤◌, ◌+◌, ◌-◌, ◌^◌, ◌++◌, ◌∷◌, [], ℕ, List, true, false, Some, None, IfOk, get_or, length, suc, set, take, cond, not, ◌&&◌};
-ghost use Rattle.std.specs.Option.{is_some};
-ghost use Rattle.documents.specs.Tests.{some};
+ghost use Rattle.std.specs.Prelude.{◌≡◌, ◌<◌, ◌≤◌, ◌+◌, ℕ, List, true, false, IfOk, length};
 ghost use Rattle.goals.specs.Signed.{Signed};
 ghost use Rattle.alternatives.specs.Expansion as X;
 ghost use Rattle.search.specs.Explored.{Found};
 ghost use Rattle.search.specs.Uses as U;
 ghost use Rattle.js_explore.specs.ExploredView.{explored_view};
-ghost use Rattle.js_explore.specs.Exploration.{Explores, alternatives_at};
-ghost use Rattle.js_rounds.specs.Seen.{seen};
+ghost use Rattle.js_explore.specs.Exploration.{Explores};
+ghost use Rattle.js_waiting.specs.Counts.{all_places};
 
-use crate::meeting::{Answer, first_met};
+use crate::meeting::Answer;
 use js_doc::Memory;
 use js_explore::Explored;
+use js_waiting::{Mentions, Steps, Waiting};
 use std::alloc::Global;
+use std::marker::Brand;
+use std::sync::ledger::{Blank, Ledger};
 
 /// The rounds of explored goals.
 #[derive(Drop)]
@@ -24,16 +25,19 @@ pub struct Rounds {
     pub(crate) order: Vec<u32>,
     /// How many goals have an answer.
     pub(crate) count: usize,
-    last: u32,
+    pub(crate) last: u32,
     has_run: bool,
+    pub(crate) waiting: Waiting,
+    pub(crate) mentions: Mentions,
 }
 
 impl Rounds {
-    ghost use Rattle.js_rounds.specs.State.{IsNew, IsFor, IsRoomy, IsAt, AreRounds, IsLeast, answer_to, look_at, with_goal};
+    ghost use Rattle.js_rounds.specs.State.{IsNew, IsFor, IsMade, IsUncounted, IsRoomy, AreRounds, IsLeast, answer_to};
 
-    /// No round of the goals is known yet.
+    /// No round of the goals is known yet. It makes the room for all of them.
     pub fn new(alloc: Global, explored: &Explored) -> Result<Rounds, Memory>
-        ensures { IfOk result (λ r. IsNew (length (explored_view explored.now).found.goals) r) }
+        ensures new { IfOk result (λ r. IsNew (length (explored_view explored.now).found.goals) r) }
+        ensures made { IfOk result (λ r. IsMade (explored_view explored.now) r) }
     {
         let goals = explored.len() as usize;
         Ok(Rounds {
@@ -42,85 +46,92 @@ impl Rounds {
             count: 0,
             last: 0,
             has_run: false,
+            waiting: Waiting::new(alloc, explored)?,
+            mentions: Mentions::new(alloc, explored)?,
         })
     }
 
-    /// A goal without an answer gets one, if the round meets one of its alternatives.
-    fn look(&mut self, explored: &Explored, goal: u32, round: u32)
-        requires round { round < 2 ^ 32 - 1 }
-        requires goal { goal < length self.old.known.items }
-        requires roomy { IsRoomy (length self.old.known.items) self.old }
-        ensures known { self.new.known.items ≡ set self.old.known.items goal
-            (look_at (explored_view explored.now) self.old.known.items round goal) }
-        ensures order { take self.new.count self.new.order.items ≡ take self.old.count self.old.order.items
-            ++ with_goal goal (get_or self.old.known.items goal None)
-            (look_at (explored_view explored.now) self.old.known.items round goal) }
-        ensures roomy { IsRoomy (length self.old.known.items) self.new }
-        ensures last { self.new.last ≡ self.old.last }
-        ensures has_run { self.new.has_run ≡ self.old.has_run }
-    {
-        if self.known[goal as usize].is_some() {
-            return;
-        }
-        if let Some(place) = first_met(&self.known, explored.alternatives(goal), round) {
-            self.known[goal as usize] = Some((round + 1, place as u32));
-            self.order[self.count] = goal;
-            self.count += 1;
-        }
-    }
-
-    /// Looks at all goals. Answers whether one was added.
-    fn sweep(&mut self, explored: &Explored, round: u32) -> bool
-        requires round { round < 2 ^ 32 - 1 }
-        requires roomy { IsRoomy (length (explored_view explored.now).found.goals) self.old }
-        ensures round { (expansion : List Signed → X.Expansion) → Explores expansion (explored_view explored.now)
-            → IsAt expansion (explored_view explored.now).found round self.old
-            → IsAt expansion (explored_view explored.now).found (round + 1) self.new }
-        ensures added { (expansion : List Signed → X.Expansion) → Explores expansion (explored_view explored.now)
-            → IsAt expansion (explored_view explored.now).found round self.old
-            → result ≡ some (U.is_added expansion (explored_view explored.now).found round)
-            (U.numbers expansion (explored_view explored.now).found) }
-        ensures roomy { IsRoomy (length (explored_view explored.now).found.goals) self.new }
-        ensures last { self.new.last ≡ self.old.last }
-        ensures has_run { self.new.has_run ≡ self.old.has_run }
-    {
-        let before = self.count;
-        for goal in 0..explored.len() {
-            self.look(explored, goal, round);
-        }
-        before < self.count
-    }
-
     /// Round after round, until one adds no goal.
-    fn run_all(&mut self, explored: &Explored)
-        requires { IsNew (length (explored_view explored.now).found.goals) self.old }
+    fn run_all<L: Ledger>(&mut self, explored: &Explored, steps: &mut Steps<L>)
+        requires new { IsNew (length (explored_view explored.now).found.goals) self.old }
+        requires uncounted { IsUncounted (explored_view explored.now) self.old }
         ensures rounds { (expansion : List Signed → X.Expansion) → Explores expansion (explored_view explored.now)
             → AreRounds expansion (explored_view explored.now).found self.new }
         ensures roomy { IsRoomy (length (explored_view explored.now).found.goals) self.new }
+        ensures steps { steps.new ≤ steps.old + all_places (explored_view explored.now) }
     {
-        for round in 0..explored.len() {
-            if !self.sweep(explored, round) {
+        self.begin(explored);
+        let mut from = 0;
+        for round in 1..explored.len() {
+            self.sort(from);
+            let to = self.count;
+            if from == to {
                 return;
             }
-            self.last = round + 1;
+            for place in from..to {
+                let goal = self.order[place];
+                self.take_goal(goal, round, steps);
+            }
+            from = to;
         }
+        self.sort(from);
     }
 
-    /// Finds the rounds of the goals: it goes over all of them, round after round, until a round adds none. It is to be
-    /// given what the rounds were made for. A second call changes nothing.
-    pub fn run(&mut self, explored: &Explored)
-        requires { IsFor (length (explored_view explored.now).found.goals) self.old }
+    /// Finds the rounds of the goals. The goals of a round are taken by number: what names one is counted, and an
+    /// alternative wakes when nothing is left that it waits for. It is to be given what the rounds were made for. A
+    /// second call changes nothing.
+    ///
+    /// It takes no memory. Each count is a step; beside them it looks once at each alternative, and sorts each round's
+    /// goals by number.
+    pub fn run<L: Ledger>(&mut self, explored: &Explored, steps: &mut Steps<L>)
+        requires same { IsFor (length (explored_view explored.now).found.goals) self.old }
+        requires made { IsMade (explored_view explored.now) self.old }
         ensures rounds { self.old.has_run ≡ false
             → (expansion : List Signed → X.Expansion) → Explores expansion (explored_view explored.now)
             → AreRounds expansion (explored_view explored.now).found self.new }
         ensures again { self.old.has_run ≡ true → self.new ≡ self.old }
         ensures has_run { self.new.has_run ≡ true }
         ensures same { IsFor (length (explored_view explored.now).found.goals) self.new }
+        ensures made { IsMade (explored_view explored.now) self.new }
+        ensures steps { steps.new ≤ steps.old + all_places (explored_view explored.now) }
     {
         if !self.has_run {
-            self.run_all(explored);
+            self.run_all(explored, steps);
             self.has_run = true;
         }
+    }
+
+    /// As `run`, for a caller that counts no steps.
+    pub fn run_uncounted(&mut self, explored: &Explored)
+        requires same { IsFor (length (explored_view explored.now).found.goals) self.old }
+        requires made { IsMade (explored_view explored.now) self.old }
+        ensures rounds { self.old.has_run ≡ false
+            → (expansion : List Signed → X.Expansion) → Explores expansion (explored_view explored.now)
+            → AreRounds expansion (explored_view explored.now).found self.new }
+        ensures again { self.old.has_run ≡ true → self.new ≡ self.old }
+        ensures has_run { self.new.has_run ≡ true }
+        ensures same { IsFor (length (explored_view explored.now).found.goals) self.new }
+        ensures made { IsMade (explored_view explored.now) self.new }
+    {
+        self.run_from::<Brand>(explored, Blank::new(1));
+    }
+
+    fn run_from<L: Ledger>(&mut self, explored: &Explored, blank: Blank)
+        requires name { blank.name ≡ L.name }
+        requires parts { blank.parts ≡ L.parts }
+        requires whole { 0 < blank.parts }
+        requires same { IsFor (length (explored_view explored.now).found.goals) self.old }
+        requires made { IsMade (explored_view explored.now) self.old }
+        ensures rounds { self.old.has_run ≡ false
+            → (expansion : List Signed → X.Expansion) → Explores expansion (explored_view explored.now)
+            → AreRounds expansion (explored_view explored.now).found self.new }
+        ensures again { self.old.has_run ≡ true → self.new ≡ self.old }
+        ensures has_run { self.new.has_run ≡ true }
+        ensures same { IsFor (length (explored_view explored.now).found.goals) self.new }
+        ensures made { IsMade (explored_view explored.now) self.new }
+    {
+        let mut steps = Steps::<L>::new(blank);
+        self.run(explored, &mut steps);
     }
 
     /// The least round that has the goal, and the first of its alternatives that the round before meets; None exactly

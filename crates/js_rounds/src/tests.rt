@@ -237,8 +237,8 @@ fn least_rounds_and_first_alternatives(rt: HostRuntime) -> Result<(), Fail> {
     let expander = expander(rt.alloc())?;
     let explored = explore(rt.alloc(), &expander, expander.root.clone()?)?;
     let mut rounds = Rounds::new(rt.alloc(), &explored)?;
-    rounds.run(&explored);
-    rounds.run(&explored);
+    rounds.run_uncounted(&explored);
+    rounds.run_uncounted(&explored);
     let answers = [Some((3, 1)), None, Some((1, 0)), Some((2, 0)), None];
     for (goal, answer) in answers.iter().enumerate() {
         assert_eq!(rt; rounds.satisfied(goal as u32), *answer);
@@ -291,7 +291,7 @@ fn parts_in_order_of_rounds(rt: HostRuntime) -> Result<(), Fail> {
     let expander = expander(rt.alloc())?;
     let explored = explore(rt.alloc(), &expander, expander.root.clone()?)?;
     let mut rounds = Rounds::new(rt.alloc(), &explored)?;
-    rounds.run(&explored);
+    rounds.run_uncounted(&explored);
     for case in CASES.iter() {
         assert!(rt; rounds.satisfied(case.goal).is_some());
         if rounds.satisfied(case.goal).is_some() {

@@ -10,8 +10,7 @@ use Rattle.search_laws.proofs.Marking.{in_at}
 use Rattle.js_explore.specs.ExploredView.{explored_view}
 use Rattle.js_rounds.specs.State.{IsRoomy, contents_at}
 use Rattle.js_rounds.specs.declared.rounds.Rounds.{Rounds}
-use Rattle.js_rounds.proofs.Answered.{answered_most}
-use Rattle.js_rounds.proofs.Sweeps.{length_take}
+use Rattle.js_rounds.proofs.Answered.{answered_most, length_take}
 use Rattle.js_rounds.proofs.Using.{Back, turn, ended, get_take, get_any, written, contents_same}
 use Rattle.js_rounds.proofs.rounds.Rounds.used.Goals as goal
 
