@@ -1,5 +1,5 @@
 -- The first that is placed and clashes or is cited, one after another; and the line of a complete plan.
-use Rattle.std.proofs.Common.{◌≡◌, ℕ, zero, suc, ◌<◌, ◌≤◌, List, [], ◌∷◌, map, drop, length, cond, nat_eq, Option, Some, None, slice_get, refl, arith, ap, ap₂, sym, ◌∙◌}
+use Rattle.std.proofs.Common.{◌≡◌, ℕ, zero, suc, ◌<◌, ◌≤◌, List, [], ◌∷◌, map, drop, length, Bool, cond, nat_eq, Option, Some, None, slice_get, refl, arith, ap, ap₂, sym, ◌∙◌}
 use Rattle.std.specs.Option.{is_none}
 use Rattle.positions.specs.Position.{Position}
 use Rattle.goals.specs.Signed.{Signed}
@@ -37,7 +37,7 @@ drop-past (x ∷ xs) (suc k) l = drop-past xs k (omega (arith, l))
 
 module _ (T : List Position) (frame : Frame) (ws : List Server) (path : IsPath frame ws) (h k j : ℕ)
     (heads : h ≡ heads_placed frame (plan_after frame ws)) (less : k < length (placed frame (plan_after frame ws)))
-    (o : Option (List Signed)) (goal : o ≡ goal_of T frame (seen frame ws (server_at h k))) (next : j ≡ suc k) where
+    (next : j ≡ suc k) where
   abbrev all : List (Place × List Signed)
   all = placed frame (plan_after frame ws)
 
@@ -47,14 +47,16 @@ module _ (T : List Position) (frame : Frame) (ws : List Server) (path : IsPath f
       ∙ ap (λ n. seen frame ws (server_at h k) ∷ drop n all) (sym next)
 
   -- one more is looked at
-  pub clash-next : clash_from T frame k (drop k all) ≡ cond (is_none o) (Some k) (clash_from T frame j (drop j all))
-  clash-next =
+  pub clash-next : (b : Bool) → b ≡ is_none (goal_of T frame (seen frame ws (server_at h k)))
+      → clash_from T frame k (drop k all) ≡ cond b (Some k) (clash_from T frame j (drop j all))
+  clash-next b is =
       ap (clash_from T frame k) cut
-      ∙ ap₂ (λ x n. cond (is_none x) (Some k) (clash_from T frame n (drop j all))) (sym goal) (sym next)
+      ∙ ap₂ (λ x n. cond x (Some k) (clash_from T frame n (drop j all))) (sym is) (sym next)
 
-  pub cited-next : (number : List Signed → Option ℕ) (c : Option ℕ) → c ≡ number_of number o
+  pub cited-next : (o : Option (List Signed)) → o ≡ goal_of T frame (seen frame ws (server_at h k))
+      → (number : List Signed → Option ℕ) (c : Option ℕ) → c ≡ number_of number o
       → cited_from number T frame k (drop k all) ≡ cited_as k c (cited_from number T frame j (drop j all))
-  cited-next number c is =
+  cited-next o goal number c is =
       ap (cited_from number T frame k) cut
       ∙ ap₂ (λ x n. cited_as k (number_of number x) (cited_from number T frame n (drop j all))) (sym goal) (sym next)
       ∙ ap (λ x. cited_as k x (cited_from number T frame j (drop j all))) (sym is)

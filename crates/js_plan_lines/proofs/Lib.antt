@@ -4,6 +4,7 @@ mod Seen
 mod Plans
 mod Options
 mod Placing
+mod Keeping
 mod Firsts
 mod Walking
 mod Adding

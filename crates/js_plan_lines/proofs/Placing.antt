@@ -90,7 +90,7 @@ module _ (frame : Frame) (ws : List Server) where
       ∙ ap₂ (λ m n. m + n) (first-count path)
       (length-map P.members stands ∙ members-count frame ws path.few)
 
-  at-head : IsPath frame ws → (k : ℕ) → k < heads_of frame (most_used 0 ws) (length (cells_of ws))
+  pub at-head : IsPath frame ws → (k : ℕ) → k < heads_of frame (most_used 0 ws) (length (cells_of ws))
       → slice_get (placed frame P) k ≡ Some (seen frame ws (V.Head k))
   at-head path k l =
       let size_is = size-plan frame ws path in
@@ -99,7 +99,7 @@ module _ (frame : Frame) (ws : List Server) where
       ∙ get-head (size frame P) 0 k k P.heads (omega (arith, l, size_is)) (omega (arith, l, long)) (omega arith)
       ∙ ap (λ ds. Some (Head k, ds)) (served-is path (V.Head k) (lt-ltb k frame.heads (omega (arith, l))))
 
-  at-member : IsPath frame ws → (j k : ℕ) → k ≡ heads_of frame (most_used 0 ws) (length (cells_of ws)) + j
+  pub at-member : IsPath frame ws → (j k : ℕ) → k ≡ heads_of frame (most_used 0 ws) (length (cells_of ws)) + j
       → j < length (cells_of ws) → slice_get (placed frame P) k ≡ Some (seen frame ws (V.Member j))
   at-member path j k e l =
       get-behind first_places (map stands P.members) j k (omega (arith, e, first-count path))

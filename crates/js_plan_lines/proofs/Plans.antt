@@ -15,7 +15,7 @@ use Rattle.js_plan_lines.specs.Reach.{IsPath}
 use Rattle.js_plan_lines.specs.Left.{Fits}
 use Rattle.js_plan_lines.proofs.Grown.{heads-serve_all, cells_in, cells-serve_all, used-serve_all}
 
-members_on-cons : (m : ℕ) (w : Server) (ws : List Server)
+pub members_on-cons : (m : ℕ) (w : Server) (ws : List Server)
     → members_after m w + length (cells_of ws) ≡ m + length (cells_of (w ∷ ws))
 members_on-cons m (V.Head k) ws = refl
 members_on-cons m (V.Member k) ws = refl

@@ -18,10 +18,12 @@ use Rattle.js_plans.specs.Servers.{cells_of, is_valid}
 use Rattle.js_plans.specs.Choosing.{next_demand, choices_after}
 use Rattle.js_plan_lines.specs.declared.tree.Pending.{Pending}
 use Rattle.js_plan_lines.specs.Reach.{IsPath}
-use Rattle.js_plan_lines.specs.Left.{entry, Fits, AreFine, lines_after, lines_left, Visits}
+use Rattle.js_plan_lines.specs.Kept.{IsClear, WasClear}
+use Rattle.js_plan_lines.specs.Left.{entry, Fits, AreFine, AreClear, lines_after, lines_left, Visits}
 use Rattle.js_plan_lines.proofs.Firsts.{drop-past}
 use Rattle.js_plan_lines.proofs.Options.{options-choices, choices-valid}
 use Rattle.js_plan_lines.proofs.Plans.{next-plan, path-take, path-push}
+use Rattle.js_plan_lines.proofs.Keeping.{cut-last}
 
 -- a demand is left
 left-on : (n : ℕ) (ds : List Signed) → n < length ds → drop n ds ≡ get_or ds n (Plus 0) ∷ drop (suc n) ds
@@ -53,6 +55,23 @@ module _ (frame : Frame) where
         subst (λ us. Fits frame us s) (sym (take-length ws)) (l, a),
         subst (λ us. AreFine frame us (map (entry (length ws)) ss ++ es)) (sym (take-length ws)) rest,
       )
+
+module _ (T : List Position) (frame : Frame) where
+  clear-more : (ws zs : List Server) (es : List Pending) → AreFine frame ws es → AreClear T frame ws es
+      → AreClear T frame (ws ++ zs) es
+  clear-more ws zs [] f c = tt
+  clear-more ws zs (e ∷ es) f c =
+      subst (λ us. IsClear T frame us × AreClear T frame us es) (sym (take-append-le e.level ws zs f.0)) c
+
+  clear-entries : (ws ss : List Server) (es : List Pending) → IsClear T frame ws → AreClear T frame ws es
+      → AreClear T frame ws (map (entry (length ws)) ss ++ es)
+  clear-entries ws [] es clear c = c
+  clear-entries ws (s ∷ ss) es clear c =
+      subst (λ us. IsClear T frame us × AreClear T frame us (map (entry (length ws)) ss ++ es)) (sym (take-length ws))
+      (clear, clear-entries ws ss es clear c)
+
+pub empty-clear : (T : List Position) (frame : Frame) (ws : List Server) → ws ≡ [] → WasClear T frame ws
+empty-clear T frame ws e l = absurd (omega (arith, l, ap length e))
 
 pub empty-path : (frame : Frame) (ws : List Server) → ws ≡ [] → IsPath frame ws
 empty-path frame ws e = subst (IsPath frame) (sym e) (record { few = omega arith; valid = refl })
@@ -141,6 +160,7 @@ module _ (number : List Signed → Option ℕ) (form : Form) (T : List Position)
       added = added;
       told = ap (λ ls. ls ++ left ws (reverse ps)) e;
       fine = λ f. f;
+      clear = λ c. c;
     }
 
     pub visits-over : now ≡ before ++ L.Count ∷ []
@@ -179,6 +199,9 @@ module _ (number : List Signed → Option ℕ) (form : Form) (T : List Position)
       fine = λ f.
           subst (AreFine frame ws) (sym more)
           (fine-entries frame ws (choices_after frame ws) (reverse ps) l (choices-valid frame ws (omega (arith, l))) f);
+      clear = λ c.
+          subst (AreClear T frame ws) (sym more)
+          (clear-entries T frame ws (choices_after frame ws) (reverse ps) clear c);
     }
 
   -- lines so far and lines that are left
@@ -192,6 +215,9 @@ module _ (number : List Signed → Option ℕ) (form : Form) (T : List Position)
       (v : Visits number form T frame ws ps qs before now) where
     pub first-fine : AreFine frame ws (reverse qs)
     first-fine = v.fine (subst (λ es. AreFine frame ws (reverse es)) (sym no) tt)
+
+    pub first-clear : AreClear T frame ws (reverse qs)
+    first-clear = v.clear (subst (λ es. AreClear T frame ws (reverse es)) (sym no) tt)
 
     pub first-lines : now ++ left ws (reverse qs) ≡ before ++ plan_lines number form T frame
     unfolding plan_lines
@@ -212,6 +238,12 @@ module _ (number : List Signed → Option ℕ) (form : Form) (T : List Position)
         subst (IsPath frame) (sym cut)
         (path-push frame (take e.level path) e.server (path-take frame e.level path p) at_next.1)
 
+    clear_next : AreClear T frame path (reverse old) → AreClear T frame path (e ∷ reverse es)
+    clear_next c = subst (λ us. AreClear T frame path us) (popped es old e q) c
+
+    pub next-was : AreClear T frame path (reverse old) → WasClear T frame path'
+    next-was c l = subst (IsClear T frame) (sym (cut-last path' (take e.level path) e.server cut)) (clear_next c).0
+
     next-left : left path (reverse old) ≡ after path' ++ left path' (reverse es)
     next-left =
         ap (left path) (popped es old e q)
@@ -226,6 +258,12 @@ module _ (number : List Signed → Option ℕ) (form : Form) (T : List Position)
           v.fine
           (subst (λ us. AreFine frame us (reverse es)) (sym cut)
           (fine-more frame (take e.level path) (e.server ∷ []) (reverse es) at_next.2))
+
+      pub next-clear : AreClear T frame path (reverse old) → AreClear T frame path' (reverse qs)
+      next-clear c =
+          v.clear
+          (subst (λ us. AreClear T frame us (reverse es)) (sym cut)
+          (clear-more T frame (take e.level path) (e.server ∷ []) (reverse es) at_next.2 (clear_next c).1))
 
       pub next-lines : before ++ left path (reverse old) ≡ all → now ++ left path' (reverse qs) ≡ all
       next-lines sum =

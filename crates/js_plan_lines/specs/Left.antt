@@ -10,6 +10,7 @@ use Rattle.js_plans.specs.declared.server.Server.{Server}
 use Rattle.js_plans.specs.Serving.{plan_after}
 use Rattle.js_plans.specs.Servers.{cells_of, is_valid}
 use Rattle.js_plan_lines.specs.declared.tree.Pending.{Pending}
+use Rattle.js_plan_lines.specs.Kept.{IsClear}
 
 abbrev pub entry : ℕ → Server → Pending
 entry n s = record { level = n; server = s }
@@ -22,6 +23,11 @@ abbrev pub AreFine : Frame → List Server → List Pending → Type 0
 AreFine frame ws [] = ⊤
 AreFine frame ws (e ∷ es) =
     (e.level ≤ length ws) × Fits frame (take e.level ws) e.server × AreFine frame (take e.level ws) es
+
+-- nothing clashes where they go on
+abbrev pub AreClear : List Position → Frame → List Server → List Pending → Type 0
+AreClear T frame ws [] = ⊤
+AreClear T frame ws (e ∷ es) = IsClear T frame (take e.level ws) × AreClear T frame (take e.level ws) es
 
 module _ (number : List Signed → Option ℕ) (form : Form) (T : List Position) (frame : Frame) where
   -- the lines of the tree of the plan that these servers make
@@ -39,3 +45,4 @@ module _ (number : List Signed → Option ℕ) (form : Form) (T : List Position)
     pub added : after ≡ before ++ line ∷ []
     pub told : lines_after ws ++ lines_left ws (reverse old) ≡ line ∷ lines_left ws (reverse new)
     pub fine : AreFine frame ws (reverse old) → AreFine frame ws (reverse new)
+    pub clear : AreClear T frame ws (reverse old) → AreClear T frame ws (reverse new)

@@ -2,5 +2,6 @@
 -- first that is cited, and the lines that are left.
 pub mod FormView
 pub mod Reach
+pub mod Kept
 pub mod Cited
 pub mod Left

@@ -92,6 +92,7 @@ fn heads_placed<F: PlanFrame>(frame: &F, extent: Extent) -> u64
 #[derive(Clone, Copy)]
 pub(crate) struct Placed {
     pub heads: u64,
+    pub members: usize,
     pub count: u64,
 }
 
@@ -99,6 +100,7 @@ impl Placed {
     pub(crate) fn of<F: PlanFrame>(frame: &F, path: &[Server]) -> Placed
         requires { IsPath (F.frame frame.now) path.now }
         ensures heads { result.heads ≡ heads_placed (F.frame frame.now) (plan_after (F.frame frame.now) path.now) }
+        ensures members { result.members ≡ length (cells_of path.now) }
         ensures count { result.count
             ≡ length (placed (F.frame frame.now) (plan_after (F.frame frame.now) path.now)) }
         ensures bound { result.heads ≤ 2 ^ 32 }
@@ -107,6 +109,7 @@ impl Placed {
         let heads = heads_placed(frame, extent);
         Placed {
             heads,
+            members: extent.members,
             count: heads + extent.members as u64,
         }
     }

@@ -4,6 +4,7 @@
 //! kept as what serves each of its demands so far; what is placed, and which demands that serves, is read off that.
 #![tactic(auto)]
 
+mod before;
 mod choices;
 mod dead_goals;
 mod extent;

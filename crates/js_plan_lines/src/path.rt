@@ -4,7 +4,6 @@ ghost use Rattle.std.specs.Prelude.{◌≡◌, ◌<◌, ◌≤◌, ◌^◌, map,
 ghost use Rattle.js_algebra.specs.View.{signed_view};
 ghost use Rattle.js_plans.specs.Serving.{place_view};
 ghost use Rattle.js_plans.specs.Servers.{serves_too, members_after, cells_of, earlier};
-ghost use Rattle.frames.specs.Frame.{In};
 ghost use Rattle.js_plans.specs.Goals.{place_after};
 
 use js_algebra::Signed;
@@ -24,7 +23,7 @@ pub(crate) fn members_after(members: usize, server: Server) -> usize
 }
 
 /// Whether what serves a demand also serves an earlier one, before which there were so many members.
-fn serves_too(server: Server, members: usize, earlier: Server) -> bool
+pub(crate) fn serves_too(server: Server, members: usize, earlier: Server) -> bool
     ensures { result ≡ serves_too server members earlier }
 {
     match (server, earlier) {
@@ -70,31 +69,29 @@ pub(crate) fn cells(alloc: Global, path: &[Server]) -> Result<Vec<u32>, Memory>
     Ok(cells)
 }
 
-/// The cell of that number.
-fn cell_at(cells: &[u32], number: usize) -> u32
-    ensures { result ≡ get_or cells.now number 0 }
+/// The cell of the member of that number.
+fn cell_of(path: &[Server], member: usize) -> u32
+    ensures { result ≡ get_or (cells_of path.now) member 0 }
 {
-    match cells.get(number) {
-        Some(cell) => *cell,
-        None => 0,
+    let mut left = member;
+    for server in path {
+        if let Server::New(cell) = *server {
+            if left == 0 {
+                return cell;
+            }
+            left -= 1;
+        }
     }
-}
-
-/// The place of the member of that number.
-fn place_of_member(alloc: Global, path: &[Server], number: usize) -> Result<Place, Memory>
-    ensures { IfOk result (λ place. place_view place ≡ In (get_or (cells_of path.now) number 0)) }
-{
-    let cells = cells(alloc, path)?;
-    Ok(Place::In(cell_at(cells.as_slice(), number)))
+    0
 }
 
 /// The place of a server, after a path.
-pub(crate) fn place_of(alloc: Global, path: &[Server], server: Server) -> Result<Place, Memory>
-    ensures { IfOk result (λ place. place_view place ≡ place_after path.now server) }
+pub(crate) fn place_of(path: &[Server], server: Server) -> Place
+    ensures { place_view result ≡ place_after path.now server }
 {
     match server {
-        Server::Head(k) => Ok(Place::Head(k)),
-        Server::Member(k) => place_of_member(alloc, path, k),
-        Server::New(cell) => Ok(Place::In(cell)),
+        Server::Head(k) => Place::Head(k),
+        Server::Member(k) => Place::In(cell_of(path, k)),
+        Server::New(cell) => Place::In(cell),
     }
 }

@@ -1,13 +1,16 @@
 //! What a plan places, by its number: the first that clashes, and the first that no document meets.
 
 ghost use Rattle.std.specs.Prelude.{◌≡◌, ◌≤◌, ◌^◌, map, true, length, IfOk};
+ghost use Rattle.std.specs.Option.{is_none};
 ghost use Rattle.frames.specs.Plan.{goal_of, first_clash, placed};
 ghost use Rattle.refutations.specs.PlanTreeLines.{number_of};
 ghost use Rattle.js_algebra.specs.View.{signed_view, are_in_table};
 ghost use Rattle.js_plans.specs.Serving.{place_view, plan_after};
 ghost use Rattle.js_plan_lines.specs.Reach.{server_at, served_at, seen, IsPath};
+ghost use Rattle.js_plan_lines.specs.Kept.{WasClear, AreBefore};
 ghost use Rattle.js_plan_lines.specs.Cited.{cited_from};
 
+use crate::before::{Before, is_kept};
 use crate::dead_goals::DeadGoals;
 use crate::extent::Placed;
 use crate::path::{self, place_of};
@@ -63,38 +66,58 @@ fn served_by<F: PlanFrame>(
     Ok(served)
 }
 
-/// The goal of what is placed by that number, where so many first places are.
+/// The goal of a server, with all demands that it serves.
 fn goal_at<F: PlanFrame>(
     alloc: Global,
     frame: &F,
     path: &[Server],
-    heads: u64,
-    number: u64,
+    server: Server,
 ) -> Result<Option<Goal>, Memory>
-    requires few { length path.now ≤ length (F.frame frame.now).demands }
-    requires heads { heads ≤ 2 ^ 32 }
+    requires { length path.now ≤ length (F.frame frame.now).demands }
     ensures { IfOk result (λ o. o ≡ goal_of (F.table frame.now) (F.frame frame.now)
-        (seen (F.frame frame.now) path.now (server_at heads number))) }
+        (seen (F.frame frame.now) path.now server)) }
 {
-    let server = server_at(heads, number);
     let served = served_by(alloc, frame, path, server)?;
-    let place = place_of(alloc, path, server)?;
+    let place = place_of(path, server);
     goal_of(alloc, frame, place, served.as_slice())
 }
 
-/// The number of the first that is placed and whose list clashes.
+/// Whether the list of a server clashes: one that is kept doesn't.
+fn is_clash<F: PlanFrame>(
+    alloc: Global,
+    frame: &F,
+    path: &[Server],
+    before: Option<Before>,
+    server: Server,
+) -> Result<bool, Memory>
+    requires path { IsPath (F.frame frame.now) path.now }
+    requires before { AreBefore (F.table frame.now) (F.frame frame.now) path.now before }
+    ensures { IfOk result (λ b. b ≡ is_none (goal_of (F.table frame.now) (F.frame frame.now)
+        (seen (F.frame frame.now) path.now server))) }
+{
+    if is_kept(before, server) {
+        return Ok(false);
+    }
+    let goal = goal_at(alloc, frame, path, server)?;
+    Ok(goal.is_none())
+}
+
+/// The number of the first that is placed and whose list clashes, where nothing clashed before the last server.
 pub(crate) fn first_clash<F: PlanFrame>(
     alloc: Global,
     frame: &F,
     path: &[Server],
 ) -> Result<Option<u64>, Memory>
-    requires { IsPath (F.frame frame.now) path.now }
+    requires path { IsPath (F.frame frame.now) path.now }
+    requires clear { WasClear (F.table frame.now) (F.frame frame.now) path.now }
     ensures { IfOk result (λ o. o ≡ first_clash (F.table frame.now) (F.frame frame.now)
         (plan_after (F.frame frame.now) path.now)) }
 {
+    let before = Before::of(frame, path);
     let placed = Placed::of(frame, path);
     for number in 0..placed.count {
-        if goal_at(alloc, frame, path, placed.heads, number)?.is_none() {
+        let server = server_at(placed.heads, number);
+        if is_clash(alloc, frame, path, before, server)? {
             return Ok(Some(number));
         }
     }
@@ -124,7 +147,8 @@ pub(crate) fn first_cited<F: PlanFrame, D: DeadGoals>(
 {
     let placed = Placed::of(frame, path);
     for number in 0..placed.count {
-        let goal = goal_at(alloc, frame, path, placed.heads, number)?;
+        let server = server_at(placed.heads, number);
+        let goal = goal_at(alloc, frame, path, server)?;
         if let Some(cited) = number_of(dead, goal) {
             return Ok(Some((number, cited)));
         }

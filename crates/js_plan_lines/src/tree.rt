@@ -10,6 +10,7 @@ ghost use Rattle.js_lines.specs.View.{line_view};
 ghost use Rattle.js_plans.specs.Choosing.{choices_after};
 ghost use Rattle.js_plan_lines.specs.FormView.{form_view};
 ghost use Rattle.js_plan_lines.specs.Reach.{IsPath};
+ghost use Rattle.js_plan_lines.specs.Kept.{WasClear};
 ghost use Rattle.js_plan_lines.specs.Left.{entry, Visits};
 
 use crate::choices::choices;
@@ -87,7 +88,8 @@ fn visit<F: PlanFrame, D: DeadGoals>(
     pending: &mut Vec<Pending>,
     lines: &mut Vec<CertLine>,
 ) -> Result<(), Memory>
-    requires { IsPath (F.frame frame.now) path.now }
+    requires path { IsPath (F.frame frame.now) path.now }
+    requires clear { WasClear (F.table frame.now) (F.frame frame.now) path.now }
     ensures { OnOk result (Visits (D.number dead.now) (form_view form) (F.table frame.now) (F.frame frame.now) path.now
         pending.old.items pending.new.items (map line_view lines.old.items) (map line_view lines.new.items)) }
 {

@@ -1,7 +1,8 @@
 -- One more is looked at.
-use Rattle.std.proofs.Common.{◌<◌, ◌+◌, suc, length, Some, None, refl, arith, sym, ◌∙◌}
-use Rattle.frames.specs.Plan.{placed}
+use Rattle.std.proofs.Common.{◌<◌, ◌+◌, suc, length, Some, None, refl, arith, ap, sym, ◌∙◌}
+use Rattle.frames.specs.Plan.{placed, goal_of}
 use Rattle.js_plans.specs.Serving.{plan_after}
+use Rattle.js_plan_lines.specs.Reach.{seen}
 use Rattle.js_plan_lines.proofs.Adding.{none_is}
 use Rattle.js_plan_lines.proofs.Firsts.{cited-next}
 use Rattle.js_plan_lines.proofs.placed.first_cited.Goals as goal
@@ -13,7 +14,10 @@ returns-in-Some g c =
     let less : k < length (placed frame (plan_after frame c.args.path.now)) =
     omega (arith, c.loop-number-test.true, c.of-placed.ensures.count) in
     sym (cited-next (g.F.PlanFrame.table c.args.frame.now) frame c.args.path.now c.requires c.of-placed.result.heads k
-    (suc k) c.of-placed.ensures.heads less c.in_ok-goal.goal c.in_ok-goal.ensures refl
+    (suc k) c.of-placed.ensures.heads less refl c.in_ok-goal.goal
+    (c.in_ok-goal.ensures
+    ∙ ap (λ s. goal_of (g.F.PlanFrame.table c.args.frame.now) frame (seen frame c.args.path.now s))
+    c.server_at-server.ensures)
     (g.D.DeadGoals.number c.args.dead.now) (Some c.in-Some.cited) (sym c.in-Some.is ∙ c.number_of.ensures))
     ∙ c.loop-number.invariant
 
@@ -24,7 +28,10 @@ loop-number-preserved g c =
     let less : k < length (placed frame (plan_after frame c.args.path.now)) =
     omega (arith, c.loop-number-test.true, c.of-placed.ensures.count) in
     sym (cited-next (g.F.PlanFrame.table c.args.frame.now) frame c.args.path.now c.requires c.of-placed.result.heads k
-    (k + 1) c.of-placed.ensures.heads less c.in_ok-goal.goal c.in_ok-goal.ensures (omega arith)
+    (k + 1) c.of-placed.ensures.heads less (omega arith) c.in_ok-goal.goal
+    (c.in_ok-goal.ensures
+    ∙ ap (λ s. goal_of (g.F.PlanFrame.table c.args.frame.now) frame (seen frame c.args.path.now s))
+    c.server_at-server.ensures)
     (g.D.DeadGoals.number c.args.dead.now) None
     (sym (none_is c.number_of.result c.in_default.not-Some) ∙ c.number_of.ensures))
     ∙ c.loop-number.invariant

@@ -1,22 +1,24 @@
 -- One more is looked at.
-use Rattle.std.proofs.Common.{◌<◌, ◌+◌, suc, length, cond, drop, true, false, Some, refl, arith, ap, sym, ◌∙◌}
-use Rattle.frames.specs.Plan.{placed, clash_from}
+use Rattle.std.proofs.Common.{◌<◌, ◌+◌, suc, length, cond, drop, Some, refl, arith, ap, sym, ◌∙◌}
+use Rattle.std.specs.Option.{is_none}
+use Rattle.frames.specs.Plan.{placed, goal_of, clash_from}
 use Rattle.js_plans.specs.Serving.{plan_after}
-use Rattle.js_plan_lines.proofs.Adding.{none_told}
+use Rattle.js_plan_lines.specs.Reach.{seen}
 use Rattle.js_plan_lines.proofs.Firsts.{clash-next}
 use Rattle.js_plan_lines.proofs.placed.first_clash.Goals as goal
 
-pub returns-then-is_none : goal.returns-then-is_none
-returns-then-is_none g c =
+pub returns-then-branch : goal.returns-then-branch
+returns-then-branch g c =
     let T = g.F.PlanFrame.table c.args.frame.now in
     let frame = g.F.PlanFrame.frame c.args.frame.now in
     let k = c.loop-number.number in
     let all = placed frame (plan_after frame c.args.path.now) in
     let less : k < length all = omega (arith, c.loop-number-test.true, c.of-placed.ensures.count) in
-    sym (clash-next T frame c.args.path.now c.requires c.of-placed.result.heads k (suc k) c.of-placed.ensures.heads
-    less c.in_ok-goal_at.field-0 c.in_ok-goal_at.ensures refl
-    ∙ ap (λ b. cond b (Some k) (clash_from T frame (suc k) (drop (suc k) all)))
-    (none_told c.in_ok-goal_at.field-0 c.is_none.result true c.is_none.ensures c.if-is_none.true))
+    sym (clash-next T frame c.args.path.now c.requires.path c.of-placed.result.heads k (suc k)
+    c.of-placed.ensures.heads less refl c.in_ok-is_clash.field-0
+    (c.in_ok-is_clash.ensures
+    ∙ ap (λ s. is_none (goal_of T frame (seen frame c.args.path.now s))) c.server_at-server.ensures)
+    ∙ ap (λ b. cond b (Some k) (clash_from T frame (suc k) (drop (suc k) all))) c.if-branch.true)
     ∙ c.loop-number.invariant
 
 pub loop-number-preserved : goal.loop-number-preserved
@@ -26,8 +28,9 @@ loop-number-preserved g c =
     let k = c.loop-number.number in
     let all = placed frame (plan_after frame c.args.path.now) in
     let less : k < length all = omega (arith, c.loop-number-test.true, c.of-placed.ensures.count) in
-    sym (clash-next T frame c.args.path.now c.requires c.of-placed.result.heads k (k + 1) c.of-placed.ensures.heads
-    less c.in_ok-goal_at.field-0 c.in_ok-goal_at.ensures (omega arith)
-    ∙ ap (λ b. cond b (Some k) (clash_from T frame (k + 1) (drop (k + 1) all)))
-    (none_told c.in_ok-goal_at.field-0 c.is_none.result false c.is_none.ensures c.if-is_none.false))
+    sym (clash-next T frame c.args.path.now c.requires.path c.of-placed.result.heads k (k + 1)
+    c.of-placed.ensures.heads less (omega arith) c.in_ok-is_clash.field-0
+    (c.in_ok-is_clash.ensures
+    ∙ ap (λ s. is_none (goal_of T frame (seen frame c.args.path.now s))) c.server_at-server.ensures)
+    ∙ ap (λ b. cond b (Some k) (clash_from T frame (k + 1) (drop (k + 1) all))) c.if-branch.false)
     ∙ c.loop-number.invariant

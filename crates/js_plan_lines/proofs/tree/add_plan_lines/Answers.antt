@@ -3,8 +3,9 @@ use Rattle.std.proofs.Common.{map, sym, subst}
 use Rattle.js_lines.specs.View.{line_view}
 use Rattle.js_plan_lines.specs.FormView.{form_view}
 use Rattle.js_plan_lines.specs.Reach.{IsPath}
+use Rattle.js_plan_lines.specs.Kept.{WasClear}
 use Rattle.js_plan_lines.specs.Left.{Visits}
-use Rattle.js_plan_lines.proofs.Walking.{empty-path, first-fine, first-lines, next-path, next-fine, next-lines, next-fewer}
+use Rattle.js_plan_lines.proofs.Walking.{empty-path, first-fine, first-clear, first-lines, next-path, next-was, next-fine, next-clear, next-lines, next-fewer}
 use Rattle.js_plan_lines.proofs.tree.add_plan_lines.Goals as goal
 
 pub loop-next-init : goal.loop-next-init
@@ -23,17 +24,28 @@ loop-next-init g c =
     record {
       path = empty-path frame ws c.new-path.ensures.items;
       fine = first-fine number form T frame ws ps qs before now c.new-path.ensures.items c.new-pending.ensures.items v;
+      clear =
+          first-clear number form T frame ws ps qs before now c.new-path.ensures.items c.new-pending.ensures.items v;
       lines =
           first-lines number form T frame ws ps qs before now c.new-path.ensures.items c.new-pending.ensures.items v;
     }
 
-pub visit-requires-in-Some : goal.visit-requires-in-Some
-visit-requires-in-Some g c =
+pub visit-requires-in-Some-clause-path : goal.visit-requires-in-Some-clause-path
+visit-requires-in-Some-clause-path g c =
     let frame = g.F.PlanFrame.frame c.args.frame.now in
     subst (IsPath frame) (sym c.as_slice-in-Some.ensures.value)
     (next-path (g.D.DeadGoals.number c.args.dead.now) (form_view c.args.form) (g.F.PlanFrame.table c.args.frame.now)
     frame c.loop-next.path.items c.go_to.new.path.items c.pop.new.self.items c.loop-next.pending.items c.in-Some.next
     c.in-Some.ensures.items c.in_ok-go_to.ensures c.loop-next.invariant.fine c.loop-next.invariant.path)
+
+pub visit-requires-in-Some-clause-clear : goal.visit-requires-in-Some-clause-clear
+visit-requires-in-Some-clause-clear g c =
+    let T = g.F.PlanFrame.table c.args.frame.now in
+    let frame = g.F.PlanFrame.frame c.args.frame.now in
+    subst (WasClear T frame) (sym c.as_slice-in-Some.ensures.value)
+    (next-was (g.D.DeadGoals.number c.args.dead.now) (form_view c.args.form) T
+    frame c.loop-next.path.items c.go_to.new.path.items c.pop.new.self.items c.loop-next.pending.items c.in-Some.next
+    c.in-Some.ensures.items c.in_ok-go_to.ensures c.loop-next.invariant.fine c.loop-next.invariant.clear)
 
 pub loop-next-smaller : goal.loop-next-smaller
 loop-next-smaller g c =
@@ -72,6 +84,8 @@ loop-next-preserved g c =
           c.in_ok-go_to.ensures c.loop-next.invariant.fine c.loop-next.invariant.path;
       fine = next-fine number form T frame path path' es old c.in-Some.next c.in-Some.ensures.items
           c.in_ok-go_to.ensures c.loop-next.invariant.fine qs before now now v;
+      clear = next-clear number form T frame path path' es old c.in-Some.next c.in-Some.ensures.items
+          c.in_ok-go_to.ensures c.loop-next.invariant.fine qs before now now v c.loop-next.invariant.clear;
       lines = next-lines number form T frame path path' es old c.in-Some.next c.in-Some.ensures.items
           c.in_ok-go_to.ensures c.loop-next.invariant.fine qs before now _ v c.loop-next.invariant.lines;
     }

@@ -4,7 +4,7 @@ use Rattle.refutations.specs.PlanTreeLines.{plan_lines}
 use Rattle.js_lines.specs.View.{line_view}
 use Rattle.js_plan_lines.specs.FormView.{form_view}
 use Rattle.js_plan_lines.specs.Reach.{IsPath}
-use Rattle.js_plan_lines.specs.Left.{lines_left, AreFine}
+use Rattle.js_plan_lines.specs.Left.{lines_left, AreFine, AreClear}
 use Rattle.js_plan_lines.proofs.tree.add_plan_lines.Given as goal
 
 abbrev pub invariant-loop-next : goal.invariant-loop-next
@@ -15,6 +15,7 @@ invariant-loop-next g l =
     record {
       path : IsPath frame l.path.items;
       fine : AreFine frame l.path.items (reverse l.pending.items);
+      clear : AreClear T frame l.path.items (reverse l.pending.items);
       lines : map line_view l.lines.items
           ++ lines_left number (form_view l.form) T frame l.path.items (reverse l.pending.items)
           ≡ map line_view l.fn.lines.items ++ plan_lines number (form_view l.form) T frame;

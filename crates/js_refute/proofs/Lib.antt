@@ -1,0 +1,4 @@
+pub mod Citing
+pub mod Growing
+pub mod Writing
+pub mod Numbers

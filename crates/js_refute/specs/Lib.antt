@@ -1,0 +1,2 @@
+-- Which explored goals have a number, and the lines of each.
+pub mod Unmet

@@ -1,0 +1,41 @@
+//! The explored goals that no round has, by their numbers.
+
+ghost use Rattle.std.specs.Prelude.{◌≡◌, true};
+
+use js_algebra::Goal;
+use js_explore::Explored;
+use js_plan_lines::DeadGoals;
+use js_rounds::Rounds;
+
+/// Explored goals, and rounds of them that were run. Contracts see the goals, and the numbers of those that no round
+/// has.
+#[derive(Clone, Copy)]
+pub(crate) struct Unmet<'a> {
+    pub(crate) explored: &'a Explored,
+    rounds: &'a Rounds,
+    ghost has_run: { rounds.now.has_run ≡ true },
+}
+
+impl<'a> Unmet<'a> {
+    pub(crate) fn new(explored: &'a Explored, rounds: &'a Rounds) -> Unmet<'a>
+        requires { rounds.now.has_run ≡ true }
+        ensures explored { result.explored.now ≡ explored.now }
+        ensures rounds { result.rounds.now ≡ rounds.now }
+    {
+        Unmet { explored, rounds }
+    }
+}
+
+impl DeadGoals for Unmet<'_> {
+    ghost use Rattle.js_refute.specs.Unmet.{number_of};
+
+    ghost number = { number_of };
+
+    fn number(&self, goal: &Goal) -> Option<u32> {
+        let number = self.explored.number(goal)?;
+        match self.rounds.satisfied(number) {
+            Some(_) => None,
+            None => Some(number),
+        }
+    }
+}
