@@ -5,14 +5,20 @@ use Rattle.schemas.specs.Entry.{Entry}
 use Rattle.js_outside.specs.Told.{Files}
 use Rattle.js_report.specs.WholeFile.{HasBytes}
 use Rattle.js_input.specs.SchemaReading.{Reading, Refused, Read, IsSchemaReading}
-use Rattle.js_inclusion.specs.Comparison.{Answer, comparison}
-use Rattle.js_inclusion.specs.Meaning.{IsReadAs, AnswerTells, Means}
-use Rattle.js_inclusion.specs.View.{answer_view}
+use Rattle.decisions.specs.Decision as D
+use Rattle.js_expansion.specs.View.{limit_view}
+use Rattle.js_decide.specs.View.{verdict_view}
+use Rattle.js_decide.specs.Certified.{HasCertificate}
+use Rattle.js_decide.specs.declared.verdict.Verdict.{Verdict}
+use Rattle.js_decide.specs.declared.verdict.Verdict.TheVariants as V
+use Rattle.js_inclusion.specs.Comparison.{comparison, certificate_text, judgement}
+use Rattle.js_inclusion.specs.Meaning.{IsReadAs, StopsSearch, Tells}
 use Rattle.js_commands.proofs.FileLemmas.{HaveFile-has, HaveFiles-has}
 use Rattle.js_commands.specs.ReadEntries.{entries_of, entries_read}
-use Rattle.js_commands.specs.IncludeOutcome.{Outcome, Decided, FirstRefused, of_values, of_second, IsAgainstBytes, IsAgainst, IsOutcomeOf, IsComparison}
-use Rattle.js_commands.specs.IncludeMeaning.{AreSchemas, IsDecided}
-use Rattle.js_commands.specs.IncludeSaying.{InclusionSays, SchemasSay}
+use Rattle.js_commands.specs.IncludeOutcome as A
+use Rattle.js_commands.specs.IncludeOutcome.{of_decision, answer, Outcome, Decided, FirstRefused, of_values, of_second, IsAgainstBytes, IsAgainst, IsOutcomeOf, IsComparison}
+use Rattle.js_commands.specs.IncludeMeaning.{AreSchemas, ValuesTell}
+use Rattle.js_commands.specs.IncludeSaying.{answer_view, InclusionSays, SchemasSay}
 use Rattle.js_commands.specs.declared.include.Inclusion.{Inclusion}
 use Rattle.js_commands.specs.declared.include.Inclusion.TheVariants as F
 
@@ -82,6 +88,13 @@ module _ (told : Option Files) (first one : List ℕ) (a : Json) (has : HasBytes
         is_second = refl;
       }
 
+-- a verdict's answer, with the bytes of its certificate
+view-answer : (text : List ℕ) (v : Verdict) (d : D.Verdict) → verdict_view v ≡ d → HasCertificate text v
+    → answer_view v ≡ of_decision text d
+view-answer text (V.Document ps i) d e has = ap (of_decision text) e
+view-answer text (V.Certificate bytes) d e has = ap A.Certificate has ∙ ap (of_decision text) e
+view-answer text (V.Limit k g) d e has = ap (of_decision text) e
+
 -- two schemas that are read, as these entries, and what the program says of them
 module _ (told : Option Files) (first : List ℕ) (second : Option (List ℕ)) (a b : Json) (es fs : List Entry)
     (x : IsReadAs a es) (y : IsReadAs b fs) (are : AreSchemas told first second a b)
@@ -92,27 +105,36 @@ module _ (told : Option Files) (first : List ℕ) (second : Option (List ℕ)) (
   same_entries' : entries_read b ≡ fs
   same_entries' = ap entries_of y.entries
 
-  same_answer : comparison (entries_read a) (entries_read b) ≡ comparison es fs
-  same_answer = ap₂ comparison same_entries same_entries'
+  same_answer : answer (entries_read a) (entries_read b) ≡ answer es fs
+  same_answer = ap₂ answer same_entries same_entries'
 
-  decided-tells : (v : Answer) → v ≡ comparison es fs → Means es fs v → IsDecided told first second v
-  decided-tells v e means =
+  values-tell : (v : Verdict) → HasCertificate (certificate_text es fs) v → Tells es fs a b (verdict_view v)
+      → ValuesTell a b (answer_view v)
+  values-tell (V.Document ps i) has tells = tells
+  values-tell (V.Certificate bytes) has tells =
       record {
-        a = a;
-        b = b;
-        are = are;
-        is = same_answer ∙ sym e;
-        tells = subst (λ p. AnswerTells p (entries_read b) a b v) (sym same_entries)
-            (subst (λ q. AnswerTells es q a b v) (sym same_entries') (means a b x y));
+        accepted = ap₂ (λ p q. judgement p q bytes.items) same_entries same_entries'
+            ∙ ap (judgement es fs) has ∙ tells.accepted;
+        included = tells.included;
       }
+  values-tell (V.Limit k g) has tells =
+      subst (λ p. StopsSearch p (entries_read b) (limit_view k) g) (sym same_entries)
+      (subst (λ q. StopsSearch es q (limit_view k) g) (sym same_entries') tells)
 
   pub says-compared : (before after : ℕ) (f : Inclusion) → after ≡ before → SchemasSay es fs f
       → InclusionSays told first second before after f
-  says-compared before after (F.Decided v) n (e, means) = (
-    n,
-    comes (Decided (answer_view v)) (ap Decided (same_answer ∙ sym e)),
-    decided-tells (answer_view v) e means,
-  )
+  says-compared before after (F.Decided v) n (e, has, means) =
+      let found = view-answer (certificate_text es fs) v (comparison es fs) e has in (
+        n,
+        comes (Decided (answer_view v)) (ap Decided (same_answer ∙ sym found)),
+        record {
+          a = a;
+          b = b;
+          are = are;
+          is = same_answer ∙ sym found;
+          tells = values-tell v has (means a b x y);
+        },
+      )
   says-compared before after (F.FirstRefused ws) n says = absurd says
   says-compared before after (F.SecondRefused ws) n says = absurd says
   says-compared before after F.ReadFault n says = absurd says

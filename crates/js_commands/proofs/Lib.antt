@@ -7,6 +7,9 @@ pub mod IncludeMeaningLaws
 pub mod ValidEntriesLemmas
 pub mod ValidOutcomeLemmas
 pub mod ValidMeaningLaws
+-- `check`: as for `include`.
+pub mod CheckOutcomeLemmas
+pub mod CheckMeaningLaws
 -- `norm`: what position 0 of a schema's table means, and from what a file is read as to what it comes to.
 pub mod NormTableLemmas
 pub mod NormOutcomeLemmas

@@ -1,13 +1,17 @@
 -- What an outcome means for the values of the two schemas.
 use Rattle.std.specs.Prelude.{◌≡◌, ℕ, List, false, Option, Some, None}
 use Rattle.documents.specs.Json.{Json, boolean}
+use Rattle.draft06.specs.Validity.{Included}
+use Rattle.verdicts.specs.Verdict.{Accepted}
+use Rattle.js_keywords.specs.Reading.{rules}
 use Rattle.js_outside.specs.Told.{Files}
 use Rattle.js_input.specs.FileReading.{IsSchemaFile, IsSchemaRefusal}
 use Rattle.js_input.specs.ToldTwice.{AreFiles}
-use Rattle.js_inclusion.specs.Comparison.{Answer, comparison}
-use Rattle.js_inclusion.specs.Meaning.{AnswerTells}
+use Rattle.js_inclusion.specs.Meaning.{AreSeparating, StopsSearch}
 use Rattle.js_commands.specs.ReadEntries.{entries_read}
-use Rattle.js_commands.specs.IncludeOutcome.{Outcome, Decided}
+use Rattle.js_commands.specs.CheckOutcome.{judgement_of}
+use Rattle.js_commands.specs.IncludeOutcome as A
+use Rattle.js_commands.specs.IncludeOutcome.{Answer, Outcome, Decided, answer}
 
 -- the value that stands second: that of the file of that name, which is a schema, or `false` where there is none
 abbrev pub IsSecond : Files → Option (List ℕ) → Json → Type 0
@@ -24,11 +28,18 @@ pub record AreSchemas (told : Option Files) (first : List ℕ) (second : Option 
 
 -- what is found of two values
 abbrev pub answer_of : Json → Json → Answer
-answer_of a b = comparison (entries_read a) (entries_read b)
+answer_of a b = answer (entries_read a) (entries_read b)
+
+-- bytes that `check` accepts, and every document that is valid for the first value is valid for the second
+pub record IsCertificate (a b : Json) (bytes : List ℕ) : Type 0 where
+  pub accepted : judgement_of a b bytes ≡ Accepted
+  pub included : Included rules a b
 
 -- what an answer means for two values
 abbrev pub ValuesTell : Json → Json → Answer → Type 0
-ValuesTell a b x = AnswerTells (entries_read a) (entries_read b) a b x
+ValuesTell a b (A.Document ps i) = AreSeparating a b ps i
+ValuesTell a b (A.Certificate bytes) = IsCertificate a b bytes
+ValuesTell a b (A.Limit k o) = StopsSearch (entries_read a) (entries_read b) k o
 
 -- both are schemas, this is what is found of them, and what it means for them
 pub record IsDecided (told : Option Files) (first : List ℕ) (second : Option (List ℕ)) (x : Answer) : Type 0 where

@@ -1,11 +1,25 @@
 -- What the comparison of two schemas comes to: of those of two files, and of that of a file and the value `false`.
 use Rattle.std.specs.Prelude.{◌≡◌, ℕ, List, [], ◌∷◌, false, Option, Some, None, encode_utf8_all}
 use Rattle.documents.specs.Json.{Json, boolean}
+use Rattle.shared_documents.specs.Part.{Part}
+use Rattle.schemas.specs.Entry.{Entry}
+use Rattle.goals.specs.Signed.{Signed}
+use Rattle.alternatives.specs.Limit.{LimitKind}
+use Rattle.decisions.specs.Decision as D
 use Rattle.js_outside.specs.Told.{Files}
 use Rattle.js_input.specs.SchemaReading.{Reading, Refused, Read, IsSchemaReading}
 use Rattle.js_input.specs.ToldTwice.{AreFiles}
-use Rattle.js_inclusion.specs.Comparison.{Answer, comparison}
+use Rattle.js_inclusion.specs.Comparison.{comparison, certificate_text}
 use Rattle.js_commands.specs.ReadEntries.{entries_read}
+
+-- what is found of two schemas
+pub data Answer : Type 0 where
+  -- a document that is valid for the first and not for the second: that of the part of this number
+  Document : List Part → ℕ → Answer
+  -- the bytes of a certificate that there is none
+  Certificate : List ℕ → Answer
+  -- a limit that hides whether there is one, and the goal that passes it
+  Limit : LimitKind → Option (List Signed) → Answer
 
 pub data Outcome : Type 0 where
   -- whether a document is valid for the first schema and not for the second
@@ -16,9 +30,18 @@ pub data Outcome : Type 0 where
   -- a file isn't there
   ReadFault : Outcome
 
+-- what is decided, with the text of the certificate
+abbrev pub of_decision : (text : List ℕ) → D.Verdict → Answer
+of_decision text (D.Document ps i) = Document ps i
+of_decision text D.NoDocument = Certificate text
+of_decision text (D.Limit k o) = Limit k o
+
+abbrev pub answer : List Entry → List Entry → Answer
+answer es fs = of_decision (certificate_text es fs) (comparison es fs)
+
 -- of two schemas that are read
 abbrev pub of_values : Json → Json → Outcome
-of_values a b = Decided (comparison (entries_read a) (entries_read b))
+of_values a b = Decided (answer (entries_read a) (entries_read b))
 
 abbrev pub of_second : Json → Reading → Outcome
 of_second a (Refused words) = SecondRefused words

@@ -4,8 +4,11 @@ pub mod IncludeOutcome
 pub mod IncludeMeaning
 pub mod ValidOutcome
 pub mod ValidMeaning
+pub mod CheckOutcome
+pub mod CheckMeaning
 pub mod NormOutcome
 -- What the calls answer.
 pub mod IncludeSaying
 pub mod ValidSaying
+pub mod CheckSaying
 pub mod NormSaying

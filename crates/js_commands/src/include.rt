@@ -10,9 +10,10 @@ ghost use Rattle.js_inclusion.specs.Nothing.{nothing};
 ghost use Rattle.js_commands.specs.IncludeOutcome.{second_file};
 ghost use Rattle.js_commands.specs.IncludeSaying.{InclusionSays, SchemasSay};
 
+use js_decide::Verdict;
 use js_doc::{Memory, Str};
 use js_guard::RankedSchema;
-use js_inclusion::{Answer, compare, false_schema};
+use js_inclusion::{compare, false_schema};
 use js_input::{SchemaInput, load_schema};
 use js_outside::Shelf;
 use std::alloc::Global;
@@ -20,8 +21,9 @@ use std::alloc::Global;
 /// What two schemas come to.
 #[derive(Drop)]
 pub enum Inclusion {
-    /// Whether a document is valid for the first schema and not for the second.
-    Decided(Answer),
+    /// A document that is valid for the first schema and not for the second, the certificate that there is none, or a
+    /// limit.
+    Decided(Verdict),
 
     /// The words of the first file's refusal after its role.
     FirstRefused(String),

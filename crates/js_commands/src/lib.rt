@@ -6,10 +6,12 @@
 //! crate.
 #![tactic(auto)]
 
+mod check;
 mod include;
 mod norm;
 mod valid;
 
+pub use check::{Checking, check_files};
 pub use include::{Inclusion, compare_files};
 pub use norm::{Listing, list_table};
 pub use valid::{Validation, validate};

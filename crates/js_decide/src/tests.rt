@@ -1,4 +1,4 @@
-//! What is decided of small searches, worked by hand.
+//! What small searches show, worked by hand.
 
 ghost use Rattle.std.specs.Prelude.{◌≡◌, [], ◌∷◌, ◌++◌, map, cond, true, nat_lt, refl, option_map, IfOk};
 ghost use Rattle.alternatives.specs.Slots.{has_words, has_fitting_slots, has_different_slots, has_different_words};
@@ -7,7 +7,7 @@ ghost use Rattle.js_expansion.specs.AlternativeView.{alternative_view};
 ghost use Rattle.js_expansion.specs.ExpansionView.{expansion_view};
 ghost use Rattle.js_decide.specs.Rows.{row, null, array_of, answer, answer_to, of_all, takes_all};
 
-use crate::{Verdict, decide_root};
+use crate::{Outcome, search_root};
 use js_algebra::{BranchId, Core, Goal, JsonKind, Node, NodeList, Pos, RankList, Signed, form};
 use js_doc::{Memory, Part, StrList};
 use js_expansion::{
@@ -275,9 +275,9 @@ fn named(alloc: Global, part: &Part) -> Result<Vec<u32>, Memory> {
     Ok(numbers)
 }
 
-fn is_told(alloc: Global, verdict: &Verdict, told: &Told, goals: &[Goal]) -> Result<bool, Memory> {
-    match (verdict, told) {
-        (Verdict::Document(parts, own), Told::Document(expected)) => {
+fn is_told(alloc: Global, outcome: &Outcome, told: &Told, goals: &[Goal]) -> Result<bool, Memory> {
+    match (outcome, told) {
+        (Outcome::Document(parts, own), Told::Document(expected)) => {
             if Some(own.index()) != expected.len().checked_sub(1) {
                 return Ok(false);
             }
@@ -291,14 +291,14 @@ fn is_told(alloc: Global, verdict: &Verdict, told: &Told, goals: &[Goal]) -> Res
             }
             Ok(true)
         }
-        (Verdict::Limit(kind, None), Told::Limit(expected, None)) => Ok(*kind == *expected),
-        (Verdict::Limit(kind, Some(goal)), Told::Limit(expected, Some(number))) => {
+        (Outcome::Limit(kind, None), Told::Limit(expected, None)) => Ok(*kind == *expected),
+        (Outcome::Limit(kind, Some(goal)), Told::Limit(expected, Some(number))) => {
             match goals.get(*number) {
                 Some(other) => Ok(*kind == *expected && *goal == *other),
                 None => Ok(false),
             }
         }
-        (Verdict::NoDocument, Told::NoDocument) => Ok(true),
+        (Outcome::NoDocument, Told::NoDocument) => Ok(true),
         _ => Ok(false),
     }
 }
@@ -309,23 +309,11 @@ fn small_searches_are_decided(rt: HostRuntime) -> Result<(), Fail> {
     for case in CASES.iter() {
         let expander = expander(rt.alloc(), case, &goals)?;
         let root = goals.first().ok_or("no goal")?.clone()?;
-        let decided = decide_root(rt.alloc(), &expander, Some(root))?;
-        assert!(rt; is_told(rt.alloc(), &decided.verdict, &case.told, &goals)?);
-        assert_eq!(rt; decided.goals, case.goals);
-        assert_eq!(rt; decided.rounds, case.rounds);
+        let searched = search_root(rt.alloc(), &expander, root)?;
+        assert!(rt; is_told(rt.alloc(), &searched.outcome, &case.told, &goals)?);
+        assert_eq!(rt; searched.explored.len(), case.goals);
+        assert_eq!(rt; searched.rounds.last_round(), case.rounds);
     }
-    Ok(())
-}
-
-#[test]
-fn no_root_has_no_document(rt: HostRuntime) -> Result<(), Fail> {
-    let expander = Rows {
-        rows: Vec::new(rt.alloc()),
-    };
-    let decided = decide_root(rt.alloc(), &expander, None)?;
-    assert!(rt; is_told(rt.alloc(), &decided.verdict, &Told::NoDocument, &[])?);
-    assert_eq!(rt; decided.goals, 0);
-    assert_eq!(rt; decided.rounds, 0);
     Ok(())
 }
 
@@ -343,10 +331,10 @@ fn too_many_goals(rt: HostRuntime) -> Result<(), Fail> {
     let expander = Rows {
         rows: vec![in rt.alloc(); row]?,
     };
-    let decided = decide_root(rt.alloc(), &expander, Some(root))?;
+    let searched = search_root(rt.alloc(), &expander, root)?;
     let told = Told::Limit(LimitKind::Goals, None);
-    assert!(rt; is_told(rt.alloc(), &decided.verdict, &told, &[])?);
-    assert_eq!(rt; decided.goals, 65_536);
-    assert_eq!(rt; decided.rounds, 0);
+    assert!(rt; is_told(rt.alloc(), &searched.outcome, &told, &[])?);
+    assert_eq!(rt; searched.explored.len(), 65_536);
+    assert_eq!(rt; searched.rounds.last_round(), 0);
     Ok(())
 }

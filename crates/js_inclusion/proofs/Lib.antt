@@ -1,8 +1,6 @@
 pub mod Finds
 pub mod ReadValues
-pub mod PlainLaws
 pub mod SearchLaws
 pub mod MeaningLaws
 pub mod NothingLaws
 pub mod TableLaws
-mod Examples

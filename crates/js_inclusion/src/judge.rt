@@ -1,30 +1,44 @@
 //! Certificates judged for two schemas.
 
-ghost use Rattle.std.specs.Prelude.{◌≡◌, IfOk};
+ghost use Rattle.std.specs.Prelude.{◌≡◌, Ok, IfOk, IfErr, OnOk, encode_utf8_all};
 ghost use Rattle.js_guard.specs.RankedView.{entries_of};
-ghost use Rattle.js_inclusion.specs.Comparison.{are_good};
-ghost use Rattle.js_inclusion.specs.Meaning.{MeansIncluded};
+ghost use Rattle.js_certificate.specs.FileVerdicts.{FaultSays};
+ghost use Rattle.js_certificate.specs.declared.file.FileVerdict.TheVariants.{Accepted};
+ghost use Rattle.js_inclusion.specs.Meaning.{AreIncluded};
+ghost use Rattle.js_inclusion.specs.Judging.{IsJudgementOf, Begins};
 
 use crate::tables::joined_tables;
-use js_cert::CertLines;
-use js_check::judge;
-use js_doc::Memory;
+use js_certificate::{FileFault, FileVerdict};
+use js_doc::{Memory, Str};
 use js_guard::RankedSchema;
+use js_outside::Shelf;
 use std::alloc::Global;
 
-/// Whether the lines are a good certificate that every document that is valid for `a` is valid for `b`. The cost is that
-/// of the core tables, and for each rule of the lines that of the members of its choice.
-pub fn judge_lines(
+/// Judges the file of that name, which is to show that every document that is valid for `a` is valid for `b`. The file
+/// is read after the core tables are made, and not behind the piece that has a line which is rejected. No other file is
+/// begun. The cost is that of the core tables and of `js_certificate::judge_file`.
+pub fn judge_file<H: Shelf>(
     alloc: Global,
+    shelf: &mut H,
+    name: &Str,
     a: &RankedSchema,
     b: &RankedSchema,
-    lines: &CertLines,
-) -> Result<bool, Memory>
-    ensures good { IfOk result (λ good. good ≡ are_good (entries_of a.now) (entries_of b.now) lines.now) }
+) -> Result<FileVerdict, FileFault>
+    ensures told { H.told shelf.new ≡ H.told shelf.old }
+    ensures verdict { IfOk result (IsJudgementOf (entries_of a.now) (entries_of b.now) (H.told shelf.old)
+        (encode_utf8_all name.now)) }
+    ensures counted { OnOk result (H.faults shelf.new ≡ H.faults shelf.old) }
+    ensures fault { IfErr result (FaultSays (H.told shelf.old) (encode_utf8_all name.now) (H.faults shelf.old)
+        (H.faults shelf.new)) }
+    ensures begun { Begins result (encode_utf8_all name.now) (H.begun shelf.old) (H.begun shelf.new) }
 
-    // What it means for the values that the schemas are read from, whoever made the lines.
-    ensures included { IfOk result (MeansIncluded (entries_of a.now) (entries_of b.now)) }
+    // What is accepted is right, whoever wrote it.
+    ensures included { result ≡ Ok Accepted → AreIncluded (entries_of a.now) (entries_of b.now) }
 {
-    let (core, at_a, at_b) = joined_tables(alloc, a, b)?;
-    judge(alloc, &core, at_a, at_b, lines)
+    match joined_tables(alloc, a, b) {
+        Ok((core, at_a, at_b)) => {
+            js_certificate::judge_file(alloc, shelf, name.as_text(), &core, at_a, at_b)
+        }
+        Err(Memory) => Err(FileFault::Memory),
+    }
 }

@@ -1,24 +1,24 @@
 -- What a report on files says: of the two schemas where it is a verdict, and of the first refusal.
 use Rattle.std.proofs.Common.{◌≡◌, ◌⊎◌, inl, inr, ℕ, List, [], ◌∷◌, ◌++◌, Bool, true, false, is_none, Option, Some, None, codes, refl, ap, sym, ◌∙◌, subst, arith}
+use Rattle.std.specs.Io.KnownBytes.{Appends}
 use Rattle.std.specs.Prelude.{IsSome}
 use Rattle.documents.specs.Json.{Json, boolean}
 use Rattle.js_outside.specs.Counts.{Rose, Stays}
 use Rattle.js_outside.specs.Told.{Files}
-use Rattle.js_words.specs.Commands.{Command, Sat, Include, Valid, Norm, command}
-use Rattle.js_input.specs.SchemaReading.{Read, IsSchemaReading}
-use Rattle.js_inclusion.specs.Comparison.{Answer}
+use Rattle.js_words.specs.Commands.{Command, Sat, Include, Valid, Check, Norm, command}
 use Rattle.js_commands.specs.IncludeOutcome as Compared
-use Rattle.js_commands.specs.IncludeOutcome.{IsComparison}
-use Rattle.js_commands.specs.IncludeMeaning.{IsSecond, AreSchemas, answer_of, ValuesTell, IsDecided, MeansFor}
+use Rattle.js_commands.specs.IncludeOutcome.{Answer, IsComparison}
+use Rattle.js_commands.specs.IncludeMeaning.{AreSchemas, answer_of, IsCertificate, ValuesTell, IsDecided, MeansFor}
 use Rattle.js_commands.proofs.IncludeMeaningLaws.{told-values, told-same, first-refusal, second-refusal}
+use Rattle.js_commands.specs.CheckOutcome as K
 use Rattle.js_commands.specs.NormOutcome as N
 use Rattle.js_commands.specs.ValidOutcome as V
 use Rattle.js_commands.specs.ValidOutcome.{Outcome}
 use Rattle.js_report.specs.Lines.{line}
-use Rattle.js_top.specs.Names.{of_sat, of_include, of_compared, sat_name, compared_names, IsSat, IsInclude, IsCompared}
-use Rattle.js_top.specs.Report.{Report, printed, answer_text, finding_of, finding_status, answer_report, compared_report, IsReadBack, IsOutcomeReadBack, IsComparedReport, IsReportOf, outcome_report, listed_report, IsReport}
-use Rattle.js_top.specs.Meaning.{AreNamed, WhereTold, PassLimit, IsCounterexample, IsGoodText, IsInclusion, IsLimit, Settles, IsAsked, IsWitness, IsRefutation, IsRefusal}
-use Rattle.js_top.specs.Accepting.{IsAcceptedAgainst, IsAcceptedFor}
+use Rattle.js_top.specs.Names.{of_sat, of_include, of_compared, of_check, sat_name, compared_names, IsSat, IsInclude, IsCompared}
+use Rattle.js_top.specs.Report.{Report, printed, finding_of, finding_status, answer_report, compared_report, IsReadBack, IsOutcomeReadBack, IsComparedReport, IsReportOf, outcome_report, checked_report, listed_report, IsReport}
+use Rattle.js_top.specs.Meaning.{AreNamed, WhereTold, PassLimit, IsCounterexample, IsLimit, IsAsked, IsWitness, IsRefutation, IsRefusal}
+use Rattle.js_top.specs.Correct.{IsCorrect}
 use Rattle.js_top.specs.Preparing.{report_of, PreparedSays}
 use Rattle.js_top.specs.declared.finding.Finding.{Finding}
 use Rattle.js_top.specs.declared.finding.Finding.TheVariants as F
@@ -26,7 +26,8 @@ use Rattle.js_top.specs.declared.prepare.Prepared.{Prepared}
 use Rattle.js_top.specs.declared.prepare.Prepared.TheVariants.{Usage, ReadFault, Made}
 use Rattle.js_top.specs.declared.status.Status.{Status}
 use Rattle.js_top.specs.declared.status.Status.TheVariants as S
-use Rattle.js_top.proofs.MeaningLaws.{finding_in, Shows, status-shows, passes-report, answer-settles, counterexample-witness, inclusion-refutation}
+use Rattle.js_top.proofs.MeaningLaws.{finding_in, Shows, status-shows, passes-report, answer-one, answer-limited, counterexample-witness, certificate-refutation}
+use Rattle.js_top.proofs.CheckingLaws.{told-verdict}
 
 -- the names of what is compared
 
@@ -47,6 +48,7 @@ compared-include words include = go (command words) include where
   go (Some (Sat a)) i = cc
   go (Some (Include a b)) i = (a, b, refl)
   go (Some (Valid a d)) i = cc
+  go (Some (Check a b c)) i = cc
   go (Some (Norm a)) i = cc
 
 compared-sat : (words : List (List ℕ)) → IsSat words
@@ -57,6 +59,7 @@ compared-sat words sat = go (command words) sat where
   go (Some (Sat a)) i = (a, refl, refl)
   go (Some (Include a b)) i = cc
   go (Some (Valid a d)) i = cc
+  go (Some (Check a b c)) i = cc
   go (Some (Norm a)) i = cc
 
 -- the report of these words is that of a comparison
@@ -72,6 +75,7 @@ report-compared told words r a second named is = go (command words) named is whe
       let same : ◌≡◌ {A = List ℕ × Option (List ℕ)} (x, Some y) (a, second) = cc in
       subst (λ n. IsComparedReport told n.0 n.1 r) same is
   go (Some (Valid x y)) e is = cc
+  go (Some (Check x y z)) e is = cc
   go (Some (Norm x)) e is = cc
 
 -- the statuses of an answer on two schemas, and that of a refusal
@@ -97,6 +101,14 @@ unlimited (V.SchemaRefused words) = refl
 unlimited (V.DocumentRefused words) = refl
 unlimited V.ReadFault = refl
 
+unlimited_check : (o : K.Outcome) → is_limit (checked_report o).status ≡ false
+unlimited_check K.Accepted = refl
+unlimited_check (K.Rejected line rule) = refl
+unlimited_check (K.FirstRefused words) = refl
+unlimited_check (K.SecondRefused words) = refl
+unlimited_check K.TooLong = refl
+unlimited_check K.ReadFault = refl
+
 unlimited_norm : (o : N.Outcome) → is_limit (listed_report o).status ≡ false
 unlimited_norm (N.Listed text) = refl
 unlimited_norm (N.SchemaRefused words) = refl
@@ -111,6 +123,7 @@ limit-compared told words text is = go (command words) is where
   go (Some (Sat a)) is = refl
   go (Some (Include a b)) is = refl
   go (Some (Valid a d)) (o, v, e) = let wrong = sym (unlimited o) ∙ ap (λ s. is_limit s.status) e in cc
+  go (Some (Check a b c)) (o, v, m, e) = let wrong = sym (unlimited_check o) ∙ ap (λ s. is_limit s.status) e in cc
   go (Some (Norm a)) (o, v, e) = let wrong = sym (unlimited_norm o) ∙ ap (λ s. is_limit s.status) e in cc
 
 -- a report with the status of an answer is that of two schemas
@@ -163,8 +176,8 @@ means told words text status a second named is answers =
       first = of.first;
       other = of.other;
       are = of.are;
-      shows = status-shows of.first of.other (is_none second) status of.x (ap (λ r. r.status) of.report) of.is of.tells
-          text (ap (λ r. r.text) of.report) of.back;
+      shows = status-shows of.first of.other (is_none second) status of.x (ap (λ r. r.status) of.report) of.tells text
+          (ap (λ r. r.text) of.report) of.back;
     }
 
 -- an answer that was prepared is a report
@@ -240,7 +253,7 @@ module _ (told : Option Files) (words : List (List ℕ)) (before after : ℕ) (p
       named_of told words a (Some b) named S.Other text (prepared-means S.Other e refl a (Some b) named)
 
   pub prepared-inclusion : (report_of p).status ≡ S.Done → IsInclude words
-      → Named told words (λ a b. IsInclusion a b text)
+      → Named told words (λ a b. IsCertificate a b text)
   prepared-inclusion e include =
       let (a, b, named) = compared-include words include in
       named_of told words a (Some b) named S.Done text (prepared-means S.Done e refl a (Some b) named)
@@ -260,13 +273,7 @@ module _ (told : Option Files) (words : List (List ℕ)) (before after : ℕ) (p
       let (a, named, compared) = compared-sat words sat in
       let (x, asked, shows) =
       asked_of told words a named S.Other text (prepared-means S.Other e refl a None compared) in
-      (x, asked, inclusion-refutation x text shows)
-
-  pub prepared-refuted : (report_of p).status ≡ S.Other → IsSat words
-      → Named told words (λ a b. IsInclusion a b text)
-  prepared-refuted e sat =
-      let (a, named, compared) = compared-sat words sat in
-      named_of told words a None compared S.Other text (prepared-means S.Other e refl a None compared)
+      (x, asked, certificate-refutation x text shows)
 
   -- no other command has a limit
   pub prepared-limit : (report_of p).status ≡ S.Limit → Named told words (λ a b. IsLimit a b text)
@@ -274,42 +281,6 @@ module _ (told : Option Files) (words : List (List ℕ)) (before after : ℕ) (p
       let is = prepared-report told words before after p text S.Limit says t e (λ h. cc) in
       let (a, second, named) = compared_of words (limit-compared told words text is) in
       named_of told words a second named S.Limit text (means told words text S.Limit a second named is refl)
-
--- and where it is a certificate, it is accepted for the bytes of the schemas
-
-accepted-against : (later : Files) (second : Option (List ℕ)) (a text : List ℕ) (x y : Json)
-    → IsSchemaReading a (Read x) → IsSecond later second y → IsGoodText x y text → IsAcceptedAgainst later second a text
-accepted-against later None a text x y reads is good = λ b reads'.
-    record {
-      first = x;
-      second = boolean false;
-      is_first = reads;
-      is_second = reads';
-      good = subst (λ z. IsGoodText x z text) is good;
-    }
-accepted-against later (Some name) a text x y reads is good = (
-  is.bytes,
-  is.told,
-  record { first = x; second = y; is_first = reads; is_second = is.is_read; good = good },
-)
-
-pub means-accepted : (told : Option Files) (words : List (List ℕ)) (text : List ℕ)
-    → Named told words (λ a b. IsInclusion a b text)
-    → (line (codes "nodocument") ≡ text) ⊎ IsAcceptedFor told words text
-means-accepted told words text (a, b, s, inr n) = inl n.written
-means-accepted told words text (a, b, s, inl c) =
-    inr (record {
-      first = s.first;
-      second = s.second;
-      named = s.named;
-      files = s.are.files;
-      later = s.are.later;
-      are_files = s.are.are_files;
-      a = s.are.is_first.bytes;
-      told_first = s.are.is_first.told;
-      accepted = accepted-against s.are.later s.second s.are.is_first.bytes text a b s.are.is_first.is_read
-          s.are.is_second c.good;
-    })
 
 -- the report that was begun to be written: that of a failed read, or that of files
 pub prepared-part : (told : Option Files) (words : List (List ℕ)) (before after : ℕ) (p : Prepared)
@@ -320,7 +291,7 @@ prepared-part told words before after Usage says = inr (says.0, usage-report tol
 prepared-part told words before after ReadFault says = inl (says.0, refl)
 prepared-part told words before after (Made bytes s) says = inr (says.0, says.2)
 
--- the report of two schemas settles their question
+-- the report is correct
 
 -- where files are told, this is what is found of the schemas that the words name, and its report is written
 record IsToldAnswer (a b : Json) (second : Option (List ℕ)) (r : Report) : Type 0 where
@@ -356,18 +327,33 @@ told-report : (files : Files) (words : List (List ℕ)) (r : Report) → IsRepor
 told-report files words r is a b s =
     told-answer files words r a b s (report-compared (Some files) words r s.first s.second s.named is)
 
-pub prepared-settles : (told : Option Files) (words : List (List ℕ)) (before after : ℕ) (p : Prepared) (text : List ℕ)
-    → PreparedSays told words before after p → text ≡ (report_of p).text → Stays before after
-    → WhereTold told words (λ a b. Settles a b text)
-prepared-settles None words before after p text says t stays = tt
-prepared-settles (Some files) words before after Usage text says t stays = λ a b s.
-    let wrong = sym s.named ∙ ap of_compared says.1 in cc
-prepared-settles (Some files) words before after ReadFault text says t stays = λ a b s.
+pub prepared-correct : (told : Option Files) (words : List (List ℕ)) (before after : ℕ) (p : Prepared)
+    (old new : Option (List ℕ)) (text : List ℕ)
+    → PreparedSays told words before after p → text ≡ (report_of p).text → Stays before after → Appends old new text
+    → IsCorrect told words old new (report_of p).status
+prepared-correct None words before after p old new text says t stays appends = tt
+prepared-correct (Some files) words before after Usage old new text says t stays appends =
+    record {
+      text = text;
+      written = appends;
+      answered = λ a b s. let wrong = sym s.named ∙ ap of_compared says.1 in cc;
+      limited = λ a b s passes. let wrong = sym s.named ∙ ap of_compared says.1 in cc;
+      checked = λ a b bytes s. let wrong = sym s.named ∙ ap of_check says.1 in cc;
+    }
+prepared-correct (Some files) words before after ReadFault old new text says t stays appends =
     absurd (omega (arith, says.0, stays))
-prepared-settles (Some files) words before after (Made bytes status) text says t stays = λ a b s.
-    let of = told-report files words (record { text = bytes.items; status = status }) says.2 a b s in
-    subst (Settles a b) (sym t)
-    (answer-settles a b of.x of.is of.tells bytes.items (ap (λ r. r.text) of.report) of.back)
+prepared-correct (Some files) words before after (Made made status) old new text says t stays appends =
+    record {
+      text = made.items;
+      written = subst (Appends old new) t appends;
+      answered = λ a b s.
+          let of = told-report files words (record { text = made.items; status = status }) says.2 a b s in
+          answer-one a b of.x of.tells made.items (ap (λ r. r.text) of.report) of.back;
+      limited = λ a b s.
+          let of = told-report files words (record { text = made.items; status = status }) says.2 a b s in
+          answer-limited a b of.x of.is of.tells made.items (ap (λ r. r.text) of.report) of.back;
+      checked = told-verdict files words old new made.items status says.2 (subst (Appends old new) t appends);
+    }
 
 -- two schemas that pass a limit have its report
 

@@ -1,9 +1,8 @@
 -- What a report that was made says of a command.
-use Rattle.std.proofs.Common.{◌≡◌, ℕ, List, Bool, true, false, is_none, Option, Some, None, ap, sym, ◌∙◌, subst, refl}
+use Rattle.std.proofs.Common.{◌≡◌, ℕ, List, Bool, true, false, is_none, Option, Some, None, Result, Ok, Err, IfOk, ap, sym, ◌∙◌, subst, refl}
 use Rattle.js_outside.specs.Told.{Files}
 use Rattle.js_words.specs.Commands.{Command}
-use Rattle.js_inclusion.specs.Comparison.{Answer}
-use Rattle.js_commands.specs.IncludeOutcome.{Decided, IsComparison}
+use Rattle.js_commands.specs.IncludeOutcome.{Answer, Decided, IsComparison}
 use Rattle.js_commands.specs.IncludeMeaning.{MeansFor}
 use Rattle.js_top.specs.Report.{Report, finding_of, finding_status, answer_report, IsReadBack, IsComparedReport, IsReportOf}
 use Rattle.js_top.specs.Names.{comparing}
@@ -12,6 +11,12 @@ use Rattle.js_top.specs.declared.finding.Finding.{Finding}
 use Rattle.js_top.specs.declared.finding.Finding.TheVariants as F
 use Rattle.js_top.specs.declared.prepare.Prepared.{Prepared}
 use Rattle.js_top.specs.declared.prepare.Prepared.TheVariants.{Usage, ReadFault, Made}
+
+-- two facts of one result
+pub IfOk-both : {A E : Type 0} (r : Result A E) (P Q R : A → Type 0) → IfOk r P → IfOk r Q
+    → ((x : A) → P x → Q x → R x) → IfOk r R
+IfOk-both (Ok x) P Q R h k f = f x h k
+IfOk-both (Err e) P Q R h k f = tt
 
 pub is_answer-finding : (is_sat : Bool) (f : Finding) → is_answer (finding_status is_sat f) ≡ true
 is_answer-finding true F.Document = refl

@@ -3,7 +3,7 @@ pub mod Includes
 pub mod MeaningLaws
 pub mod FileLaws
 pub mod JudgingLaws
+pub mod CheckingLaws
 pub mod ListingLaws
 pub mod MissingLaws
-pub mod AcceptLaws
 mod Examples

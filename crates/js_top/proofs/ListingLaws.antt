@@ -5,7 +5,7 @@ use Rattle.std.specs.Prelude.{IsSome}
 use Rattle.documents.specs.Json.{Json}
 use Rattle.js_outside.specs.Counts.{Stays}
 use Rattle.js_outside.specs.Told.{Files}
-use Rattle.js_words.specs.Commands.{Command, Sat, Include, Valid, Norm, command}
+use Rattle.js_words.specs.Commands.{Command, Sat, Include, Valid, Check, Norm, command}
 use Rattle.js_input.specs.SchemaReading.{Reading, Refused, Read, IsSchemaReading}
 use Rattle.js_input.specs.FileReading.{IsSchemaFile}
 use Rattle.js_input.specs.ToldTwice.{AreFiles}
@@ -37,6 +37,7 @@ report-norm told words r a named is = go (command words) named is where
   go (Some (Sat x)) e is = cc
   go (Some (Include x y)) e is = cc
   go (Some (Valid x y)) e is = cc
+  go (Some (Check x y z)) e is = cc
   go (Some (Norm x)) e is = let same : ◌≡◌ {A = List ℕ} x a = cc in subst (λ n. IsNormReport told n r) same is
 
 module _ (told : Option Files) (words : List (List ℕ)) (a : List ℕ) (named : norm_name words ≡ Some a) where

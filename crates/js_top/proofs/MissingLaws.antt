@@ -1,9 +1,10 @@
 -- Where files are told: a read fault is told where a file isn't there and each before it is a schema.
 use Rattle.std.proofs.Common.{◌≡◌, inl, inr, ℕ, ◌<◌, List, [], ◌∷◌, true, false, Option, Some, None, encode_utf8_all, refl, ap, sym, ◌∙◌, subst}
-use Rattle.js_outside.specs.Counts.{last_count, Rose}
+use Rattle.documents.specs.Json.{Json}
+use Rattle.js_outside.specs.Counts.{last_count}
 use Rattle.js_outside.specs.Told.{Files, CountsMisses}
-use Rattle.js_words.specs.Commands.{Command, Sat, Include, Valid, Norm, command}
-use Rattle.js_input.specs.SchemaReading.{Read}
+use Rattle.js_words.specs.Commands.{Command, Sat, Include, Valid, Check, Norm, command}
+use Rattle.js_input.specs.SchemaReading.{Read, IsSchemaReading}
 use Rattle.js_input.specs.OrderOfFiles.{BeginsInOrder, Misses}
 use Rattle.js_input.proofs.SchemaReadingLemmas.{IsSchemaReading-one}
 use Rattle.js_input.proofs.OrderLaws.{rose-misses}
@@ -11,10 +12,12 @@ use Rattle.js_commands.specs.IncludeOutcome as C
 use Rattle.js_commands.specs.IncludeOutcome.{IsComparison, second_file}
 use Rattle.js_commands.specs.ValidOutcome as V
 use Rattle.js_commands.specs.ValidOutcome.{IsValidation}
+use Rattle.js_commands.specs.CheckOutcome as K
+use Rattle.js_commands.specs.CheckOutcome.{IsChecking}
 use Rattle.js_commands.specs.NormOutcome as N
 use Rattle.js_commands.specs.NormOutcome.{IsListing}
 use Rattle.js_top.specs.Names.{files_of, file_names, MissesFile}
-use Rattle.js_top.specs.Report.{Report, compared_report, outcome_report, listed_report, IsReportOf}
+use Rattle.js_top.specs.Report.{Report, compared_report, outcome_report, checked_report, listed_report, IsReportOf}
 use Rattle.js_top.specs.Preparing.{report_of, is_answer, PreparedSays}
 use Rattle.js_top.specs.declared.prepare.Prepared.{Prepared}
 use Rattle.js_top.specs.declared.prepare.Prepared.TheVariants.{Usage, ReadFault, Made}
@@ -59,6 +62,48 @@ listing-missing files a o is (inl none) =
     subst (λ t. N.IsOutcomeOf t o) e is.outcome
 listing-missing files a o is (inr (first, rest)) = absurd rest
 
+-- a certificate that isn't there, or a schema before it
+module _ (files : Files) (a b c : List ℕ) (o : K.Outcome) (is : IsChecking (Some files) a b c o) where
+  -- what the files are read as
+  first : is.files (encode_utf8_all a) ≡ files (encode_utf8_all a)
+  first = ap (λ f. f (encode_utf8_all a)) is.are_files.0
+
+  second : is.later (encode_utf8_all b) ≡ files (encode_utf8_all b)
+  second = ap (λ f. f (encode_utf8_all b)) is.are_files.1
+
+  third : is.last (encode_utf8_all c) ≡ files (encode_utf8_all c)
+  third = ap (λ f. f (encode_utf8_all c)) is.are_last.1
+
+  after_first : (bytes : List ℕ) (j : Json) → files (encode_utf8_all a) ≡ Some bytes → IsSchemaReading bytes (Read j)
+      → K.IsAgainstBytes (is.later (encode_utf8_all b)) (is.last (encode_utf8_all c)) j o
+  after_first bytes j has reads =
+      let (r, reads', of) =
+      subst (λ t. K.IsOutcomeOf t (is.later (encode_utf8_all b)) (is.last (encode_utf8_all c)) o) (first ∙ has)
+      is.outcome in
+      subst (λ r. K.IsOutcomeOfFirst (is.later (encode_utf8_all b)) (is.last (encode_utf8_all c)) r o)
+      (IsSchemaReading-one bytes r (Read j) reads' reads) of
+
+  after_second : (bytes others : List ℕ) (j k : Json) → files (encode_utf8_all a) ≡ Some bytes
+      → IsSchemaReading bytes (Read j) → files (encode_utf8_all b) ≡ Some others → IsSchemaReading others (Read k)
+      → K.IsOutcomeOfCertificate j k (is.last (encode_utf8_all c)) o
+  after_second bytes others j k has reads has' reads' =
+      let (r, reads'', of) =
+      subst (λ t. K.IsAgainstBytes t (is.last (encode_utf8_all c)) j o) (second ∙ has')
+      (after_first bytes j has reads) in
+      subst (λ r. K.IsOutcomeOfSecond (is.last (encode_utf8_all c)) j r o)
+      (IsSchemaReading-one others r (Read k) reads'' reads') of
+
+  pub checking-missing : Misses files (encode_utf8_all a ∷ encode_utf8_all b ∷ encode_utf8_all c ∷ [])
+      → o ≡ K.ReadFault
+  checking-missing (inl none) =
+      subst (λ t. K.IsOutcomeOf t (is.later (encode_utf8_all b)) (is.last (encode_utf8_all c)) o) (first ∙ none)
+      is.outcome
+  checking-missing (inr ((bytes, has, (j, reads)), inl none)) =
+      subst (λ t. K.IsAgainstBytes t (is.last (encode_utf8_all c)) j o) (second ∙ none) (after_first bytes j has reads)
+  checking-missing (inr ((bytes, has, (j, reads)), inr ((others, has', (k, reads')), inl none))) =
+      subst (λ t. K.IsOutcomeOfCertificate j k t o) (third ∙ none) (after_second bytes others j k has reads has' reads')
+  checking-missing (inr (one, inr (two, inr (three, rest)))) = absurd rest
+
 report-missing : (files : Files) (c : Option Command) (r : Report) → IsReportOf (Some files) c r
     → Misses files (files_of c) → r.status ≡ S.ReadFault
 report-missing files None r is misses = absurd misses
@@ -70,6 +115,8 @@ report-missing files (Some (Include a b)) r (o, comes, means, back, e) misses =
     ∙ ap (λ x. (compared_report false x).status) (comparison-missing files a (Some b) o comes misses)
 report-missing files (Some (Valid a d)) r (o, comes, e) misses =
     ap (λ x. x.status) (sym e) ∙ ap (λ x. (outcome_report x).status) (validation-missing files a d o comes misses)
+report-missing files (Some (Check a b c)) r (o, comes, means, e) misses =
+    ap (λ x. x.status) (sym e) ∙ ap (λ x. (checked_report x).status) (checking-missing files a b c o comes misses)
 report-missing files (Some (Norm a)) r (o, comes, e) misses =
     ap (λ x. x.status) (sym e) ∙ ap (λ x. (listed_report x).status) (listing-missing files a o comes misses)
 

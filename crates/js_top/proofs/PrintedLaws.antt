@@ -1,7 +1,7 @@
 -- What is printed of a document that was found is read back as that document.
-use Rattle.std.proofs.Common.{◌≡◌, inl, inr, ℕ, suc, ◌≤◌, List, [], ◌∷◌, ◌++◌, length, Bool, true, false, ◌&&◌, cond, min, nat_le, Some, refl, arith}
+use Rattle.std.proofs.Common.{◌≡◌, inl, inr, ℕ, suc, ◌≤◌, List, [], ◌∷◌, ◌++◌, length, Bool, true, false, ◌&&◌, cond, min, nat_le, refl, arith}
 use Rattle.std.proofs.lemmas.Bool.{and_parts, leb-true}
-use Rattle.documents.specs.Document.{Document, is_document, depth}
+use Rattle.documents.specs.Document.{is_document, depth}
 use Rattle.shared_documents.specs.Part.{Part}
 use Rattle.shared_documents.specs.Unshared.{unshared}
 use Rattle.document_texts.specs.DocumentText.{document_text}

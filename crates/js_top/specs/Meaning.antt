@@ -2,18 +2,17 @@
 use Rattle.std.specs.Prelude.{◌≡◌, ◌⊎◌, ℕ, List, ◌++◌, true, false, Option, Some, None, codes}
 use Rattle.documents.specs.Document.{Document, is_document}
 use Rattle.documents.specs.Json.{Json, boolean}
-use Rattle.draft06.specs.Validity.{valid, Included, Separates}
+use Rattle.draft06.specs.Validity.{valid, Separates}
 use Rattle.goals.specs.Signed.{Signed}
-use Rattle.alternatives.specs.Limit.{LimitKind, Branches}
-use Rattle.position_laws.specs.Plain.{is_plain}
-use Rattle.certificates.specs.Line.{Line, IsText}
+use Rattle.alternatives.specs.Limit.{LimitKind}
+use Rattle.verdicts.specs.Verdict.{Accepted}
 use Rattle.js_outside.specs.Told.{Files}
 use Rattle.js_keywords.specs.Reading.{rules}
 use Rattle.js_input.specs.FileReading.{IsSchemaFile}
 use Rattle.js_input.specs.ToldTwice.{AreFiles}
-use Rattle.js_inclusion.specs.Comparison.{both, are_good}
-use Rattle.js_inclusion.specs.Meaning.{HasManyEnds, StopsSearch}
+use Rattle.js_inclusion.specs.Meaning.{StopsSearch}
 use Rattle.js_commands.specs.ReadEntries.{entries_read}
+use Rattle.js_commands.specs.CheckOutcome.{judgement_of}
 use Rattle.js_commands.specs.IncludeMeaning.{AreSchemas, IsFirstRefusal, IsSecondRefusal}
 use Rattle.js_top.specs.Names.{compared_names, sat_name}
 use Rattle.js_top.specs.Printed.{IsDocumentText}
@@ -28,32 +27,9 @@ pub record IsCounterexample (a b : Json) (text : List ℕ) : Type 0 where
   pub is : IsDocumentText text document
   pub separates : Separates rules a b document
 
--- the text of good lines for the two schemas: what `accepted` accepts
-pub record IsGoodText (a b : Json) (text : List ℕ) : Type 0 where
-  pub lines : List Line
-  pub is_text : IsText text lines
-  pub good : are_good (entries_read a) (entries_read b) lines ≡ true
-
--- such a text, and what it means
-pub record IsCertificate (a b : Json) (text : List ℕ) : Type 0 where
-  pub good : IsGoodText a b text
-  pub included : Included rules a b
-
--- the line `nodocument`, which comes where a schema asks for more of a document than its kind, and what it means
-pub record IsNoDocument (a b : Json) (text : List ℕ) : Type 0 where
-  pub typed : is_plain (both (entries_read a) (entries_read b)) ≡ false
-  pub written : line (codes "nodocument") ≡ text
-  pub included : Included rules a b
-
--- no document is valid for the first schema and not for the second
-abbrev pub IsInclusion : Json → Json → List ℕ → Type 0
-IsInclusion a b text = IsCertificate a b text ⊎ IsNoDocument a b text
-
 -- the limit that is passed, and the goal that passes it; none where all goals pass it
 abbrev pub Passes : Json → Json → LimitKind → Option (List Signed) → Type 0
-Passes a b k o =
-    ((goal : List Signed) × (k ≡ Branches) × (o ≡ Some goal) × HasManyEnds (entries_read a) (entries_read b) goal)
-    ⊎ StopsSearch (entries_read a) (entries_read b) k o
+Passes a b k o = StopsSearch (entries_read a) (entries_read b) k o
 
 -- the line of a limit that is passed
 pub record IsLimit (a b : Json) (text : List ℕ) : Type 0 where
@@ -78,10 +54,6 @@ WhereTold (Some files) words P = (a b : Json) → AreNamed (Some files) words a 
 abbrev pub PassLimit : Json → Json → Type 0
 PassLimit a b = (k : LimitKind) × (o : Option (List Signed)) × Passes a b k o
 
--- what settles the question of two schemas: the limit where it is passed, and else a document, or that there is none
-abbrev pub Settles : Json → Json → List ℕ → Type 0
-Settles a b text = IsLimit a b text ⊎ ((PassLimit a b → ⊥) × (IsCounterexample a b text ⊎ IsInclusion a b text))
-
 -- ---- of a schema that `sat` names
 
 -- the words name a schema, with this value
@@ -104,9 +76,9 @@ pub record IsWitness (a : Json) (text : List ℕ) : Type 0 where
 abbrev pub IsUnsatisfiable : Json → Type 0
 IsUnsatisfiable a = (J : Document) → is_document J ≡ true → valid rules a J ≡ false
 
--- a certificate, or the line `nodocument`, and what it means
+-- bytes that `check` accepts for the schema and `false`, and what that means
 pub record IsRefutation (a : Json) (text : List ℕ) : Type 0 where
-  pub told : IsGoodText a (boolean false) text ⊎ (line (codes "nodocument") ≡ text)
+  pub accepted : judgement_of a (boolean false) text ≡ Accepted
   pub unsatisfiable : IsUnsatisfiable a
 
 -- ---- refusals

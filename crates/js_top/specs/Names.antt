@@ -2,13 +2,14 @@
 use Rattle.std.specs.Prelude.{ℕ, List, [], ◌∷◌, Option, Some, None, IsSome, encode_utf8_all}
 use Rattle.js_outside.specs.Told.{Files}
 use Rattle.js_input.specs.OrderOfFiles.{Misses}
-use Rattle.js_words.specs.Commands.{Command, Sat, Include, Valid, Norm, command}
+use Rattle.js_words.specs.Commands.{Command, Sat, Include, Valid, Check, Norm, command}
 
 -- a schema alone
 abbrev pub of_sat : Option Command → Option (List ℕ)
 of_sat (Some (Sat a)) = Some a
 of_sat (Some (Include a b)) = None
 of_sat (Some (Valid a d)) = None
+of_sat (Some (Check a b c)) = None
 of_sat (Some (Norm a)) = None
 of_sat None = None
 
@@ -17,6 +18,7 @@ abbrev pub of_include : Option Command → Option (List ℕ × List ℕ)
 of_include (Some (Sat a)) = None
 of_include (Some (Include a b)) = Some (a, b)
 of_include (Some (Valid a d)) = None
+of_include (Some (Check a b c)) = None
 of_include (Some (Norm a)) = None
 of_include None = None
 
@@ -25,6 +27,7 @@ abbrev pub of_compared : Option Command → Option (List ℕ × Option (List ℕ
 of_compared (Some (Sat a)) = Some (a, None)
 of_compared (Some (Include a b)) = Some (a, Some b)
 of_compared (Some (Valid a d)) = None
+of_compared (Some (Check a b c)) = None
 of_compared (Some (Norm a)) = None
 of_compared None = None
 
@@ -38,14 +41,25 @@ abbrev pub of_valid : Option Command → Option (List ℕ × List ℕ)
 of_valid (Some (Sat a)) = None
 of_valid (Some (Include a b)) = None
 of_valid (Some (Valid a d)) = Some (a, d)
+of_valid (Some (Check a b c)) = None
 of_valid (Some (Norm a)) = None
 of_valid None = None
+
+-- two schemas and a certificate
+abbrev pub of_check : Option Command → Option (List ℕ × List ℕ × List ℕ)
+of_check (Some (Sat a)) = None
+of_check (Some (Include a b)) = None
+of_check (Some (Valid a d)) = None
+of_check (Some (Check a b c)) = Some (a, b, c)
+of_check (Some (Norm a)) = None
+of_check None = None
 
 -- a schema alone
 abbrev pub of_norm : Option Command → Option (List ℕ)
 of_norm (Some (Sat a)) = None
 of_norm (Some (Include a b)) = None
 of_norm (Some (Valid a d)) = None
+of_norm (Some (Check a b c)) = None
 of_norm (Some (Norm a)) = Some a
 of_norm None = None
 
@@ -60,6 +74,9 @@ include_names words = of_include (command words)
 
 abbrev pub valid_names : List (List ℕ) → Option (List ℕ × List ℕ)
 valid_names words = of_valid (command words)
+
+abbrev pub check_names : List (List ℕ) → Option (List ℕ × List ℕ × List ℕ)
+check_names words = of_check (command words)
 
 abbrev pub norm_name : List (List ℕ) → Option (List ℕ)
 norm_name words = of_norm (command words)
@@ -80,6 +97,10 @@ IsCompared words = IsSome (compared_names words)
 abbrev pub IsValid : List (List ℕ) → Type 0
 IsValid words = IsSome (valid_names words)
 
+-- the words are those of `check`
+abbrev pub IsCheck : List (List ℕ) → Type 0
+IsCheck words = IsSome (check_names words)
+
 -- the words are those of `norm`
 abbrev pub IsNorm : List (List ℕ) → Type 0
 IsNorm words = IsSome (norm_name words)
@@ -89,6 +110,7 @@ abbrev pub files_of : Option Command → List (List ℕ)
 files_of (Some (Sat a)) = encode_utf8_all a ∷ []
 files_of (Some (Include a b)) = encode_utf8_all a ∷ encode_utf8_all b ∷ []
 files_of (Some (Valid a d)) = encode_utf8_all a ∷ encode_utf8_all d ∷ []
+files_of (Some (Check a b c)) = encode_utf8_all a ∷ encode_utf8_all b ∷ encode_utf8_all c ∷ []
 files_of (Some (Norm a)) = encode_utf8_all a ∷ []
 files_of None = []
 

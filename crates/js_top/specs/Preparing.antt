@@ -2,11 +2,11 @@
 use Rattle.std.specs.Prelude.{◌≡◌, ℕ, suc, List, length, Bool, true, false, codes, Option, Some, None, IsSome}
 use Rattle.documents.specs.Document.{is_document}
 use Rattle.shared_documents.specs.Unshared.{unshared}
-use Rattle.decisions.specs.Decision as D
 use Rattle.js_outside.specs.Counts.{Rose}
 use Rattle.js_outside.specs.Told.{Files}
 use Rattle.js_words.specs.Commands.{Command, command}
-use Rattle.js_inclusion.specs.Comparison.{Answer, Searched}
+use Rattle.js_commands.specs.IncludeOutcome as C
+use Rattle.js_commands.specs.IncludeOutcome.{Answer}
 use Rattle.js_top.specs.Report.{Report, printed, IsReportOf, IsReport}
 use Rattle.js_top.specs.declared.status.Status.{Status}
 use Rattle.js_top.specs.declared.status.Status.TheVariants as S
@@ -20,7 +20,7 @@ report_of (P.Made bytes status) = record { text = bytes.items; status = status }
 
 -- a document that the search found is that of its last part
 abbrev pub IsPrintable : Answer → Type 0
-IsPrintable (Searched (D.Document ps i)) = (suc i ≡ length ps) × (is_document (unshared ps i) ≡ true)
+IsPrintable (C.Document ps i) = (suc i ≡ length ps) × (is_document (unshared ps i) ≡ true)
 IsPrintable _ = Unit {0}
 
 -- the statuses of words that are a command and of files that could be read

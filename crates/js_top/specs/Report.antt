@@ -1,23 +1,22 @@
 -- The report of a command over files: what is printed, and the status.
-use Rattle.std.specs.Prelude.{◌≡◌, ℕ, List, [], ◌∷◌, ◌++◌, Bool, true, false, is_none, Option, Some, None, codes}
-use Rattle.documents.specs.Kind.{Kind, Null, Boolean, Number, Text, Array, Object}
+use Rattle.std.specs.Prelude.{◌≡◌, ℕ, List, [], ◌∷◌, ◌++◌, Bool, true, false, is_none, Option, Some, None, codes, decimal}
 use Rattle.shared_documents.specs.Unshared.{unshared}
 use Rattle.document_texts.specs.FoundText.{found_text}
 use Rattle.goals.specs.Signed.{Signed}
 use Rattle.alternatives.specs.Limit as L
 use Rattle.alternatives.specs.Limit.{LimitKind}
-use Rattle.certificates.specs.Line.{signed_list_text, lines_text}
-use Rattle.decisions.specs.Decision as D
+use Rattle.certificate_lines.specs.Text.{signed_text, list_text}
 use Rattle.js_outside.specs.Told.{Files}
-use Rattle.js_plain.specs.Verdict as P
 use Rattle.js_report.specs.Lines.{line}
-use Rattle.js_words.specs.Commands.{Command, Sat, Include, Valid, Norm, command}
-use Rattle.js_inclusion.specs.Comparison.{Answer, Plain, Searched}
+use Rattle.js_words.specs.Commands.{Command, Sat, Include, Valid, Check, Norm, command}
 use Rattle.js_commands.specs.IncludeOutcome as C
-use Rattle.js_commands.specs.IncludeOutcome.{IsComparison}
+use Rattle.js_commands.specs.IncludeOutcome.{Answer, IsComparison}
 use Rattle.js_commands.specs.IncludeMeaning.{MeansFor}
 use Rattle.js_commands.specs.ValidOutcome as V
 use Rattle.js_commands.specs.ValidOutcome.{Outcome, IsValidation}
+use Rattle.js_commands.specs.CheckOutcome as K
+use Rattle.js_commands.specs.CheckOutcome.{IsChecking}
+use Rattle.js_commands.specs.CheckMeaning as KM
 use Rattle.js_commands.specs.NormOutcome as N
 use Rattle.js_commands.specs.NormOutcome.{IsListing}
 use Rattle.js_top.specs.Printed.{IsDocumentText}
@@ -32,15 +31,6 @@ pub record Report : Type 0 where
 
 abbrev pub printed : List ℕ → Status → Report
 printed words status = record { text = line words; status = status }
-
--- the shortest document of a kind
-abbrev pub sample_text : Kind → List ℕ
-sample_text Null = codes "null"
-sample_text Boolean = codes "false"
-sample_text Number = codes "0"
-sample_text Text = codes "\"\""
-sample_text Array = codes "[]"
-sample_text Object = codes "{}"
 
 -- ---- `include` and `sat`
 
@@ -61,28 +51,22 @@ limit_word L.Total = codes "total"
 
 abbrev pub goal_text : Option (List Signed) → List ℕ
 goal_text None = []
-goal_text (Some g) = signed_list_text g
+goal_text (Some g) = list_text signed_text g
 
 -- the line of a limit, with the goal that passes it; a limit on all goals stands alone
 abbrev pub limit_line : LimitKind → Option (List Signed) → List ℕ
 limit_line k o = line (codes "limit " ++ limit_word k ++ goal_text o)
 
 abbrev pub answer_text : Answer → List ℕ
-answer_text (Plain (P.Document t)) = line (codes "document") ++ line (sample_text t)
-answer_text (Plain (P.Certificate ls)) = lines_text ls
-answer_text (Plain (P.Limit g)) = limit_line L.Branches (Some g)
-answer_text (Searched (D.Document ps i)) = found_text ps i
-answer_text (Searched D.NoDocument) = line (codes "nodocument")
-answer_text (Searched (D.Limit k o)) = limit_line k o
+answer_text (C.Document ps i) = found_text ps i
+answer_text (C.Certificate bytes) = bytes
+answer_text (C.Limit k o) = limit_line k o
 
 -- a document, that there is none, or that a limit was passed
 abbrev pub finding_of : Answer → Finding
-finding_of (Plain (P.Document t)) = F.Document
-finding_of (Plain (P.Certificate ls)) = F.Nothing
-finding_of (Plain (P.Limit g)) = F.Limit
-finding_of (Searched (D.Document ps i)) = F.Document
-finding_of (Searched D.NoDocument) = F.Nothing
-finding_of (Searched (D.Limit k o)) = F.Limit
+finding_of (C.Document ps i) = F.Document
+finding_of (C.Certificate bytes) = F.Nothing
+finding_of (C.Limit k o) = F.Limit
 
 -- `sat` asks for a document, and `include` that there is none
 abbrev pub finding_status : (is_sat : Bool) → Finding → Status
@@ -105,7 +89,7 @@ compared_report is_sat C.ReadFault = printed (codes "readfault") S.ReadFault
 
 -- the document that the search found is what the text is read back as
 abbrev pub IsReadBack : Answer → List ℕ → Type 0
-IsReadBack (Searched (D.Document ps i)) text = IsDocumentText text (unshared ps i)
+IsReadBack (C.Document ps i) text = IsDocumentText text (unshared ps i)
 IsReadBack _ text = Unit {0}
 
 abbrev pub IsOutcomeReadBack : C.Outcome → List ℕ → Type 0
@@ -131,6 +115,20 @@ outcome_report V.ReadFault = printed (codes "readfault") S.ReadFault
 abbrev pub IsValidReport : Option Files → List ℕ → List ℕ → Report → Type 0
 IsValidReport told a d r = (o : Outcome) × IsValidation told a d o × (outcome_report o ≡ r)
 
+-- the report of `check`, by what its files come to
+abbrev pub checked_report : K.Outcome → Report
+checked_report K.Accepted = printed (codes "accepted") S.Done
+checked_report (K.Rejected line rule) = printed (codes "rejected " ++ decimal line ++ 32 ∷ decimal rule) S.Other
+checked_report (K.FirstRefused words) = printed (codes "refused " ++ codes "first" ++ 32 ∷ words) S.Refused
+checked_report (K.SecondRefused words) = printed (codes "refused " ++ codes "second" ++ 32 ∷ words) S.Refused
+checked_report K.TooLong = printed (codes "refused certificate toolong") S.Refused
+checked_report K.ReadFault = printed (codes "readfault") S.ReadFault
+
+-- with what the files come to stands what that means
+abbrev pub IsCheckReport : Option Files → (first second certificate : List ℕ) → Report → Type 0
+IsCheckReport told a b c r =
+    (o : K.Outcome) × IsChecking told a b c o × KM.MeansFor told a b c o × (checked_report o ≡ r)
+
 -- the report of `norm`, by what its file comes to
 abbrev pub listed_report : N.Outcome → Report
 listed_report (N.Listed text) = record { text = text; status = S.Done }
@@ -145,6 +143,7 @@ IsReportOf told None r = r ≡ printed (codes "usage") S.Usage
 IsReportOf told (Some (Sat a)) r = IsComparedReport told a None r
 IsReportOf told (Some (Include a b)) r = IsComparedReport told a (Some b) r
 IsReportOf told (Some (Valid a d)) r = IsValidReport told a d r
+IsReportOf told (Some (Check a b c)) r = IsCheckReport told a b c r
 IsReportOf told (Some (Norm a)) r = IsNormReport told a r
 
 -- the report of the words

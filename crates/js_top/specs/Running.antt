@@ -4,11 +4,9 @@ use Rattle.std.specs.Io.KnownBytes.{Appends}
 use Rattle.documents.specs.Json.{Json}
 use Rattle.js_outside.specs.Counts.{Rose}
 use Rattle.js_outside.specs.Told.{Files}
-use Rattle.js_report.specs.Lines.{line}
 use Rattle.js_report.specs.Written.{AppendsPrefix}
 use Rattle.js_top.specs.Report.{Report, printed, IsReport}
-use Rattle.js_top.specs.Meaning.{AreNamed, IsAsked, WhereTold, Settles, IsRefusal}
-use Rattle.js_top.specs.Accepting.{IsAcceptedFor}
+use Rattle.js_top.specs.Meaning.{AreNamed, IsAsked, IsRefusal}
 use Rattle.js_top.specs.declared.status.Status.{Status}
 use Rattle.js_top.specs.declared.status.Status.TheVariants.{ReadFault}
 
@@ -23,21 +21,11 @@ abbrev pub WritesReport : Option Files → List (List ℕ) → Option (List ℕ)
 WritesReport told words old new status =
     (text : List ℕ) × Appends old new text × IsReport told words (record { text = text; status = status })
 
--- for every two schemas that the words name, a text that settles their question
-abbrev pub WritesAnswer : Option Files → List (List ℕ) → Option (List ℕ) → Option (List ℕ) → Type 0
-WritesAnswer told words old new =
-    (text : List ℕ) × Appends old new text × WhereTold told words (λ a b. Settles a b text)
-
 -- a text of which a fact holds for the two schemas that the words name
 abbrev pub WritesMeaning : Option Files → List (List ℕ) → Option (List ℕ) → Option (List ℕ)
     → (Json → Json → List ℕ → Type 0) → Type 0
 WritesMeaning told words old new P =
     (text : List ℕ) × Appends old new text × ((a : Json) × (b : Json) × AreNamed told words a b × P a b text)
-
--- the line `nodocument`, or a text that is accepted as a certificate for the bytes of the schemas
-abbrev pub WritesAccepted : Option Files → List (List ℕ) → Option (List ℕ) → Option (List ℕ) → Type 0
-WritesAccepted told words old new =
-    (text : List ℕ) × Appends old new text × ((line (codes "nodocument") ≡ text) ⊎ IsAcceptedFor told words text)
 
 -- a text of which a fact holds for the schema that the words of `sat` name
 abbrev pub WritesAsked : Option Files → List (List ℕ) → Option (List ℕ) → Option (List ℕ)

@@ -1,19 +1,14 @@
 //! What an answer on two schemas shows: its text, and the status that it comes with.
 
 ghost use Rattle.std.specs.Prelude.{◌≡◌, IfOk};
-ghost use Rattle.js_plain.specs.View as P;
-ghost use Rattle.js_decide.specs.View as S;
-ghost use Rattle.js_inclusion.specs.Comparison.{Plain, Searched};
-ghost use Rattle.js_inclusion.specs.View.{answer_view};
+ghost use Rattle.js_commands.specs.IncludeSaying.{answer_view};
 ghost use Rattle.js_top.specs.Report as R;
 ghost use Rattle.js_top.specs.Preparing.{IsPrintable};
 
 use crate::status::Status;
-use crate::text::{document_lines, limit_line};
-use js_cert::cert_text;
+use crate::text::limit_line;
+use js_decide::Verdict;
 use js_doc::Memory;
-use js_expansion::LimitKind;
-use js_inclusion::Answer;
 use js_text::found_text;
 use std::alloc::Global;
 
@@ -46,51 +41,19 @@ impl Finding {
 }
 
 /// The text of an answer, and what it shows.
-pub(crate) fn answer_text(alloc: Global, answer: Answer) -> Result<(Vec<u8>, Finding), Memory>
-    requires { IsPrintable (answer_view answer) }
-    ensures text { IfOk result (λ r. r.0.items ≡ R.answer_text (answer_view answer)) }
-    ensures finding { IfOk result (λ r. r.1 ≡ R.finding_of (answer_view answer)) }
-    ensures read { IfOk result (λ r. R.IsReadBack (answer_view answer) r.0.items) }
-{
-    match answer {
-        Answer::Plain(verdict) => plain_text(alloc, verdict),
-        Answer::Searched(verdict) => searched_text(alloc, verdict),
-    }
-}
-
-fn plain_text(alloc: Global, verdict: js_plain::Verdict) -> Result<(Vec<u8>, Finding), Memory>
-    ensures text { IfOk result (λ r. r.0.items ≡ R.answer_text (Plain (P.verdict_view verdict))) }
-    ensures finding { IfOk result (λ r. r.1 ≡ R.finding_of (Plain (P.verdict_view verdict))) }
+pub(crate) fn answer_text(alloc: Global, verdict: Verdict) -> Result<(Vec<u8>, Finding), Memory>
+    requires { IsPrintable (answer_view verdict) }
+    ensures text { IfOk result (λ r. r.0.items ≡ R.answer_text (answer_view verdict)) }
+    ensures finding { IfOk result (λ r. r.1 ≡ R.finding_of (answer_view verdict)) }
+    ensures read { IfOk result (λ r. R.IsReadBack (answer_view verdict) r.0.items) }
 {
     match verdict {
-        js_plain::Verdict::Document(kind) => {
-            let text = document_lines(alloc, kind)?;
-            Ok((text.into_bytes(), Finding::Document))
-        }
-        js_plain::Verdict::Certificate(cert) => Ok((cert_text(alloc, &cert)?, Finding::Nothing)),
-        js_plain::Verdict::Limit(goal) => {
-            let text = limit_line(alloc, LimitKind::Branches, &Some(goal))?;
-            Ok((text.into_bytes(), Finding::Limit))
-        }
-    }
-}
-
-fn searched_text(alloc: Global, verdict: js_decide::Verdict) -> Result<(Vec<u8>, Finding), Memory>
-    requires { IsPrintable (Searched (S.verdict_view verdict)) }
-    ensures text { IfOk result (λ r. r.0.items ≡ R.answer_text (Searched (S.verdict_view verdict))) }
-    ensures finding { IfOk result (λ r. r.1 ≡ R.finding_of (Searched (S.verdict_view verdict))) }
-    ensures read { IfOk result (λ r. R.IsReadBack (Searched (S.verdict_view verdict)) r.0.items) }
-{
-    match verdict {
-        js_decide::Verdict::Document(parts, root) => {
+        Verdict::Document(parts, root) => {
             let text = found_text(alloc, &parts, root)?;
             Ok((text, Finding::Document))
         }
-        js_decide::Verdict::NoDocument => {
-            let text = String::from_str(alloc, "nodocument\n")?;
-            Ok((text.into_bytes(), Finding::Nothing))
-        }
-        js_decide::Verdict::Limit(kind, goal) => {
+        Verdict::Certificate(text) => Ok((text, Finding::Nothing)),
+        Verdict::Limit(kind, goal) => {
             let text = limit_line(alloc, kind, &goal)?;
             Ok((text.into_bytes(), Finding::Limit))
         }

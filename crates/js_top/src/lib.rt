@@ -1,13 +1,12 @@
 //! The top call: from the command words and the bytes of files to a report in a sink.
 //!
 //! `run` does all that the program does. It reads the words, then each file in their order, decides, makes the whole
-//! report, and only then writes. Its clauses say when each status comes, and that what is written is the report of the
-//! files' bytes; `specs/Report.antt` says what that is, `specs/Meaning.antt` what the documents and certificates of
-//! `include` and `sat` mean, and `specs/Judging.antt` what the words of `valid` mean. `accepted` judges a certificate by
-//! the bytes of the files and its own, and knows nothing of the search.
+//! report, and only then writes. `specs/Correct.antt` is its theorem. Its further clauses say when each status comes,
+//! and that what is written is the report of the files' bytes; `specs/Report.antt` says what that is,
+//! `specs/Meaning.antt` what the documents and certificates of `include` and `sat` mean, and `specs/Judging.antt` and
+//! `specs/Checking.antt` what the words of `valid` and `check` mean.
 #![tactic(auto)]
 
-mod accept;
 mod finding;
 mod memory;
 mod prepare;
@@ -15,7 +14,6 @@ mod status;
 mod text;
 mod top;
 
-pub use accept::accepted;
 pub use memory::run_in_memory;
 pub use status::Status;
 pub use top::run;

@@ -1,19 +1,21 @@
 //! The report of a command, made whole before anything is written.
 
 ghost use Rattle.std.specs.Prelude.{◌≡◌, IfOk, OnErr, IsSome, Some, is_none, option_map};
-ghost use Rattle.js_inclusion.specs.View.{answer_view};
+ghost use Rattle.js_commands.specs.IncludeSaying.{answer_view};
 ghost use Rattle.js_top.specs.Report as R;
 ghost use Rattle.js_top.specs.Report.{answer_report};
-ghost use Rattle.js_words.specs.Commands.{command, Valid, Norm};
+ghost use Rattle.js_words.specs.Commands.{command, Valid, Check, Norm};
 ghost use Rattle.js_input.specs.OrderOfFiles.{BeginsInOrder};
 ghost use Rattle.js_top.specs.Names.{comparing, file_names, files_of};
 ghost use Rattle.js_top.specs.Preparing.{PreparedSays, IsPrintable, report_of};
 
 use crate::finding::answer_text;
 use crate::status::Status;
-use js_commands::{Inclusion, Listing, Validation, compare_files, list_table, validate};
+use js_commands::{
+    Checking, Inclusion, Listing, Validation, check_files, compare_files, list_table, validate,
+};
+use js_decide::Verdict;
 use js_doc::{Memory, Str};
-use js_inclusion::Answer;
 use js_outside::Shelf;
 use js_report::refusal_line;
 use js_words::{Command, read_words};
@@ -72,6 +74,9 @@ pub(crate) fn prepare<H: Shelf>(
             prepare_compared(alloc, shelf, first, Some(second))
         }
         Some(Command::Valid(schema, document)) => prepare_valid(alloc, shelf, schema, document),
+        Some(Command::Check(first, second, certificate)) => {
+            prepare_check(alloc, shelf, first, second, certificate)
+        }
         Some(Command::Norm(schema)) => prepare_norm(alloc, shelf, schema),
         None => Ok(Prepared::Usage),
     }
@@ -93,7 +98,7 @@ fn prepare_compared<H: Shelf>(
         (H.begun shelf.new) }
 {
     match compare_files(alloc, shelf, first, second)? {
-        Inclusion::Decided(answer) => answered(alloc, answer, is_sat(second)),
+        Inclusion::Decided(verdict) => answered(alloc, verdict, is_sat(second)),
         Inclusion::FirstRefused(words) => refused(alloc, "first", words),
         Inclusion::SecondRefused(words) => refused(alloc, "second", words),
         Inclusion::ReadFault => Ok(Prepared::ReadFault),
@@ -102,8 +107,8 @@ fn prepare_compared<H: Shelf>(
 
 ghost use Rattle.js_top.specs.Preparing.{CommandSays};
 ghost use Rattle.js_top.specs.Report.{printed};
-ghost use Rattle.js_top.specs.declared.status.Status.TheVariants.{Refused};
-ghost use Rattle.std.specs.Prelude.{◌++◌, ◌∷◌, codes, string_bytes};
+ghost use Rattle.js_top.specs.declared.status.Status.TheVariants.{Other, Refused};
+ghost use Rattle.std.specs.Prelude.{◌++◌, ◌∷◌, codes, decimal, string_bytes};
 
 /// The report of `valid`: the document is read only where the schema is one.
 fn prepare_valid<H: Shelf>(
@@ -125,6 +130,31 @@ fn prepare_valid<H: Shelf>(
         Validation::SchemaRefused(words) => refused(alloc, "first", words),
         Validation::DocumentRefused(words) => refused(alloc, "document", words),
         Validation::ReadFault => Ok(Prepared::ReadFault),
+    }
+}
+
+/// The report of `check`: the certificate is judged only where both schemas are read.
+fn prepare_check<H: Shelf>(
+    alloc: Global,
+    shelf: &mut H,
+    first: &Str,
+    second: &Str,
+    certificate: &Str,
+) -> Result<Prepared, Memory>
+    ensures told { H.told shelf.new ≡ H.told shelf.old }
+    ensures says { IfOk result (CommandSays (H.told shelf.old) (Check first.now second.now certificate.now)
+        (H.faults shelf.old) (H.faults shelf.new)) }
+    ensures memory { OnErr result (H.faults shelf.new ≡ H.faults shelf.old) }
+    ensures begun { BeginsInOrder (H.told shelf.old) (files_of (Some (Check first.now second.now certificate.now)))
+        (H.begun shelf.old) (H.begun shelf.new) }
+{
+    match check_files(alloc, shelf, first, second, certificate)? {
+        Checking::Accepted => made(alloc, "accepted\n", Status::Done),
+        Checking::Rejected(line, rule) => rejected(alloc, line, rule),
+        Checking::FirstRefused(words) => refused(alloc, "first", words),
+        Checking::SecondRefused(words) => refused(alloc, "second", words),
+        Checking::TooLong => made(alloc, "refused certificate toolong\n", Status::Refused),
+        Checking::ReadFault => Ok(Prepared::ReadFault),
     }
 }
 
@@ -151,6 +181,14 @@ fn made(alloc: Global, text: &str, status: Status) -> Result<Prepared, Memory>
     Ok(Prepared::Made(bytes, status))
 }
 
+fn rejected(alloc: Global, line: u64, rule: u8) -> Result<Prepared, Memory>
+    ensures { IfOk result
+        (λ p. report_of p ≡ printed (codes "rejected " ++ decimal line ++ 32 ∷ decimal rule) Other) }
+{
+    let text = format!(in alloc; "rejected {line} {rule}\n")?;
+    Ok(Prepared::Made(text.into_bytes(), Status::Other))
+}
+
 fn refused(alloc: Global, role: &str, words: String) -> Result<Prepared, Memory>
     ensures { IfOk result
         (λ p. report_of p ≡ printed (codes "refused " ++ role.now ++ 32 ∷ string_bytes words) Refused) }
@@ -169,11 +207,11 @@ fn is_sat(second: Option<&Str>) -> bool
     }
 }
 
-fn answered(alloc: Global, answer: Answer, is_sat: bool) -> Result<Prepared, Memory>
-    requires { IsPrintable (answer_view answer) }
-    ensures report { IfOk result (λ p. report_of p ≡ answer_report is_sat (answer_view answer)) }
-    ensures read { IfOk result (λ p. R.IsReadBack (answer_view answer) (report_of p).text) }
+fn answered(alloc: Global, verdict: Verdict, is_sat: bool) -> Result<Prepared, Memory>
+    requires { IsPrintable (answer_view verdict) }
+    ensures report { IfOk result (λ p. report_of p ≡ answer_report is_sat (answer_view verdict)) }
+    ensures read { IfOk result (λ p. R.IsReadBack (answer_view verdict) (report_of p).text) }
 {
-    let (text, finding) = answer_text(alloc, answer)?;
+    let (text, finding) = answer_text(alloc, verdict)?;
     Ok(Prepared::Made(text, finding.status(is_sat)))
 }

@@ -6,11 +6,11 @@ ghost use Rattle.std.specs.Prelude.{◌≡◌};
 #[derive(Clone, Copy, PartialEq, Eq, Debug)]
 pub enum Status {
     /// `include`: no document is valid for the first schema alone. `sat`: a document was printed. `valid`: the document
-    /// is valid.
+    /// is valid. `check`: the certificate is accepted.
     Done,
 
     /// `include`: a document was printed. `sat`: no document is valid for the schema. `valid`: the document isn't
-    /// valid.
+    /// valid. `check`: the certificate is rejected.
     Other,
 
     /// The words are no command.

@@ -1,35 +1,15 @@
-//! The lines of documents and limits.
+//! The line of a limit.
 
-ghost use Rattle.std.specs.Prelude.{◌≡◌, ◌++◌, codes, string_bytes, IfOk, OnOk};
-ghost use Rattle.js_algebra.specs.View.{kind_view};
+ghost use Rattle.std.specs.Prelude.{◌≡◌, ◌++◌, map, string_bytes, IfOk, OnOk};
+ghost use Rattle.certificate_lines.specs.Text.{signed_text, list_text};
+ghost use Rattle.js_algebra.specs.View.{signed_view};
 ghost use Rattle.js_expansion.specs.View.{limit_view};
-ghost use Rattle.js_report.specs.Lines.{line};
 ghost use Rattle.js_top.specs.Report as R;
-ghost use Rattle.js_top.specs.Report.{sample_text};
 
-use js_algebra::{Goal, JsonKind};
-use js_cert::append_list;
+use js_algebra::{Goal, Signed};
 use js_doc::Memory;
 use js_expansion::LimitKind;
 use std::alloc::Global;
-
-/// The line `document`, and the shortest document of the kind.
-pub(crate) fn document_lines(alloc: Global, kind: JsonKind) -> Result<String, Memory>
-    ensures { IfOk result (λ s. string_bytes s ≡ line (codes "document") ++ line (sample_text (kind_view kind))) }
-{
-    let document = match kind {
-        JsonKind::Null => "null",
-        JsonKind::Boolean => "false",
-        JsonKind::Number => "0",
-        JsonKind::Text => "\"\"",
-        JsonKind::Array => "[]",
-        JsonKind::Object => "{}",
-    };
-    let mut text = String::from_str(alloc, "document\n")?;
-    text.push_str(document)?;
-    text.push_str("\n")?;
-    Ok(text)
-}
 
 /// The line of a limit, with the goal that passes it.
 pub(crate) fn limit_line(
@@ -53,6 +33,30 @@ fn append_goal(text: &mut String, goal: &Option<Goal>) -> Result<(), Memory>
         Some(goal) => append_list(text, goal.as_slice()),
         None => Ok(()),
     }
+}
+
+/// Signed positions, each after a blank.
+fn append_list(text: &mut String, list: &[Signed]) -> Result<(), Memory>
+    ensures { OnOk result
+        (string_bytes text.new ≡ string_bytes text.old ++ list_text signed_text (map signed_view list.now)) }
+{
+    for x in list {
+        text.push(' ')?;
+        append_signed(text, *x)?;
+    }
+    Ok(())
+}
+
+fn append_signed(text: &mut String, x: Signed) -> Result<(), Memory>
+    ensures { OnOk result (string_bytes text.new ≡ string_bytes text.old ++ signed_text (signed_view x)) }
+{
+    let place = x.pos.0;
+    if x.plus {
+        write!(text, "+{place}")?;
+    } else {
+        write!(text, "-{place}")?;
+    }
+    Ok(())
 }
 
 fn limit_word(kind: LimitKind) -> &'static str

@@ -6,12 +6,16 @@ ghost use Rattle.js_outside.specs.Counts.{Rose, Stays, last_count};
 ghost use Rattle.js_outside.specs.Told.{CountsMisses};
 ghost use Rattle.js_input.specs.OrderOfFiles.{BeginsInOrder};
 ghost use Rattle.js_words.specs.Commands.{command};
-ghost use Rattle.js_top.specs.Names.{IsInclude, IsSat, IsCompared, IsValid, IsNorm, file_names, MissesFile};
+ghost use Rattle.js_top.specs.Names.{IsInclude, IsSat, IsCompared, IsValid, IsCheck, IsNorm, file_names, MissesFile};
+ghost use Rattle.js_commands.specs.IncludeMeaning.{IsCertificate};
+ghost use Rattle.js_top.specs.Correct.{IsCorrect};
 ghost use Rattle.js_top.specs.Judging.{WritesJudgement, WritesDecision, WritesJudgedRefusal};
+ghost use Rattle.verdicts.specs.Verdict.{Accepted};
+ghost use Rattle.js_top.specs.Checking.{IsVerdictWritten, WritesRejection, WritesCheckRefusal};
 ghost use Rattle.js_top.specs.Listing.{WritesNamedTable, WritesListing, WritesNormRefusal};
 ghost use Rattle.js_report.specs.Lines.{line};
-ghost use Rattle.js_top.specs.Running.{WritesPart, WritesReport, WritesMeaning, WritesAsked, WritesRefusal, WritesAnswer, WritesAccepted};
-ghost use Rattle.js_top.specs.Meaning.{IsCounterexample, IsInclusion, IsWitness, IsRefutation, IsLimit, PassLimit, WhereTold};
+ghost use Rattle.js_top.specs.Running.{WritesPart, WritesReport, WritesMeaning, WritesAsked, WritesRefusal};
+ghost use Rattle.js_top.specs.Meaning.{IsCounterexample, IsWitness, IsRefutation, IsLimit, PassLimit, WhereTold};
 
 use crate::prepare::prepare;
 use crate::status::Status;
@@ -32,12 +36,10 @@ pub fn run<R, H: Shelf, K: Sink>(
     shelf: &mut H,
     sink: &mut K,
 ) -> Status
-    // The headline: where files are told, no fault is counted and memory suffices, two schemas that are read get
-    // a limit exactly where one is passed, and else a document that is valid for the first and not for the second, or
-    // a certificate or the line `nodocument`, and with it the inclusion. With `sat` the second is the value `false`.
+    // The headline, where files are told, no fault is counted and memory suffices.
     ensures headline { Stays (H.faults shelf.old) (H.faults shelf.new) → Stays (K.faults sink.old) (K.faults sink.new)
         → result ≢ Status.Memory
-        → WritesAnswer (H.told shelf.old) words.now (K.written sink.old) (K.written sink.new) }
+        → IsCorrect (H.told shelf.old) words.now (K.written sink.old) (K.written sink.new) result }
 
     // A status tells of a fault only where its count rose, and of other words only for them.
     ensures read_fault { result ≡ Status.ReadFault → Rose (H.faults shelf.old) (H.faults shelf.new) }
@@ -72,9 +74,7 @@ pub fn run<R, H: Shelf, K: Sink>(
     ensures document { result ≡ Status.Other → IsInclude words.now
         → WritesMeaning (H.told shelf.old) words.now (K.written sink.old) (K.written sink.new) IsCounterexample }
     ensures inclusion { result ≡ Status.Done → IsInclude words.now
-        → WritesMeaning (H.told shelf.old) words.now (K.written sink.old) (K.written sink.new) IsInclusion }
-    ensures accepted { result ≡ Status.Done → IsInclude words.now
-        → WritesAccepted (H.told shelf.old) words.now (K.written sink.old) (K.written sink.new) }
+        → WritesMeaning (H.told shelf.old) words.now (K.written sink.old) (K.written sink.new) IsCertificate }
     ensures limit { result ≡ Status.Limit
         → WritesMeaning (H.told shelf.old) words.now (K.written sink.old) (K.written sink.new) IsLimit }
 
@@ -84,8 +84,6 @@ pub fn run<R, H: Shelf, K: Sink>(
         → WritesAsked (H.told shelf.old) words.now (K.written sink.old) (K.written sink.new) IsWitness }
     ensures unsatisfied { result ≡ Status.Other → IsSat words.now
         → WritesAsked (H.told shelf.old) words.now (K.written sink.old) (K.written sink.new) IsRefutation }
-    ensures accepted_of_sat { result ≡ Status.Other → IsSat words.now
-        → WritesAccepted (H.told shelf.old) words.now (K.written sink.old) (K.written sink.new) }
 
     // The limit comes wherever one is passed.
     ensures limited { result ≢ Status.ReadFault → result ≢ Status.WriteFault → result ≢ Status.Memory
@@ -104,6 +102,14 @@ pub fn run<R, H: Shelf, K: Sink>(
         → WritesJudgement (H.told shelf.old) words.now (K.written sink.old) (K.written sink.new) false }
     ensures valid_refusal { result ≡ Status.Refused → IsValid words.now
         → WritesJudgedRefusal (H.told shelf.old) words.now (K.written sink.old) (K.written sink.new) }
+
+    // What `check` writes, status by status, whatever the shelf tells.
+    ensures check_accepted { result ≡ Status.Done → IsCheck words.now
+        → IsVerdictWritten (H.told shelf.old) words.now (K.written sink.old) (K.written sink.new) Accepted }
+    ensures check_rejected { result ≡ Status.Other → IsCheck words.now
+        → WritesRejection (H.told shelf.old) words.now (K.written sink.old) (K.written sink.new) }
+    ensures check_refusal { result ≡ Status.Refused → IsCheck words.now
+        → WritesCheckRefusal (H.told shelf.old) words.now (K.written sink.old) (K.written sink.new) }
 
     // The headline of `norm`: where files are told, no fault is counted and memory suffices, a schema gets the text of
     // its core table, of which position 0 holds exactly of the documents that are valid for it.

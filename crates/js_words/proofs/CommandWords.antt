@@ -29,6 +29,14 @@ pub utf8-valid : IsUtf8 (codes "valid")
 unfolding encode
 utf8-valid = (codes "valid", (refl, refl))
 
+pub chars-check : chars (codes "check") ≡ codes "check"
+unfolding encode
+chars-check = chars-encodes (codes "check") refl
+
+pub utf8-check : IsUtf8 (codes "check")
+unfolding encode
+utf8-check = (codes "check", (refl, refl))
+
 pub chars-norm : chars (codes "norm") ≡ codes "norm"
 unfolding encode
 chars-norm = chars-encodes (codes "norm") refl

@@ -1,6 +1,6 @@
 -- Worked examples of the command words, each computed from the definition.
 use Rattle.std.specs.Prelude.{◌≡◌, [], ◌∷◌, Some, None, refl, codes}
-use Rattle.js_words.specs.Commands.{Sat, Include, Valid, Norm, command}
+use Rattle.js_words.specs.Commands.{Sat, Include, Valid, Check, Norm, command}
 
 sat : command (codes "sat" ∷ codes "a" ∷ []) ≡ Some (Sat (codes "a"))
 sat = refl
@@ -16,6 +16,19 @@ include = refl
 
 valid : command (codes "valid" ∷ codes "a" ∷ codes "d" ∷ []) ≡ Some (Valid (codes "a") (codes "d"))
 valid = refl
+
+check : command (codes "check" ∷ codes "a" ∷ codes "b" ∷ codes "c" ∷ [])
+    ≡ Some (Check (codes "a") (codes "b") (codes "c"))
+check = refl
+
+check_of_two : command (codes "check" ∷ codes "a" ∷ codes "b" ∷ []) ≡ None
+check_of_two = refl
+
+check_of_four : command (codes "check" ∷ codes "a" ∷ codes "b" ∷ codes "c" ∷ codes "d" ∷ []) ≡ None
+check_of_four = refl
+
+certificate_is_an_option : command (codes "check" ∷ codes "a" ∷ codes "b" ∷ codes "--workers" ∷ []) ≡ None
+certificate_is_an_option = refl
 
 norm : command (codes "norm" ∷ codes "a" ∷ []) ≡ Some (Norm (codes "a"))
 norm = refl
@@ -42,7 +55,7 @@ one_name = refl
 three_names : command (codes "include" ∷ codes "a" ∷ codes "b" ∷ codes "c" ∷ []) ≡ None
 three_names = refl
 
-other_word : command (codes "check" ∷ codes "a" ∷ codes "b" ∷ []) ≡ None
+other_word : command (codes "gen" ∷ codes "a" ∷ codes "b" ∷ []) ≡ None
 other_word = refl
 
 no_words : command [] ≡ None

@@ -10,6 +10,8 @@ pub data Command : Type 0 where
   Include : (first second : List ℕ) → Command
   -- validate a document
   Valid : (schema document : List ℕ) → Command
+  -- judge a certificate that the first schema is included in the second
+  Check : (first second certificate : List ℕ) → Command
   -- print a schema's core table
   Norm : (schema : List ℕ) → Command
 
@@ -18,6 +20,10 @@ abbrev pub is_name : List ℕ → Bool
 is_name [] = true
 is_name (c ∷ []) = true
 is_name (c ∷ d ∷ cs) = not (nat_eq c 45)
+
+-- the command of that word with three names
+abbrev pub of_three : List ℕ → List ℕ → List ℕ → List ℕ → Option Command
+of_three w a b c = cond (same_word w (codes "check")) (Some (Check a b c)) None
 
 -- the command of that word with two names
 abbrev pub named : List ℕ → List ℕ → List ℕ → Option Command
@@ -30,8 +36,10 @@ abbrev pub of_one : List ℕ → List ℕ → Option Command
 of_one w a =
     cond (same_word w (codes "sat")) (Some (Sat a)) (cond (same_word w (codes "norm")) (Some (Norm a)) None)
 
--- `sat NAME`, `include NAME NAME`, `valid NAME NAME` and `norm NAME`; no other words are a command
+-- `sat NAME`, `include NAME NAME`, `valid NAME NAME`, `check NAME NAME NAME` and `norm NAME`; no other words are a
+-- command
 abbrev pub command : List (List ℕ) → Option Command
 command (w ∷ a ∷ []) = cond (is_name a) (of_one w a) None
 command (w ∷ a ∷ b ∷ []) = cond (is_name a && is_name b) (named w a b) None
+command (w ∷ a ∷ b ∷ c ∷ []) = cond (is_name a && is_name b && is_name c) (of_three w a b c) None
 command _ = None

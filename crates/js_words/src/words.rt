@@ -19,6 +19,9 @@ pub enum Command<'a> {
     /// A schema and a document: is it valid?
     Valid(&'a Str, &'a Str),
 
+    /// Two schemas and a certificate: does it show that the first is included in the second?
+    Check(&'a Str, &'a Str, &'a Str),
+
     /// A schema: its core table.
     Norm(&'a Str),
 }
@@ -38,6 +41,13 @@ pub fn read_words(words: &[Str]) -> Option<Command<'_>>
         [word, first, second] => {
             if is_name(first) && is_name(second) {
                 named(word, first, second)
+            } else {
+                None
+            }
+        }
+        [word, first, second, third] => {
+            if is_name(first) && is_name(second) && is_name(third) {
+                of_three(word, first, second, third)
             } else {
                 None
             }
@@ -70,6 +80,16 @@ fn named<'a>(word: &Str, first: &'a Str, second: &'a Str) -> Option<Command<'a>>
     }
 }
 
+fn of_three<'a>(word: &Str, first: &'a Str, second: &'a Str, third: &'a Str) -> Option<Command<'a>>
+    ensures { option_map command_view result ≡ C.of_three word.now first.now second.now third.now }
+{
+    if is_check(word) {
+        Some(Command::Check(first, second, third))
+    } else {
+        None
+    }
+}
+
 fn is_sat(word: &Str) -> bool
     ensures { result ≡ same_word word.now (codes "sat") }
 {
@@ -86,6 +106,12 @@ fn is_valid(word: &Str) -> bool
     ensures { result ≡ same_word word.now (codes "valid") }
 {
     "valid" == word.as_text()
+}
+
+fn is_check(word: &Str) -> bool
+    ensures { result ≡ same_word word.now (codes "check") }
+{
+    "check" == word.as_text()
 }
 
 fn is_norm(word: &Str) -> bool

@@ -20,6 +20,8 @@ fn other_words_are_no_command(rt: HostRuntime) -> Result<(), Memory> {
         "sat -x",
         "sat a b",
         "sat a --workers 65",
+        "check a b",
+        "check a b a b",
         "include -x b",
         "include a -x",
         "include -- b",
@@ -182,12 +184,19 @@ fn negations_may_nest_127_deep(rt: HostRuntime) -> Result<(), Memory> {
     Ok(())
 }
 
+/// That of null; at other kinds there is one.
 #[test]
 fn a_tree_may_have_16384_ends(rt: HostRuntime) -> Result<(), Memory> {
     for (count, status, report) in [(13, 1, "document\nnull\n"), (14, 4, "limit branches +0\n")] {
         let choice = "{\"anyOf\":[true,true]}";
         let choices = nested(rt.alloc(), count, "{\"anyOf\":[true,true]},", choice, "")?;
-        let a = nested(rt.alloc(), 1, "{\"allOf\":[", choices.as_str(), "]}")?;
+        let a = nested(
+            rt.alloc(),
+            1,
+            "{\"type\":\"null\",\"allOf\":[",
+            choices.as_str(),
+            "]}",
+        )?;
         let files = (a.as_bytes(), b"false".as_slice());
         expect(&rt, rt.alloc(), "include a b", files, (status, report))?;
     }

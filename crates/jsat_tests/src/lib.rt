@@ -4,9 +4,9 @@
 #![tactic(auto)]
 
 #[cfg(test)]
-mod accepting;
-#[cfg(test)]
 mod answers;
+#[cfg(test)]
+mod checking;
 #[cfg(test)]
 mod faults;
 #[cfg(test)]

@@ -13,7 +13,11 @@ fn an_object_satisfies_a_schema(rt: HostRuntime) -> Result<(), Memory> {
             r#"{"type":"object","required":["a"],"properties":{"a":false}}"#,
             1,
             0,
-            "nodocument\n",
+            "certificate 1\ngoals 1\ngoal +0\nentry 0\n\
+                at null\nrule +0\nkind +2\nat boolean\nrule +0\nkind +2\nat number\nrule +0\nkind +2\n\
+                at string\nrule +0\nkind +2\nat array\nrule +0\nkind +2\n\
+                at object\nrule +0\nobject 3 1\nrow 1 2\nrow 2 2\nrow 2 2\ncap 1 1 1 0\n\
+                split\nmember 0 clash\nend\n",
         ),
         (
             r##"{"type":"object","properties":{"next":{"$ref":"#"}}}"##,
@@ -26,7 +30,11 @@ fn an_object_satisfies_a_schema(rt: HostRuntime) -> Result<(), Memory> {
             r##"{"type":"object","required":["next"],"properties":{"next":{"$ref":"#"}}}"##,
             1,
             0,
-            "nodocument\n",
+            "certificate 1\ngoals 1\ngoal +0\nentry 0\n\
+                at null\nrule +0\nkind +2\nat boolean\nrule +0\nkind +2\nat number\nrule +0\nkind +2\n\
+                at string\nrule +0\nkind +2\nat array\nrule +0\nkind +2\nat object\nrule +0\nobject 6 1\n\
+                row 1 1 2 1 1\nrow 1 1 1 1 1\nrow 1 3 1 1 1\nrow 1 1 1 1 4\nrow 1 1 1 5 1\nrow 1 1 1 1 1\n\
+                cap 1 1 0 1 1 1 1\nsplit\nmember 0 goal 0\nend\n",
         ),
         // Two names are as many as there are.
         (
@@ -39,7 +47,10 @@ fn an_object_satisfies_a_schema(rt: HostRuntime) -> Result<(), Memory> {
             r#"{"type":"object","propertyNames":{"enum":["a","b"]},"minProperties":3}"#,
             1,
             0,
-            "nodocument\n",
+            "certificate 1\ngoals 1\ngoal +0\nentry 0\n\
+                at null\nrule +0\nkind +2\nat boolean\nrule +0\nkind +2\nat number\nrule +0\nkind +2\n\
+                at string\nrule +0\nkind +2\nat array\nrule +0\nkind +2\nat object\nrule +0\nobject 4 1\n\
+                row 1 2 3\nrow 3 3 3\nrow 3 3 3\nrow 3 3 3\ncap 1 2 1 1 0\nshort -\nend\n",
         ),
         // One member serves two demands.
         (
@@ -62,37 +73,28 @@ fn an_object_satisfies_a_schema(rt: HostRuntime) -> Result<(), Memory> {
     Ok(())
 }
 
-const CLOSED: &str =
+pub(crate) const CLOSED: &str =
     r#"{"type":"object","required":["name"],"properties":{"name":{"type":"string","minLength":1}},"additionalProperties":false}"#;
 
-const WITH_TAGS: &str =
+pub(crate) const WITH_TAGS: &str =
     r#"{"type":"object","required":["name"],"properties":{"name":{"type":"string","minLength":1},"tags":{"type":"array","items":{"type":"string"}}},"additionalProperties":false}"#;
 
 #[test]
-fn objects_of_one_schema_are_of_another(rt: HostRuntime) -> Result<(), Memory> {
-    for (a, b, status, report) in [
-        (CLOSED, WITH_TAGS, 0, "nodocument\n"),
+fn objects_of_one_schema_are_not_of_another(rt: HostRuntime) -> Result<(), Memory> {
+    for (a, b, report) in [
         (
             WITH_TAGS,
             CLOSED,
-            1,
             "document\n{\"name\":\"a\",\"tags\":[]}\n",
         ),
         (
-            r#"{"properties":{"a":{"type":"string"}}}"#,
-            r#"{"properties":{"a":{"type":["string","null"]}}}"#,
-            0,
-            "nodocument\n",
-        ),
-        (
             r#"{"properties":{"a":{"type":["string","null"]}}}"#,
             r#"{"properties":{"a":{"type":"string"}}}"#,
-            1,
             "document\n{\"a\":null}\n",
         ),
     ] {
         let files = (a.as_bytes(), b.as_bytes());
-        expect(&rt, rt.alloc(), "include a b", files, (status, report))?;
+        expect(&rt, rt.alloc(), "include a b", files, (1, report))?;
     }
     Ok(())
 }

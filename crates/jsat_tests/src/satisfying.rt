@@ -1,6 +1,7 @@
 //! What `sat` and `include` answer for schemas that ask for more of a document than its kind, but for objects.
 
-use crate::setting::{STRING, expect};
+use crate::objects::{CLOSED, WITH_TAGS};
+use crate::setting::{STRING, expect, expect_certificate};
 use js_doc::Memory;
 
 #[test]
@@ -22,7 +23,10 @@ fn a_schema_is_satisfied(rt: HostRuntime) -> Result<(), Memory> {
         (
             r#"{"type":"integer","multipleOf":6,"not":{"multipleOf":3}}"#,
             1,
-            "nodocument\n",
+            "certificate 1\ngoals 1\ngoal +0\nentry 0\n\
+                at null\nrule +0\nkind +2\nat boolean\nrule +0\nkind +2\n\
+                at number\nrule +0\nrule +4\nrule -1\nnumber\n\
+                at string\nrule +0\nkind +2\nat array\nrule +0\nkind +2\nat object\nrule +0\nkind +2\nend\n",
         ),
         (
             r#"{"type":"integer","exclusiveMinimum":18446744073709551615}"#,
@@ -47,7 +51,10 @@ fn a_schema_is_satisfied(rt: HostRuntime) -> Result<(), Memory> {
         (
             r#"{"type":"string","pattern":"^a+$","maxLength":0}"#,
             1,
-            "nodocument\n",
+            "certificate 1\ngoals 1\ngoal +0\nentry 0\n\
+                at null\nrule +0\nkind +1\nat boolean\nrule +0\nkind +1\nat number\nrule +0\nkind +1\n\
+                at string\nrule +0\nstring 3\nrow 1 2\nrow 1 2\nrow 2 2\nleast 0 1 1\n\
+                at array\nrule +0\nkind +1\nat object\nrule +0\nkind +1\nend\n",
         ),
         (
             r##"{"items":{"$ref":"#"},"type":"array"}"##,
@@ -57,7 +64,12 @@ fn a_schema_is_satisfied(rt: HostRuntime) -> Result<(), Memory> {
         (
             r#"{"type":"array","maxItems":1,"contains":{"type":"null"},"items":[{"type":"string"}]}"#,
             1,
-            "nodocument\n",
+            "certificate 1\ngoals 2\ngoal +0\ngoal +1 +2\nentry 0\n\
+                at null\nrule +0\nkind +3\nat boolean\nrule +0\nkind +3\nat number\nrule +0\nkind +3\n\
+                at string\nrule +0\nkind +3\nat array\nrule +0\narray\nsplit\nindex 0 goal 1\ncount\n\
+                at object\nrule +0\nkind +3\nentry 1\n\
+                at null\nrule +1\nrule +2\nkind +9\nat boolean\nrule +1\nkind +8\nat number\nrule +1\nkind +8\n\
+                at string\nrule +1\nkind +8\nat array\nrule +1\nkind +8\nat object\nrule +1\nkind +8\nend\n",
         ),
         (
             r#"{"type":"array","maxItems":2,"contains":{"type":"null"},"items":[{"type":"string"}]}"#,
@@ -73,41 +85,47 @@ fn a_schema_is_satisfied(rt: HostRuntime) -> Result<(), Memory> {
 
 /// The same question by `include`, which asks for no document: the statuses change places.
 #[test]
-fn one_schema_is_included_in_another(rt: HostRuntime) -> Result<(), Memory> {
-    for (a, b, status, report) in [
+fn one_schema_is_not_included_in_another(rt: HostRuntime) -> Result<(), Memory> {
+    for (a, b, report) in [
         (
             r#"{"type":"integer","minimum":5,"multipleOf":3}"#,
             "false",
-            1,
             "document\n6\n",
-        ),
-        (
-            r#"{"type":"array","items":{"type":"string"},"additionalItems":false}"#,
-            r#"{"type":"array","items":{"type":"string"}}"#,
-            0,
-            "nodocument\n",
-        ),
-        (
-            r#"{"type":"array","items":{"type":"string"}}"#,
-            r#"{"type":"array","items":{"type":"string"},"additionalItems":false}"#,
-            0,
-            "nodocument\n",
-        ),
-        (
-            r#"{"oneOf":[{"type":"integer"},{"type":"integer","minimum":3}]}"#,
-            r#"{"type":"integer","maximum":2}"#,
-            0,
-            "nodocument\n",
         ),
         (
             r#"{"type":"integer","maximum":2}"#,
             r#"{"oneOf":[{"type":"integer"},{"type":"integer","maximum":1}]}"#,
-            1,
             "document\n1\n",
         ),
     ] {
         let files = (a.as_bytes(), b.as_bytes());
-        expect(&rt, rt.alloc(), "include a b", files, (status, report))?;
+        expect(&rt, rt.alloc(), "include a b", files, (1, report))?;
+    }
+    Ok(())
+}
+
+#[test]
+fn one_schema_is_included_in_another(rt: HostRuntime) -> Result<(), Memory> {
+    for (a, b, front) in [
+        ("false", STRING, "certificate 1\ngoals 0\nend\n"),
+        (
+            r#"{"type":"array","items":{"type":"string"},"additionalItems":false}"#,
+            r#"{"type":"array","items":{"type":"string"}}"#,
+            "certificate 1\ngoals 2\ngoal +0 -5\ngoal +1 -6\nentry 0\n",
+        ),
+        (
+            r#"{"type":"array","items":{"type":"string"}}"#,
+            r#"{"type":"array","items":{"type":"string"},"additionalItems":false}"#,
+            "certificate 1\n",
+        ),
+        (
+            r#"{"oneOf":[{"type":"integer"},{"type":"integer","minimum":3}]}"#,
+            r#"{"type":"integer","maximum":2}"#,
+            "certificate 1\n",
+        ),
+        (CLOSED, WITH_TAGS, "certificate 1\n"),
+    ] {
+        expect_certificate(&rt, rt.alloc(), (a, b), front)?;
     }
     Ok(())
 }

@@ -1,4 +1,4 @@
-//! Commands over two files in memory, `a` and `b`.
+//! Commands over two files in memory, `a` and `b`, and `check` over a third, `c`.
 
 use js_doc::{Memory, Str};
 use js_outside::{FileMap, MemorySink, Shelf, Sink};
@@ -33,6 +33,42 @@ pub(crate) fn two_files(alloc: Global, a: &[u8], b: &[u8]) -> Result<FileMap, Me
     add(alloc, &mut files, "a", a)?;
     add(alloc, &mut files, "b", b)?;
     Ok(files)
+}
+
+/// Fails unless `check` of a certificate for two schemas has this status and report.
+pub(crate) fn expect_checked(
+    rt: &impl Abort,
+    alloc: Global,
+    (a, b, certificate): (&str, &str, &str),
+    wanted: (u8, &str),
+) -> Result<(), Memory> {
+    let words = words_of(alloc, "check a b c")?;
+    let mut files = two_files(alloc, a.as_bytes(), b.as_bytes())?;
+    add(alloc, &mut files, "c", certificate.as_bytes())?;
+    let mut sink = MemorySink::new(alloc, ROOM)?;
+    let answer = run_in_memory(alloc, words.as_slice(), files, &mut sink).code();
+    expect_written(rt, (answer, sink.written()), wanted);
+    Ok(())
+}
+
+/// Fails unless `include` prints a certificate for two schemas that begins with this text, and `check` accepts it.
+pub(crate) fn expect_certificate(
+    rt: &impl Abort,
+    alloc: Global,
+    (a, b): (&str, &str),
+    front: &str,
+) -> Result<(), Memory> {
+    let words = words_of(alloc, "include a b")?;
+    let files = two_files(alloc, a.as_bytes(), b.as_bytes())?;
+    let mut sink = MemorySink::new(alloc, ROOM)?;
+    let status = run_in_memory(alloc, words.as_slice(), files, &mut sink).code();
+    let printed = str::from_utf8(sink.written()).unwrap_or("no text");
+    assert!(rt;
+        printed.as_bytes().starts_with(front.as_bytes()),
+        "{printed}"
+    );
+    assert_eq!(rt; status, 0, "{a} in {b}");
+    expect_checked(rt, alloc, (a, b, printed), (0, "accepted\n"))
 }
 
 /// The words of a command line.

@@ -1,4 +1,4 @@
-use Rattle.std.proofs.Common.{false, None, string_bytes, ◌∙◌}
+use Rattle.std.proofs.Common.{false, None, string_bytes}
 use Rattle.documents.specs.Json.{boolean}
 use Rattle.js_guard.specs.RankedView.{entries_of}
 use Rattle.std.proofs.lemmas.Result.{IfOk-weaker}

@@ -1,4 +1,4 @@
-use Rattle.std.proofs.Common.{◌≡◌, ◌-◌, Bool, length, ap, sym, ◌∙◌}
+use Rattle.std.proofs.Common.{◌-◌, ap, sym, ◌∙◌}
 use Rattle.shared_documents.specs.Unshared.{unshared}
 use Rattle.draft06.specs.Validity.{valid}
 use Rattle.js_keywords.specs.Reading.{rules}

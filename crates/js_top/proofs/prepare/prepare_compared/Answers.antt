@@ -1,29 +1,28 @@
-use Rattle.std.proofs.Common.{Some, option_map, string_bytes, refl}
+use Rattle.std.proofs.Common.{option_map, string_bytes, refl}
 use Rattle.std.proofs.lemmas.Result.{IfOk-weaker}
-use Rattle.js_inclusion.specs.View.{answer_view}
-use Rattle.js_inclusion.proofs.TableLaws.{IfOk-both}
+use Rattle.js_commands.specs.IncludeSaying.{answer_view}
 use Rattle.js_commands.specs.IncludeOutcome.{FirstRefused, SecondRefused}
 use Rattle.js_top.specs.Names.{comparing}
-use Rattle.js_top.proofs.Includes.{IsReportOf-comparing, CommandSays-answer, CommandSays-found}
+use Rattle.js_top.proofs.Includes.{IfOk-both, IsReportOf-comparing, CommandSays-answer, CommandSays-found}
 use Rattle.js_top.proofs.MeaningLaws.{printable}
 use Rattle.js_top.proofs.prepare.prepare_compared.Goals as goal
 
 pub answered-requires : goal.answered-requires
 answered-requires g c =
-    let (same, comes, means) = rw c.in-Decided.is at c.in_ok-answer.ensures.says in
-    printable means.a means.b (answer_view c.in-Decided.answer) means.tells
+    let (same, comes, means) = rw c.in-Decided.is at c.in_ok-verdict.ensures.says in
+    printable means.a means.b (answer_view c.in-Decided.verdict) means.tells
 
 pub returns-in-Decided-clause-says : goal.returns-in-Decided-clause-says
 returns-in-Decided-clause-says g c =
-    let (same, comes, means) = rw c.in-Decided.is at c.in_ok-answer.ensures.says in
+    let (same, comes, means) = rw c.in-Decided.is at c.in_ok-verdict.ensures.says in
     IfOk-both c.answered.result _ _ _ c.answered.ensures.report c.answered.ensures.read (λ p e back.
     CommandSays-found (g.H.Shelf.told c.args.shelf.now) c.args.first.now (option_map (λ s. s.now) c.args.second)
-    (answer_view c.in-Decided.answer) _ _ _ p c.is_sat.result same refl c.is_sat.ensures comes
+    (answer_view c.in-Decided.verdict) _ _ _ p c.is_sat.result same refl c.is_sat.ensures comes
     means e back)
 
 pub returns-in-FirstRefused-clause-says : goal.returns-in-FirstRefused-clause-says
 returns-in-FirstRefused-clause-says g c =
-    let (same, comes, means) = rw c.in-FirstRefused.is at c.in_ok-answer.ensures.says in
+    let (same, comes, means) = rw c.in-FirstRefused.is at c.in_ok-verdict.ensures.says in
     IfOk-weaker c.refused.result _ _ (λ p e.
     CommandSays-answer (g.H.Shelf.told c.args.shelf.now)
     (comparing c.args.first.now (option_map (λ s. s.now) c.args.second)) _ _ _ p _ same refl e refl
@@ -32,7 +31,7 @@ returns-in-FirstRefused-clause-says g c =
 
 pub returns-in-SecondRefused-clause-says : goal.returns-in-SecondRefused-clause-says
 returns-in-SecondRefused-clause-says g c =
-    let (same, comes, means) = rw c.in-SecondRefused.is at c.in_ok-answer.ensures.says in
+    let (same, comes, means) = rw c.in-SecondRefused.is at c.in_ok-verdict.ensures.says in
     IfOk-weaker c.refused-in-SecondRefused.result _ _ (λ p e.
     CommandSays-answer (g.H.Shelf.told c.args.shelf.now)
     (comparing c.args.first.now (option_map (λ s. s.now) c.args.second)) _ _ _ p _ same refl e refl

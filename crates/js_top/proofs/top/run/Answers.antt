@@ -1,10 +1,12 @@
-use Rattle.std.proofs.Common.{◌≡◌, true, false, refl, sym, ◌∙◌, subst}
+use Rattle.std.proofs.Common.{◌≡◌, true, false, sym, ◌∙◌, subst}
 use Rattle.js_top.specs.declared.status.Status.TheVariants.{Other, Done, Limit, Refused}
-use Rattle.js_top.proofs.FileLaws.{prepared-document, prepared-inclusion, prepared-satisfied, prepared-unsatisfied, prepared-refuted, prepared-limit, prepared-report, prepared-part, prepared-settles, prepared-limited, means-accepted, means-refusal}
+use Rattle.js_top.proofs.FileLaws.{prepared-document, prepared-inclusion, prepared-satisfied, prepared-unsatisfied, prepared-limit, prepared-report, prepared-part, prepared-correct, prepared-limited, means-refusal}
 use Rattle.js_top.proofs.JudgingLaws.{means-judgement, prepared-decision, means-judged_refusal}
+use Rattle.js_top.proofs.CheckingLaws.{means-acceptance, means-rejection, means-check_refusal}
 use Rattle.js_top.proofs.ListingLaws.{means-table, prepared-listing, means-norm_refusal}
 use Rattle.js_top.proofs.MissingLaws.{prepared-missing, prepared-only_missing}
 use Rattle.js_top.specs.Judging.{WritesDecision}
+use Rattle.js_top.specs.Correct.{IsCorrect}
 use Rattle.js_top.specs.Listing.{WritesListing}
 use Rattle.js_report.specs.Written.{AppendsPrefix}
 use Rattle.js_top.specs.Meaning.{WhereTold, PassLimit}
@@ -51,15 +53,6 @@ returns-in-Ok-write_report-clause-unsatisfied g c = λ e i. (
       c.in-Ok.ensures.says c.text.ensures (sym c.status.ensures ∙ e) i,
 )
 
-pub returns-in-Ok-write_report-clause-accepted_of_sat : goal.returns-in-Ok-write_report-clause-accepted_of_sat
-returns-in-Ok-write_report-clause-accepted_of_sat g c = λ e i. (
-  c.text.result.now,
-  c.in-Ok-write_report.ensures.whole,
-  means-accepted (g.H.Shelf.told c.args.shelf.now) c.args.words.now c.text.result.now
-      (prepared-refuted (g.H.Shelf.told c.args.shelf.now) c.args.words.now _ _ c.in-Ok.prepared c.text.result.now
-      c.in-Ok.ensures.says c.text.ensures (sym c.status.ensures ∙ e) i),
-)
-
 pub returns-in-Ok-write_report-clause-limit : goal.returns-in-Ok-write_report-clause-limit
 returns-in-Ok-write_report-clause-limit g c = λ e. (
   c.text.result.now,
@@ -94,21 +87,11 @@ returns-clause-write_text g c = λ e. (
 )
 
 pub returns-in-Ok-write_report-clause-headline : goal.returns-in-Ok-write_report-clause-headline
-returns-in-Ok-write_report-clause-headline g c = λ h k m. (
-  c.text.result.now,
-  c.in-Ok-write_report.ensures.whole,
-  prepared-settles (g.H.Shelf.told c.args.shelf.now) c.args.words.now _ _ c.in-Ok.prepared c.text.result.now
-      c.in-Ok.ensures.says c.text.ensures h,
-)
-
-pub returns-in-Ok-write_report-clause-accepted : goal.returns-in-Ok-write_report-clause-accepted
-returns-in-Ok-write_report-clause-accepted g c = λ e i. (
-  c.text.result.now,
-  c.in-Ok-write_report.ensures.whole,
-  means-accepted (g.H.Shelf.told c.args.shelf.now) c.args.words.now c.text.result.now
-      (prepared-inclusion (g.H.Shelf.told c.args.shelf.now) c.args.words.now _ _ c.in-Ok.prepared c.text.result.now
-      c.in-Ok.ensures.says c.text.ensures (sym c.status.ensures ∙ e) i),
-)
+returns-in-Ok-write_report-clause-headline g c = λ h k m.
+    subst (IsCorrect (g.H.Shelf.told c.args.shelf.now) c.args.words.now (g.K.Sink.written c.args.sink.now)
+    (g.K.Sink.written c.write_report.new.sink)) (sym c.status.ensures)
+    (prepared-correct (g.H.Shelf.told c.args.shelf.now) c.args.words.now _ _ c.in-Ok.prepared _ _ c.text.result.now
+    c.in-Ok.ensures.says c.text.ensures h c.in-Ok-write_report.ensures.whole)
 
 pub returns-in-Ok-write_report-clause-decided : goal.returns-in-Ok-write_report-clause-decided
 returns-in-Ok-write_report-clause-decided g c = λ h k m.
@@ -136,6 +119,29 @@ returns-in-Ok-write_report-clause-valid_refusal g c = λ e i. (
   c.text.result.now,
   c.in-Ok-write_report.ensures.whole,
   means-judged_refusal (g.H.Shelf.told c.args.shelf.now) c.args.words.now c.text.result.now
+      (prepared-report (g.H.Shelf.told c.args.shelf.now) c.args.words.now _ _ c.in-Ok.prepared c.text.result.now Refused
+      c.in-Ok.ensures.says c.text.ensures (sym c.status.ensures ∙ e) (λ w. cc)) i,
+)
+
+pub returns-in-Ok-write_report-clause-check_accepted : goal.returns-in-Ok-write_report-clause-check_accepted
+returns-in-Ok-write_report-clause-check_accepted g c = λ e i.
+    means-acceptance (g.H.Shelf.told c.args.shelf.now) c.args.words.now _ _ c.text.result.now
+    (prepared-report (g.H.Shelf.told c.args.shelf.now) c.args.words.now _ _ c.in-Ok.prepared c.text.result.now Done
+    c.in-Ok.ensures.says c.text.ensures (sym c.status.ensures ∙ e) (λ w. cc)) i
+    c.in-Ok-write_report.ensures.whole
+
+pub returns-in-Ok-write_report-clause-check_rejected : goal.returns-in-Ok-write_report-clause-check_rejected
+returns-in-Ok-write_report-clause-check_rejected g c = λ e i.
+    means-rejection (g.H.Shelf.told c.args.shelf.now) c.args.words.now _ _ c.text.result.now
+    (prepared-report (g.H.Shelf.told c.args.shelf.now) c.args.words.now _ _ c.in-Ok.prepared c.text.result.now Other
+    c.in-Ok.ensures.says c.text.ensures (sym c.status.ensures ∙ e) (λ w. cc)) i
+    c.in-Ok-write_report.ensures.whole
+
+pub returns-in-Ok-write_report-clause-check_refusal : goal.returns-in-Ok-write_report-clause-check_refusal
+returns-in-Ok-write_report-clause-check_refusal g c = λ e i. (
+  c.text.result.now,
+  c.in-Ok-write_report.ensures.whole,
+  means-check_refusal (g.H.Shelf.told c.args.shelf.now) c.args.words.now c.text.result.now
       (prepared-report (g.H.Shelf.told c.args.shelf.now) c.args.words.now _ _ c.in-Ok.prepared c.text.result.now Refused
       c.in-Ok.ensures.says c.text.ensures (sym c.status.ensures ∙ e) (λ w. cc)) i,
 )

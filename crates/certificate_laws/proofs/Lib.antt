@@ -1,4 +1,0 @@
-pub mod GoodSound
-pub mod Written
-pub mod Grammar
-mod Examples

@@ -1,9 +1,0 @@
--- The text of the lines that were written.
-use Rattle.std.proofs.Common.{◌≡◌, map, take}
-use Rattle.std.specs.String.{string_bytes}
-use Rattle.certificates.specs.Line.{lines_text}
-use Rattle.js_cert.specs.View.{line_view}
-use Rattle.js_cert.proofs.text.cert_text.Given as goal
-
-abbrev pub invariant-loop-line : goal.invariant-loop-line
-invariant-loop-line l = string_bytes l.out ≡ lines_text (map line_view (take l.line-index l.lines))

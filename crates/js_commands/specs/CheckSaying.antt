@@ -1,0 +1,44 @@
+-- What the calls answer.
+use Rattle.std.specs.Prelude.{◌≡◌, ◌⊎◌, ℕ, List, [], ◌∷◌, ◌++◌, Option, string_bytes}
+use Rattle.schemas.specs.Entry.{Entry}
+use Rattle.js_outside.specs.Counts.{Rose}
+use Rattle.js_outside.specs.Told.{Files}
+use Rattle.js_certificate.specs.FileVerdicts.{IsTooLong}
+use Rattle.js_certificate.specs.declared.file.FileVerdict.TheVariants as V
+use Rattle.js_inclusion.specs.Meaning.{AreIncluded}
+use Rattle.js_inclusion.specs.Judging.{IsJudgementOf}
+use Rattle.js_commands.specs.CheckOutcome as O
+use Rattle.js_commands.specs.CheckOutcome.{Outcome, IsChecking}
+use Rattle.js_commands.specs.CheckMeaning.{MeansFor}
+use Rattle.js_commands.specs.declared.check.Checking.{Checking}
+use Rattle.js_commands.specs.declared.check.Checking.TheVariants as C
+
+abbrev pub outcome_of : Checking → Outcome
+outcome_of C.Accepted = O.Accepted
+outcome_of (C.Rejected line rule) = O.Rejected line rule
+outcome_of (C.FirstRefused words) = O.FirstRefused (string_bytes words)
+outcome_of (C.SecondRefused words) = O.SecondRefused (string_bytes words)
+outcome_of C.TooLong = O.TooLong
+outcome_of C.ReadFault = O.ReadFault
+
+-- a fault is counted where a file couldn't be read, and else the answer is what the files come to
+abbrev pub CheckingSays : Option Files → (first second certificate : List ℕ) → ℕ → ℕ → Checking → Type 0
+CheckingSays told first second certificate before after C.ReadFault = Rose before after
+CheckingSays told first second certificate before after c =
+    (after ≡ before) × IsChecking told first second certificate (outcome_of c)
+    × MeansFor told first second certificate (outcome_of c)
+
+-- the same of a certificate's file, which is given by its UTF-8 bytes, for two schemas that were read
+abbrev pub CertificateSays : List Entry → List Entry → Option Files → (name : List ℕ) → ℕ → ℕ → Checking → Type 0
+CertificateSays es fs told name before after C.Accepted =
+    (after ≡ before) × IsJudgementOf es fs told name V.Accepted × AreIncluded es fs
+CertificateSays es fs told name before after (C.Rejected line rule) =
+    (after ≡ before) × IsJudgementOf es fs told name (V.Rejected line rule)
+CertificateSays es fs told name before after C.TooLong = (after ≡ before) × IsTooLong told name
+CertificateSays es fs told name before after C.ReadFault = Rose before after
+CertificateSays es fs told name before after (C.FirstRefused words) = ⊥
+CertificateSays es fs told name before after (C.SecondRefused words) = ⊥
+
+-- the file is begun, unless memory is refused before
+abbrev pub MayBegin : (name : List ℕ) → (before after : List (List ℕ)) → Type 0
+MayBegin name before after = (after ≡ before) ⊎ (after ≡ before ++ name ∷ [])

@@ -1,0 +1,38 @@
+use Rattle.std.proofs.Common.{◌∙◌}
+use Rattle.alternatives.specs.Limit.{most_goals, most_total}
+use Rattle.search.specs.Explored.{explored}
+use Rattle.js_explore.specs.ExploredView.{found_view}
+use Rattle.js_expander.specs.Found.{goal_expansion, cells_at}
+use Rattle.js_rounds.specs.Slots.{words_by}
+use Rattle.js_decide.specs.View.{verdict_view}
+use Rattle.js_decide.proofs.Told.{all_told}
+use Rattle.js_decide.proofs.Deciding.{taken_inside, certified_root}
+use Rattle.js_decide.proofs.certified.decide_root.Goals as goal
+
+pub certified-requires-clause-inside : goal.certified-requires-clause-inside
+certified-requires-clause-inside c =
+    let taken = rw c.new.ensures at c.in_ok-searched.ensures.taken in
+    taken_inside c.args.core.now.positions c.args.core.now.ranks (found_view c.in_ok-searched.searched.explored).goals
+    taken
+
+pub returns-clause-decided : goal.returns-clause-decided
+returns-clause-decided c =
+    let T = c.args.core.now.positions in
+    let f = found_view c.in_ok-searched.searched.explored in
+    let outcome = rw c.new.ensures at c.in_ok-searched.ensures.outcome in
+    let found = rw c.new.ensures at c.in_ok-searched.ensures.found in
+    let rounds = rw c.new.ensures at c.in_ok-searched.ensures.rounds in
+    all_told (words_by (cells_at T)) (goal_expansion T) f (explored most_goals most_total (goal_expansion T)
+    c.args.root)
+    (verdict_view c.in_ok-certified.field-0) c.len-goals.result c.last_round-rounds.result found
+    (c.in_ok-certified.ensures.verdict ∙ outcome) c.len-goals.ensures
+    (c.last_round-rounds.ensures.rounds (goal_expansion T) f rounds)
+
+pub returns-clause-certificate : goal.returns-clause-certificate
+returns-clause-certificate c =
+    let T = c.args.core.now.positions in
+    let found = rw c.new.ensures at c.in_ok-searched.ensures.found in
+    let explores = rw c.new.ensures at c.in_ok-searched.ensures.explores in
+    let rounds = rw c.new.ensures at c.in_ok-searched.ensures.rounds in
+    certified_root T c.args.root (found_view c.in_ok-searched.searched.explored) c.in_ok-certified.field-0 found
+    (c.in_ok-certified.ensures.certificate (goal_expansion T) explores rounds)

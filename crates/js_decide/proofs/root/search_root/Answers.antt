@@ -1,0 +1,7 @@
+-- The rounds that were run are those of the definition.
+use Rattle.js_decide.proofs.root.search_root.Goals as goal
+
+pub returns-clause-rounds : goal.returns-clause-rounds
+returns-clause-rounds g c =
+    c.run_uncounted.ensures.rounds c.in_ok-rounds.ensures.new.has_run (g.E.Expander.expansion c.args.expander.now)
+    c.in_ok-explored.ensures.answers

@@ -1,5 +1,0 @@
-pub mod VerdictLaws
-pub mod Telling
-pub mod KnownSoFar
-pub mod KindByKind
-mod Examples
