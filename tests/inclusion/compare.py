@@ -120,12 +120,20 @@ def is_wrong(chooser, answer, text, first, second):
     if answer == 'document':
         document = json.loads(text.split('\n', 1)[1])
         return None if valid(document) and not valid_too(document) else ('document', document)
-    if answer in ('nodocument', 'certificate'):
+    if answer == 'certificate':
         for _ in range(60):
             document = chooser.document(3)
             if valid(document) and not valid_too(document):
                 return 'none', document
     return None
+
+
+def is_accepted(jsat, folder, certificate):
+    """Whether the program's own checker accepts what it printed."""
+    with open(os.path.join(folder, 'c'), 'w') as file:
+        file.write(certificate)
+    run = subprocess.run([jsat, 'check', 'a', 'b', 'c'], cwd=folder, capture_output=True, text=True, timeout=60)
+    return run.stdout == 'accepted\n' and run.returncode == 0
 
 
 def main():
@@ -140,6 +148,8 @@ def main():
                     json.dump(schema, file)
             run = subprocess.run([jsat, 'include', 'a', 'b'], cwd=folder, capture_output=True, text=True, timeout=60)
             answer = run.stdout.split()[0]
+            if answer == 'certificate' and not is_accepted(jsat, folder, run.stdout):
+                print('REJECTED', json.dumps(first), json.dumps(second))
             counts[answer] = counts.get(answer, 0) + 1
             try:
                 wrong = is_wrong(chooser, answer, run.stdout, first, second)
