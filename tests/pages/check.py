@@ -287,7 +287,7 @@ def check_crates(tree, findings):
     named = set()
     for page in tree.pages:
         for unit in page.units:
-            if page.path == 'README.md' or page.path == 'docs/architecture.md':
+            if page.path == 'docs/proofs.md' or page.path == 'docs/architecture.md':
                 named.update(re.findall(r'\w+', unit.text))
             for line, span in ([] if unit.is_code else unit.spans()):
                 first, _, rest = span.partition('::')
@@ -303,7 +303,7 @@ def check_crates(tree, findings):
     for crate, line in tree.lines.items():
         if crate not in named:
             findings.add('crates.txt', line, 'no page names `%s`' % crate,
-                         'give it a row in docs/architecture.md and a line in README.md')
+                         'give it a row in docs/architecture.md and a line in docs/proofs.md')
         if 'crates/%s/README.md' % crate not in tree.all:
             findings.add('crates.txt', line, '`crates/%s/README.md` is missing' % crate, 'write it')
     for crate in sorted(set(tree.of_crate) - set(tree.uses)):

@@ -1,0 +1,65 @@
+#!/usr/bin/env bash
+# Runs the gate script over the example schemas, and compares its lines and statuses with what these changes are to give.
+#
+#   JSAT=crates/jsat/out/jsat tests/gate/run.sh
+#
+# Silent and status 0 where all is as expected.
+set -u
+cd "$(dirname "$0")/../.." || exit 2
+JSAT=$(realpath "${JSAT:-crates/jsat/out/jsat}")
+export JSAT
+gate=examples/gate/gate.sh
+work=$(mktemp -d) || exit 2
+trap 'rm -rf "$work"' EXIT
+mkdir "$work/old" "$work/compatible" "$work/incompatible"
+for name in events expressions manifest service; do
+    cp "examples/$name/before.json" "$work/old/$name.json"
+    cp "examples/$name/compatible.json" "$work/compatible/$name.json"
+    cp "examples/$name/incompatible.json" "$work/incompatible/$name.json"
+done
+echo '{"type": "stri' >"$work/old/broken.json"
+cp "$work/old/broken.json" "$work/compatible/broken.json"
+echo true >"$work/compatible/new one.json"
+status=0
+
+# The first two or three words of each line are expected, and the status.
+expect() {
+    local wanted_status=$1 wanted=$2
+    shift 2
+    local lines
+    lines=$(bash "$gate" -c "$work/stored" "$@")
+    local found=$?
+    lines=$(printf '%s\n' "$lines" | sed -E 's/^((pass|breaks|open) [^ ]+ [^ ]+).*/\1/')
+    if [ "$found" -ne "$wanted_status" ] || [ "$lines" != "$wanted" ]; then
+        printf 'gate.sh %s: status %s for %s\n%s\n' "$*" "$found" "$wanted_status" "$lines"
+        status=1
+    fi
+}
+
+expect 3 "open broken.json backward
+pass events.json backward
+pass expressions.json backward
+pass manifest.json backward
+pass service.json backward
+added new one.json" -j 2 backward "$work/old" "$work/compatible"
+rm "$work/old/broken.json" "$work/compatible/broken.json"
+expect 1 "breaks events.json forward
+breaks expressions.json forward
+breaks manifest.json forward
+breaks service.json forward
+added new one.json" forward "$work/old" "$work/compatible"
+expect 1 "breaks events.json backward
+pass events.json forward
+breaks expressions.json backward
+pass expressions.json forward
+breaks manifest.json backward
+pass manifest.json forward
+breaks service.json backward
+pass service.json forward" full "$work/old" "$work/incompatible"
+expect 1 "breaks events.json backward
+breaks expressions.json backward
+breaks manifest.json backward
+breaks service.json backward
+removed new one.json" backward "$work/compatible" "$work/old"
+expect 2 "" sideways "$work/old" "$work/compatible" 2>"$work/usage"
+exit $status
