@@ -11,4 +11,4 @@ mod schema;
 
 pub use document::{DocumentInput, read_document_bytes};
 pub use load::{load_document, load_schema};
-pub use schema::{SchemaInput, read_schema_bytes};
+pub use schema::{SchemaInput, read_schema_bytes, read_schema_value};

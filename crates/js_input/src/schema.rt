@@ -34,7 +34,7 @@ pub fn read_schema_bytes(alloc: Global, bytes: &[u8]) -> Result<SchemaInput, Mem
         return Ok(SchemaInput::Refused(String::from_str(alloc, "toolong")?));
     }
     match read_json(alloc, bytes) {
-        Ok(json) => read_value(alloc, &json),
+        Ok(json) => read_schema_value(alloc, &json),
         // `read_json` never answers `NotWhole`
         Err(JsonFault::NotJson | JsonFault::NotWhole(_)) => {
             let words = String::from_str(alloc, "notjson")?;
@@ -44,7 +44,8 @@ pub fn read_schema_bytes(alloc: Global, bytes: &[u8]) -> Result<SchemaInput, Mem
     }
 }
 
-fn read_value(alloc: Global, json: &Json) -> Result<SchemaInput, Memory>
+/// The schema of this value, or the words of the first thing that is wrong.
+pub fn read_schema_value(alloc: Global, json: &Json) -> Result<SchemaInput, Memory>
     ensures { IfOk result (ValueSays (view json.now)) }
 {
     match read_schema(alloc, json) {

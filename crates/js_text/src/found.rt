@@ -36,7 +36,7 @@ pub fn found_text(alloc: Global, parts: &Parts, root: PartId) -> Result<Vec<u8>,
 {
     is_told(parts);
     let measures = Measures::room(alloc, parts)?;
-    if is_plain_text(measures.measure(parts, root)) {
+    if measures.measure(parts, root).is_plain() {
         let doc = unshare(alloc, parts, root)?;
         plain_text(alloc, &doc)
     } else {
@@ -44,10 +44,13 @@ pub fn found_text(alloc: Global, parts: &Parts, root: PartId) -> Result<Vec<u8>,
     }
 }
 
-fn is_plain_text(measure: Measure) -> bool
-    ensures { result ≡ F.is_plain_text (measure_view measure) }
-{
-    measure.depth <= DEEPEST_PLAIN && measure.length <= LONGEST_PLAIN && measure.short_numbers
+impl Measure {
+    /// Whether the document is printed plain: readers of JSON take such a text.
+    pub fn is_plain(&self) -> bool
+        ensures { result ≡ F.is_plain_text (measure_view self.now) }
+    {
+        self.depth <= DEEPEST_PLAIN && self.length <= LONGEST_PLAIN && self.short_numbers
+    }
 }
 
 fn plain_text(alloc: Global, doc: &Doc) -> Result<Vec<u8>, Memory>

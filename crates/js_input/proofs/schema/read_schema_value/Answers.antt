@@ -3,7 +3,7 @@ use Rattle.js_doc.proofs.JsonWellFormed.{is_json-view}
 use Rattle.js_schema.specs.SchemaView.{schema_view}
 use Rattle.std.proofs.lemmas.Result.{IfOk-weaker}
 use Rattle.js_input.proofs.InputLemmas.{ValueSays-entries}
-use Rattle.js_input.proofs.schema.read_value.Goals as goal
+use Rattle.js_input.proofs.schema.read_schema_value.Goals as goal
 
 pub returns-in-Ok : goal.returns-in-Ok
 returns-in-Ok c =
