@@ -89,26 +89,21 @@ module _ (told : Option Files) (first one : List ℕ) (a : Json) (has : HasBytes
       }
 
 -- a verdict's answer, with the bytes of its certificate
-view-answer : (text : List ℕ) (v : Verdict) (d : D.Verdict) → verdict_view v ≡ d → HasCertificate text v
+pub view-answer : (text : List ℕ) (v : Verdict) (d : D.Verdict) → verdict_view v ≡ d → HasCertificate text v
     → answer_view v ≡ of_decision text d
 view-answer text (V.Document ps i) d e has = ap (of_decision text) e
 view-answer text (V.Certificate bytes) d e has = ap A.Certificate has ∙ ap (of_decision text) e
 view-answer text (V.Limit k g) d e has = ap (of_decision text) e
 
--- two schemas that are read, as these entries, and what the program says of them
-module _ (told : Option Files) (first : List ℕ) (second : Option (List ℕ)) (a b : Json) (es fs : List Entry)
-    (x : IsReadAs a es) (y : IsReadAs b fs) (are : AreSchemas told first second a b)
-    (comes : (o : Outcome) → of_values a b ≡ o → IsComparison told first second o) where
-  same_entries : entries_read a ≡ es
+-- two schemas that are read, as these entries
+module _ (a b : Json) (es fs : List Entry) (x : IsReadAs a es) (y : IsReadAs b fs) where
+  pub same_entries : entries_read a ≡ es
   same_entries = ap entries_of x.entries
 
-  same_entries' : entries_read b ≡ fs
+  pub same_entries' : entries_read b ≡ fs
   same_entries' = ap entries_of y.entries
 
-  same_answer : answer (entries_read a) (entries_read b) ≡ answer es fs
-  same_answer = ap₂ answer same_entries same_entries'
-
-  values-tell : (v : Verdict) → HasCertificate (certificate_text es fs) v → Tells es fs a b (verdict_view v)
+  pub values-tell : (v : Verdict) → HasCertificate (certificate_text es fs) v → Tells es fs a b (verdict_view v)
       → ValuesTell a b (answer_view v)
   values-tell (V.Document ps i) has tells = tells
   values-tell (V.Certificate bytes) has tells =
@@ -121,6 +116,13 @@ module _ (told : Option Files) (first : List ℕ) (second : Option (List ℕ)) (
       subst (λ p. StopsSearch p (entries_read b) (limit_view k) g) (sym same_entries)
       (subst (λ q. StopsSearch es q (limit_view k) g) (sym same_entries') tells)
 
+-- and what the program says of them
+module _ (told : Option Files) (first : List ℕ) (second : Option (List ℕ)) (a b : Json) (es fs : List Entry)
+    (x : IsReadAs a es) (y : IsReadAs b fs) (are : AreSchemas told first second a b)
+    (comes : (o : Outcome) → of_values a b ≡ o → IsComparison told first second o) where
+  same_answer : answer (entries_read a) (entries_read b) ≡ answer es fs
+  same_answer = ap₂ answer (same_entries a b es fs x y) (same_entries' a b es fs x y)
+
   pub says-compared : (before after : ℕ) (f : Inclusion) → after ≡ before → SchemasSay es fs f
       → InclusionSays told first second before after f
   says-compared before after (F.Decided v) n (e, has, means) =
@@ -132,7 +134,7 @@ module _ (told : Option Files) (first : List ℕ) (second : Option (List ℕ)) (
           b = b;
           are = are;
           is = same_answer ∙ sym found;
-          tells = values-tell v has (means a b x y);
+          tells = values-tell a b es fs x y v has (means a b x y);
         },
       )
   says-compared before after (F.FirstRefused ws) n says = absurd says

@@ -13,3 +13,5 @@ pub mod CheckMeaningLaws
 -- `norm`: what position 0 of a schema's table means, and from what a file is read as to what it comes to.
 pub mod NormTableLemmas
 pub mod NormOutcomeLemmas
+-- `gen`: from what the values of a family are read as to what they come to.
+pub mod GenOutcomeLemmas

@@ -7,8 +7,11 @@ pub mod ValidMeaning
 pub mod CheckOutcome
 pub mod CheckMeaning
 pub mod NormOutcome
+pub mod GenOutcome
+pub mod GenMeaning
 -- What the calls answer.
 pub mod IncludeSaying
 pub mod ValidSaying
 pub mod CheckSaying
 pub mod NormSaying
+pub mod GenSaying

@@ -110,6 +110,6 @@ fn compared_with_false(alloc: Global, a: &RankedSchema) -> Result<Inclusion, Mem
 fn compared(alloc: Global, a: &RankedSchema, b: &RankedSchema) -> Result<Inclusion, Memory>
     ensures { IfOk result (SchemasSay (entries_of a.now) (entries_of b.now)) }
 {
-    let answer = compare(alloc, a, b)?;
-    Ok(Inclusion::Decided(answer))
+    let decided = compare(alloc, a, b)?;
+    Ok(Inclusion::Decided(decided.verdict))
 }

@@ -25,9 +25,13 @@ both es fs = joined (core_of es) (core_of fs)
 abbrev pub second_root : List Entry → ℕ
 second_root es = length (core_of es)
 
--- what is decided of the two roots: whether a document is valid for the first schema and not for the second
+-- what is decided of the two roots, and what was looked at for it
+abbrev pub decided_of : List Entry → List Entry → D.Decided
+decided_of es fs = decision (finders (both es fs)) (both es fs) 0 (second_root es)
+
+-- whether a document is valid for the first schema and not for the second
 abbrev pub comparison : List Entry → List Entry → D.Verdict
-comparison es fs = (decision (finders (both es fs)) (both es fs) 0 (second_root es)).verdict
+comparison es fs = (decided_of es fs).verdict
 
 -- the certificate where there is no such document: its lines, and how they are written
 abbrev pub certificate : List Entry → List Entry → List Line

@@ -8,7 +8,7 @@ use Rattle.verdicts.specs.Verdict as V
 use Rattle.verdicts.specs.Verdict.{Verdict}
 use Rattle.js_keywords.specs.Reading.{rules}
 use Rattle.js_outside.specs.Told.{Files}
-use Rattle.js_words.specs.Commands.{Command, Sat, Include, Valid, Check, Norm, command}
+use Rattle.js_words.specs.Commands.{Command, Sat, Include, Valid, Check, Norm, Gen, command}
 use Rattle.js_commands.specs.IncludeMeaning.{AreSchemas}
 use Rattle.js_commands.proofs.IncludeMeaningLaws.{told-same}
 use Rattle.js_commands.specs.CheckOutcome as K
@@ -37,11 +37,12 @@ report-check : (told : Option Files) (words : List (List ℕ)) (r : Report) (a b
 report-check told words r a b c named is = go (command words) named is where
   go : (o : Option Command) → of_check o ≡ Some (a, b, c) → IsReportOf told o r → IsCheckReport told a b c r
   go None e is = cc
-  go (Some (Sat x)) e is = cc
-  go (Some (Include x y)) e is = cc
+  go (Some (Sat x w)) e is = cc
+  go (Some (Include x y w)) e is = cc
   go (Some (Valid x y)) e is = cc
   go (Some (Norm x)) e is = cc
-  go (Some (Check x y z)) e is =
+  go (Some (Gen f n w)) e is = cc
+  go (Some (Check x y z w)) e is =
       let same : ◌≡◌ {A = List ℕ × List ℕ × List ℕ} (x, y, z) (a, b, c) = cc in
       subst (λ n. IsCheckReport told n.0 n.1 n.2 r) same is
 

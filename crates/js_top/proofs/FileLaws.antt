@@ -5,7 +5,8 @@ use Rattle.std.specs.Prelude.{IsSome}
 use Rattle.documents.specs.Json.{Json, boolean}
 use Rattle.js_outside.specs.Counts.{Rose, Stays}
 use Rattle.js_outside.specs.Told.{Files}
-use Rattle.js_words.specs.Commands.{Command, Sat, Include, Valid, Check, Norm, command}
+use Rattle.js_words.specs.Commands.{Command, Sat, Include, Valid, Check, Norm, Gen, command}
+use Rattle.js_words.specs.PlainWords.{Plain, is_plain, words_of, meant}
 use Rattle.js_commands.specs.IncludeOutcome as Compared
 use Rattle.js_commands.specs.IncludeOutcome.{Answer, IsComparison}
 use Rattle.js_commands.specs.IncludeMeaning.{AreSchemas, answer_of, IsCertificate, ValuesTell, IsDecided, MeansFor}
@@ -15,7 +16,7 @@ use Rattle.js_commands.specs.NormOutcome as N
 use Rattle.js_commands.specs.ValidOutcome as V
 use Rattle.js_commands.specs.ValidOutcome.{Outcome}
 use Rattle.js_report.specs.Lines.{line}
-use Rattle.js_top.specs.Names.{of_sat, of_include, of_compared, of_check, sat_name, compared_names, IsSat, IsInclude, IsCompared}
+use Rattle.js_top.specs.Names.{of_sat, of_include, of_compared, of_check, of_gen, sat_name, compared_names, IsSat, IsInclude, IsCompared, IsGen}
 use Rattle.js_top.specs.Report.{Report, printed, finding_of, finding_status, answer_report, compared_report, IsReadBack, IsOutcomeReadBack, IsComparedReport, IsReportOf, outcome_report, checked_report, listed_report, IsReport}
 use Rattle.js_top.specs.Meaning.{AreNamed, WhereTold, PassLimit, IsCounterexample, IsLimit, IsAsked, IsWitness, IsRefutation, IsRefusal}
 use Rattle.js_top.specs.Correct.{IsCorrect}
@@ -45,22 +46,24 @@ compared-include words include = go (command words) include where
   go : (c : Option Command) → IsSome (of_include c)
       → (a : List ℕ) × (b : List ℕ) × (of_compared c ≡ Some (a, Some b))
   go None i = cc
-  go (Some (Sat a)) i = cc
-  go (Some (Include a b)) i = (a, b, refl)
+  go (Some (Sat a w)) i = cc
+  go (Some (Include a b w)) i = (a, b, refl)
   go (Some (Valid a d)) i = cc
-  go (Some (Check a b c)) i = cc
+  go (Some (Check a b c w)) i = cc
   go (Some (Norm a)) i = cc
+  go (Some (Gen f n w)) i = cc
 
 compared-sat : (words : List (List ℕ)) → IsSat words
     → (a : List ℕ) × (sat_name words ≡ Some a) × (compared_names words ≡ Some (a, None))
 compared-sat words sat = go (command words) sat where
   go : (c : Option Command) → IsSome (of_sat c) → (a : List ℕ) × (of_sat c ≡ Some a) × (of_compared c ≡ Some (a, None))
   go None i = cc
-  go (Some (Sat a)) i = (a, refl, refl)
-  go (Some (Include a b)) i = cc
+  go (Some (Sat a w)) i = (a, refl, refl)
+  go (Some (Include a b w)) i = cc
   go (Some (Valid a d)) i = cc
-  go (Some (Check a b c)) i = cc
+  go (Some (Check a b c w)) i = cc
   go (Some (Norm a)) i = cc
+  go (Some (Gen f n w)) i = cc
 
 -- the report of these words is that of a comparison
 report-compared : (told : Option Files) (words : List (List ℕ)) (r : Report) (a : List ℕ) (second : Option (List ℕ))
@@ -68,15 +71,16 @@ report-compared : (told : Option Files) (words : List (List ℕ)) (r : Report) (
 report-compared told words r a second named is = go (command words) named is where
   go : (c : Option Command) → of_compared c ≡ Some (a, second) → IsReportOf told c r → IsComparedReport told a second r
   go None e is = cc
-  go (Some (Sat x)) e is =
+  go (Some (Sat x w)) e is =
       let same : ◌≡◌ {A = List ℕ × Option (List ℕ)} (x, None) (a, second) = cc in
       subst (λ n. IsComparedReport told n.0 n.1 r) same is
-  go (Some (Include x y)) e is =
+  go (Some (Include x y w)) e is =
       let same : ◌≡◌ {A = List ℕ × Option (List ℕ)} (x, Some y) (a, second) = cc in
       subst (λ n. IsComparedReport told n.0 n.1 r) same is
   go (Some (Valid x y)) e is = cc
-  go (Some (Check x y z)) e is = cc
+  go (Some (Check x y z w)) e is = cc
   go (Some (Norm x)) e is = cc
+  go (Some (Gen f n w)) e is = cc
 
 -- the statuses of an answer on two schemas, and that of a refusal
 
@@ -114,17 +118,20 @@ unlimited_norm (N.Listed text) = refl
 unlimited_norm (N.SchemaRefused words) = refl
 unlimited_norm N.ReadFault = refl
 
--- a limit is a report of a comparison
+-- a limit is a report of a comparison, but for `gen`
 limit-compared : (told : Option Files) (words : List (List ℕ)) (text : List ℕ)
-    → IsReport told words (record { text = text; status = S.Limit }) → IsCompared words
-limit-compared told words text is = go (command words) is where
-  go : (c : Option Command) → IsReportOf told c (record { text = text; status = S.Limit }) → IsSome (of_compared c)
-  go None is = let wrong = ap (λ s. is_limit s.status) is in cc
-  go (Some (Sat a)) is = refl
-  go (Some (Include a b)) is = refl
-  go (Some (Valid a d)) (o, v, e) = let wrong = sym (unlimited o) ∙ ap (λ s. is_limit s.status) e in cc
-  go (Some (Check a b c)) (o, v, m, e) = let wrong = sym (unlimited_check o) ∙ ap (λ s. is_limit s.status) e in cc
-  go (Some (Norm a)) (o, v, e) = let wrong = sym (unlimited_norm o) ∙ ap (λ s. is_limit s.status) e in cc
+    → IsReport told words (record { text = text; status = S.Limit }) → (IsGen words → ⊥) → IsCompared words
+limit-compared told words text is other = go (command words) other is where
+  go : (c : Option Command) → (IsSome (of_gen c) → ⊥) → IsReportOf told c (record { text = text; status = S.Limit })
+      → IsSome (of_compared c)
+  go None other is = let wrong = ap (λ s. is_limit s.status) is in cc
+  go (Some (Sat a w)) other is = refl
+  go (Some (Include a b w)) other is = refl
+  go (Some (Valid a d)) other (o, v, e) = let wrong = sym (unlimited o) ∙ ap (λ s. is_limit s.status) e in cc
+  go (Some (Check a b c w)) other (o, v, m, e) =
+      let wrong = sym (unlimited_check o) ∙ ap (λ s. is_limit s.status) e in cc
+  go (Some (Norm a)) other (o, v, e) = let wrong = sym (unlimited_norm o) ∙ ap (λ s. is_limit s.status) e in cc
+  go (Some (Gen f n w)) other is = absurd (other refl)
 
 -- a report with the status of an answer is that of two schemas
 record IsOfSchemas (told : Option Files) (a : List ℕ) (second : Option (List ℕ)) (r : Report) : Type 0 where
@@ -275,11 +282,12 @@ module _ (told : Option Files) (words : List (List ℕ)) (before after : ℕ) (p
       asked_of told words a named S.Other text (prepared-means S.Other e refl a None compared) in
       (x, asked, certificate-refutation x text shows)
 
-  -- no other command has a limit
-  pub prepared-limit : (report_of p).status ≡ S.Limit → Named told words (λ a b. IsLimit a b text)
-  prepared-limit e =
+  -- no other command but `gen` has a limit
+  pub prepared-limit : (report_of p).status ≡ S.Limit → (IsGen words → ⊥)
+      → Named told words (λ a b. IsLimit a b text)
+  prepared-limit e other =
       let is = prepared-report told words before after p text S.Limit says t e (λ h. cc) in
-      let (a, second, named) = compared_of words (limit-compared told words text is) in
+      let (a, second, named) = compared_of words (limit-compared told words text is other) in
       named_of told words a second named S.Limit text (means told words text S.Limit a second named is refl)
 
 -- the report that was begun to be written: that of a failed read, or that of files
@@ -327,22 +335,28 @@ told-report : (files : Files) (words : List (List ℕ)) (r : Report) → IsRepor
 told-report files words r is a b s =
     told-answer files words r a b s (report-compared (Some files) words r s.first s.second s.named is)
 
+-- plain words are the command that they mean
+abbrev pub ArePlain : List (List ℕ) → Type 0
+ArePlain words = (p : Plain) → is_plain p ≡ true → words ≡ words_of p → command words ≡ Some (meant p)
+
 pub prepared-correct : (told : Option Files) (words : List (List ℕ)) (before after : ℕ) (p : Prepared)
     (old new : Option (List ℕ)) (text : List ℕ)
+    → ArePlain words
     → PreparedSays told words before after p → text ≡ (report_of p).text → Stays before after → Appends old new text
     → IsCorrect told words old new (report_of p).status
-prepared-correct None words before after p old new text says t stays appends = tt
-prepared-correct (Some files) words before after Usage old new text says t stays appends =
+prepared-correct None words before after p old new text plain says t stays appends = tt
+prepared-correct (Some files) words before after Usage old new text plain says t stays appends =
     record {
       text = text;
       written = appends;
       answered = λ a b s. let wrong = sym s.named ∙ ap of_compared says.1 in cc;
       limited = λ a b s passes. let wrong = sym s.named ∙ ap of_compared says.1 in cc;
+      plain = plain;
       checked = λ a b bytes s. let wrong = sym s.named ∙ ap of_check says.1 in cc;
     }
-prepared-correct (Some files) words before after ReadFault old new text says t stays appends =
+prepared-correct (Some files) words before after ReadFault old new text plain says t stays appends =
     absurd (omega (arith, says.0, stays))
-prepared-correct (Some files) words before after (Made made status) old new text says t stays appends =
+prepared-correct (Some files) words before after (Made made status) old new text plain says t stays appends =
     record {
       text = made.items;
       written = subst (Appends old new) t appends;
@@ -352,6 +366,7 @@ prepared-correct (Some files) words before after (Made made status) old new text
       limited = λ a b s.
           let of = told-report files words (record { text = made.items; status = status }) says.2 a b s in
           answer-limited a b of.x of.is of.tells made.items (ap (λ r. r.text) of.report) of.back;
+      plain = plain;
       checked = told-verdict files words old new made.items status says.2 (subst (Appends old new) t appends);
     }
 

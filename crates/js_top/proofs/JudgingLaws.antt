@@ -8,7 +8,7 @@ use Rattle.draft06.specs.Validity.{valid}
 use Rattle.js_keywords.specs.Reading.{rules}
 use Rattle.js_outside.specs.Counts.{Stays}
 use Rattle.js_outside.specs.Told.{Files}
-use Rattle.js_words.specs.Commands.{Command, Sat, Include, Valid, Check, Norm, command}
+use Rattle.js_words.specs.Commands.{Command, Sat, Include, Valid, Check, Norm, Gen, command}
 use Rattle.js_commands.specs.ValidOutcome as V
 use Rattle.js_commands.specs.ValidOutcome.{Outcome, of_test, IsValidation}
 use Rattle.js_commands.proofs.ValidMeaningLaws.{validation-decided, told-decided, schema-refusal, document-refusal}
@@ -36,10 +36,11 @@ report-valid : (told : Option Files) (words : List (List ℕ)) (r : Report) (a d
 report-valid told words r a d named is = go (command words) named is where
   go : (c : Option Command) → of_valid c ≡ Some (a, d) → IsReportOf told c r → IsValidReport told a d r
   go None e is = cc
-  go (Some (Sat x)) e is = cc
-  go (Some (Include x y)) e is = cc
-  go (Some (Check x y z)) e is = cc
+  go (Some (Sat x w)) e is = cc
+  go (Some (Include x y w)) e is = cc
+  go (Some (Check x y z w)) e is = cc
   go (Some (Norm x)) e is = cc
+  go (Some (Gen f n w)) e is = cc
   go (Some (Valid x y)) e is =
       let same : ◌≡◌ {A = List ℕ × List ℕ} (x, y) (a, d) = cc in subst (λ n. IsValidReport told n.0 n.1 r) same is
 

@@ -5,5 +5,6 @@ pub mod FileLaws
 pub mod JudgingLaws
 pub mod CheckingLaws
 pub mod ListingLaws
+pub mod GeneratingLaws
 pub mod MissingLaws
 mod Examples

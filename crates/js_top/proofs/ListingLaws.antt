@@ -5,7 +5,7 @@ use Rattle.std.specs.Prelude.{IsSome}
 use Rattle.documents.specs.Json.{Json}
 use Rattle.js_outside.specs.Counts.{Stays}
 use Rattle.js_outside.specs.Told.{Files}
-use Rattle.js_words.specs.Commands.{Command, Sat, Include, Valid, Check, Norm, command}
+use Rattle.js_words.specs.Commands.{Command, Sat, Include, Valid, Check, Norm, Gen, command}
 use Rattle.js_input.specs.SchemaReading.{Reading, Refused, Read, IsSchemaReading}
 use Rattle.js_input.specs.FileReading.{IsSchemaFile}
 use Rattle.js_input.specs.ToldTwice.{AreFiles}
@@ -34,10 +34,11 @@ report-norm : (told : Option Files) (words : List (List ℕ)) (r : Report) (a : 
 report-norm told words r a named is = go (command words) named is where
   go : (c : Option Command) → of_norm c ≡ Some a → IsReportOf told c r → IsNormReport told a r
   go None e is = cc
-  go (Some (Sat x)) e is = cc
-  go (Some (Include x y)) e is = cc
+  go (Some (Sat x w)) e is = cc
+  go (Some (Include x y w)) e is = cc
   go (Some (Valid x y)) e is = cc
-  go (Some (Check x y z)) e is = cc
+  go (Some (Check x y z w)) e is = cc
+  go (Some (Gen f n w)) e is = cc
   go (Some (Norm x)) e is = let same : ◌≡◌ {A = List ℕ} x a = cc in subst (λ n. IsNormReport told n r) same is
 
 module _ (told : Option Files) (words : List (List ℕ)) (a : List ℕ) (named : norm_name words ≡ Some a) where

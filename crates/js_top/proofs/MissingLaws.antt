@@ -3,7 +3,7 @@ use Rattle.std.proofs.Common.{◌≡◌, inl, inr, ℕ, ◌<◌, List, [], ◌�
 use Rattle.documents.specs.Json.{Json}
 use Rattle.js_outside.specs.Counts.{last_count}
 use Rattle.js_outside.specs.Told.{Files, CountsMisses}
-use Rattle.js_words.specs.Commands.{Command, Sat, Include, Valid, Check, Norm, command}
+use Rattle.js_words.specs.Commands.{Command, Sat, Include, Valid, Check, Norm, Gen, command}
 use Rattle.js_input.specs.SchemaReading.{Read, IsSchemaReading}
 use Rattle.js_input.specs.OrderOfFiles.{BeginsInOrder, Misses}
 use Rattle.js_input.proofs.SchemaReadingLemmas.{IsSchemaReading-one}
@@ -107,18 +107,19 @@ module _ (files : Files) (a b c : List ℕ) (o : K.Outcome) (is : IsChecking (So
 report-missing : (files : Files) (c : Option Command) (r : Report) → IsReportOf (Some files) c r
     → Misses files (files_of c) → r.status ≡ S.ReadFault
 report-missing files None r is misses = absurd misses
-report-missing files (Some (Sat a)) r (o, comes, means, back, e) misses =
+report-missing files (Some (Sat a w)) r (o, comes, means, back, e) misses =
     ap (λ x. x.status) (sym e)
     ∙ ap (λ x. (compared_report true x).status) (comparison-missing files a None o comes misses)
-report-missing files (Some (Include a b)) r (o, comes, means, back, e) misses =
+report-missing files (Some (Include a b w)) r (o, comes, means, back, e) misses =
     ap (λ x. x.status) (sym e)
     ∙ ap (λ x. (compared_report false x).status) (comparison-missing files a (Some b) o comes misses)
 report-missing files (Some (Valid a d)) r (o, comes, e) misses =
     ap (λ x. x.status) (sym e) ∙ ap (λ x. (outcome_report x).status) (validation-missing files a d o comes misses)
-report-missing files (Some (Check a b c)) r (o, comes, means, e) misses =
+report-missing files (Some (Check a b c w)) r (o, comes, means, e) misses =
     ap (λ x. x.status) (sym e) ∙ ap (λ x. (checked_report x).status) (checking-missing files a b c o comes misses)
 report-missing files (Some (Norm a)) r (o, comes, e) misses =
     ap (λ x. x.status) (sym e) ∙ ap (λ x. (listed_report x).status) (listing-missing files a o comes misses)
+report-missing files (Some (Gen f n w)) r is misses = absurd misses
 
 -- a file that isn't there is told as a read fault
 pub prepared-missing : (told : Option Files) (words : List (List ℕ)) (before after : ℕ) (p : Prepared)

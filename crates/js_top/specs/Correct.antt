@@ -1,7 +1,9 @@
 -- The theorem: what is written for two schemas, and what `check` makes of a certificate.
-use Rattle.std.specs.Prelude.{◌⊎◌, ℕ, List, Option, Some, None}
+use Rattle.std.specs.Prelude.{◌≡◌, ◌⊎◌, ℕ, List, true, Option, Some, None}
 use Rattle.std.specs.Io.KnownBytes.{Appends}
 use Rattle.documents.specs.Json.{Json}
+use Rattle.js_words.specs.Commands.{command}
+use Rattle.js_words.specs.PlainWords.{Plain, is_plain, words_of, meant}
 use Rattle.js_outside.specs.Told.{Files}
 use Rattle.js_commands.specs.CheckOutcome.{judgement_of}
 use Rattle.js_commands.specs.IncludeMeaning.{IsCertificate}
@@ -22,6 +24,8 @@ pub record Correct (files : Files) (words : List (List ℕ)) (old new : Option (
       → IsCounterexample a b text ⊎ IsCertificate a b text ⊎ IsLimit a b text
   -- A limit is told wherever one is passed: so the other two come exactly where none is.
   pub limited : (a b : Json) → AreNamed (Some files) words a b → PassLimit a b → IsLimit a b text
+  -- Plain words, a command with its names and options, are the command that they mean, whatever else `clap` reads.
+  pub plain : (p : Plain) → is_plain p ≡ true → words ≡ words_of p → command words ≡ Some (meant p)
   -- For every two schemas and bytes that the words of `check` name, it is the line of the verdict on the bytes, with
   -- the verdict's status: the line `accepted` where they are accepted, and then every document that is valid for the
   -- first schema is valid for the second; else the first line that breaks a rule, with the least such rule. Or there

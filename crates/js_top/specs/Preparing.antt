@@ -4,10 +4,10 @@ use Rattle.documents.specs.Document.{is_document}
 use Rattle.shared_documents.specs.Unshared.{unshared}
 use Rattle.js_outside.specs.Counts.{Rose}
 use Rattle.js_outside.specs.Told.{Files}
-use Rattle.js_words.specs.Commands.{Command, command}
+use Rattle.js_words.specs.Commands.{command}
 use Rattle.js_commands.specs.IncludeOutcome as C
 use Rattle.js_commands.specs.IncludeOutcome.{Answer}
-use Rattle.js_top.specs.Report.{Report, printed, IsReportOf, IsReport}
+use Rattle.js_top.specs.Report.{Report, printed, IsReport}
 use Rattle.js_top.specs.declared.status.Status.{Status}
 use Rattle.js_top.specs.declared.status.Status.TheVariants as S
 use Rattle.js_top.specs.declared.prepare.Prepared.{Prepared}
@@ -38,10 +38,14 @@ PreparedSays told words before after (P.Made bytes status) =
     (after ≡ before) × (is_answer status ≡ true) × IsReport told words (record { text = bytes.items; status = status })
     × IsSome (command words)
 
--- the same of a command
-abbrev pub CommandSays : Option Files → Command → ℕ → ℕ → Prepared → Type 0
-CommandSays told c before after P.Usage = ⊥
-CommandSays told c before after P.ReadFault = Rose before after
-CommandSays told c before after (P.Made bytes status) =
-    (after ≡ before) × (is_answer status ≡ true) × IsReportOf told (Some c)
-    (record { text = bytes.items; status = status })
+-- the same of a report of which a fact holds
+abbrev pub ReportSays : (Report → Type 0) → ℕ → ℕ → Prepared → Type 0
+ReportSays is before after P.Usage = ⊥
+ReportSays is before after P.ReadFault = Rose before after
+ReportSays is before after (P.Made bytes status) =
+    (after ≡ before) × (is_answer status ≡ true) × is (record { text = bytes.items; status = status })
+
+-- no file that couldn't be read is told
+abbrev pub IsNoReadFault : Prepared → Type 0
+IsNoReadFault P.ReadFault = ⊥
+IsNoReadFault _ = Unit {0}

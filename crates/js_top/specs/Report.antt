@@ -1,14 +1,18 @@
--- The report of a command over files: what is printed, and the status.
-use Rattle.std.specs.Prelude.{◌≡◌, ℕ, List, [], ◌∷◌, ◌++◌, Bool, true, false, is_none, Option, Some, None, codes, decimal}
+-- The report of a command over files, and of `gen` over the schemas of a family: what is printed, and the status.
+use Rattle.std.specs.Prelude.{◌≡◌, ℕ, List, [], ◌∷◌, ◌++◌, length, drop, Bool, true, false, cond, is_none, nat_eq, Option, Some, None, codes, decimal}
+use Rattle.std.specs.List.{before_first}
+use Rattle.shared_documents.specs.Part.{Part}
 use Rattle.shared_documents.specs.Unshared.{unshared}
-use Rattle.document_texts.specs.FoundText.{found_text}
+use Rattle.document_texts.specs.FoundText.{is_plain_text, found_text}
+use Rattle.document_texts.specs.Measured.{measured}
+use Rattle.families.specs.Families.{Family, family_word}
 use Rattle.goals.specs.Signed.{Signed}
 use Rattle.alternatives.specs.Limit as L
 use Rattle.alternatives.specs.Limit.{LimitKind}
 use Rattle.certificate_lines.specs.Text.{signed_text, list_text}
 use Rattle.js_outside.specs.Told.{Files}
 use Rattle.js_report.specs.Lines.{line}
-use Rattle.js_words.specs.Commands.{Command, Sat, Include, Valid, Check, Norm, command}
+use Rattle.js_words.specs.Commands.{Command, Sat, Include, Valid, Check, Norm, Gen, command}
 use Rattle.js_commands.specs.IncludeOutcome as C
 use Rattle.js_commands.specs.IncludeOutcome.{Answer, IsComparison}
 use Rattle.js_commands.specs.IncludeMeaning.{MeansFor}
@@ -19,6 +23,9 @@ use Rattle.js_commands.specs.CheckOutcome.{IsChecking}
 use Rattle.js_commands.specs.CheckMeaning as KM
 use Rattle.js_commands.specs.NormOutcome as N
 use Rattle.js_commands.specs.NormOutcome.{IsListing}
+use Rattle.js_commands.specs.GenOutcome as G
+use Rattle.js_commands.specs.GenOutcome.{IsFamilyInclusion}
+use Rattle.js_commands.specs.GenMeaning as GM
 use Rattle.js_top.specs.Printed.{IsDocumentText}
 use Rattle.js_top.specs.declared.finding.Finding.{Finding}
 use Rattle.js_top.specs.declared.finding.Finding.TheVariants as F
@@ -138,13 +145,53 @@ listed_report N.ReadFault = printed (codes "readfault") S.ReadFault
 abbrev pub IsNormReport : Option Files → List ℕ → Report → Type 0
 IsNormReport told a r = (o : N.Outcome) × IsListing told a o × (listed_report o ≡ r)
 
+-- ---- `gen`
+
+-- how many goals a certificate lists: what stands behind the line `certificate 1` and the word `goals` up to the line's
+-- end
+abbrev pub listed_goals : List ℕ → List ℕ
+listed_goals bytes = before_first (nat_eq 10) (drop (length (codes "certificate 1\ngoals ")) bytes)
+
+abbrev pub certificate_words : List ℕ → List ℕ
+certificate_words bytes = codes "certificate " ++ listed_goals bytes
+
+-- whether a document would be printed plain, or in how many parts
+abbrev pub document_words : List Part → ℕ → List ℕ
+document_words ps i =
+    cond (is_plain_text (measured (unshared ps i))) (codes "document") (codes "parts " ++ decimal (length ps))
+
+abbrev pub generated_line : Family → ℕ → List ℕ
+generated_line f n = line (codes "generated " ++ family_word f ++ 32 ∷ decimal n)
+
+-- how many goals were explored, and the last round that added one
+abbrev pub counts_text : (goals rounds : ℕ) → List ℕ
+counts_text goals rounds = line (codes "goals " ++ decimal goals) ++ line (codes "rounds " ++ decimal rounds)
+
+-- with what `include` would print; the line of a limit stands alone
+abbrev pub findings_text : Answer → (goals rounds : ℕ) → List ℕ
+findings_text (C.Document ps i) goals rounds = counts_text goals rounds ++ line (document_words ps i)
+findings_text (C.Certificate bytes) goals rounds = counts_text goals rounds ++ line (certificate_words bytes)
+findings_text (C.Limit k o) goals rounds = limit_line k o
+
+-- the report of `gen`, by what the family's schemas come to
+abbrev pub generated_report : Family → ℕ → G.Outcome → Report
+generated_report f n (G.Decided x goals rounds) =
+    record { text = generated_line f n ++ findings_text x goals rounds; status = finding_status false (finding_of x) }
+generated_report f n (G.FirstRefused words) = printed (codes "refused " ++ codes "first" ++ 32 ∷ words) S.Refused
+generated_report f n (G.SecondRefused words) = printed (codes "refused " ++ codes "second" ++ 32 ∷ words) S.Refused
+
+-- with what the family's schemas come to stands what that means
+abbrev pub IsGenReport : Family → ℕ → Report → Type 0
+IsGenReport f n r = (o : G.Outcome) × IsFamilyInclusion f n o × GM.MeansFor f n o × (generated_report f n o ≡ r)
+
 abbrev pub IsReportOf : Option Files → Option Command → Report → Type 0
 IsReportOf told None r = r ≡ printed (codes "usage") S.Usage
-IsReportOf told (Some (Sat a)) r = IsComparedReport told a None r
-IsReportOf told (Some (Include a b)) r = IsComparedReport told a (Some b) r
+IsReportOf told (Some (Sat a w)) r = IsComparedReport told a None r
+IsReportOf told (Some (Include a b w)) r = IsComparedReport told a (Some b) r
 IsReportOf told (Some (Valid a d)) r = IsValidReport told a d r
-IsReportOf told (Some (Check a b c)) r = IsCheckReport told a b c r
+IsReportOf told (Some (Check a b c w)) r = IsCheckReport told a b c r
 IsReportOf told (Some (Norm a)) r = IsNormReport told a r
+IsReportOf told (Some (Gen f n w)) r = IsGenReport f n r
 
 -- the report of the words
 abbrev pub IsReport : Option Files → List (List ℕ) → Report → Type 0

@@ -1,10 +1,11 @@
 //! The top call over files in memory.
 
-ghost use Rattle.std.specs.Prelude.{◌≡◌, ◌≢◌, ◌<◌, None, codes};
+ghost use Rattle.std.specs.Prelude.{◌≡◌, ◌≢◌, ◌<◌, true, None, codes};
 ghost use Rattle.std.specs.Io.KnownBytes.{Appends};
 ghost use Rattle.js_outside.specs.Contents.{contents};
 ghost use Rattle.js_outside.specs.Counts.{Rose};
 ghost use Rattle.js_words.specs.Commands.{command};
+ghost use Rattle.js_words.specs.PlainWords.{Plain, is_plain, words_of, meant};
 ghost use Rattle.js_top.specs.Names.{MissesFile};
 ghost use Rattle.js_report.specs.Lines.{line};
 ghost use Rattle.js_top.specs.Running.{WritesReport};
@@ -22,7 +23,10 @@ pub fn run_in_memory<K: Sink>(alloc: Global, words: &[Str], files: FileMap, sink
     ensures report { result ≢ Status.ReadFault → result ≢ Status.WriteFault → result ≢ Status.Memory
         → WritesReport (Some (contents files)) words.now (K.written sink.old) (K.written sink.new) result }
     ensures usage { result ≡ Status.Usage → command words.now ≡ None }
-    ensures other_words { command words.now ≡ None → result ≢ Status.WriteFault → result ≡ Status.Usage }
+    ensures other_words { command words.now ≡ None → result ≢ Status.WriteFault → result ≢ Status.Memory
+        → result ≡ Status.Usage }
+    ensures plain { (p : Plain) → is_plain p ≡ true → words.now ≡ words_of p → result ≢ Status.Memory
+        → command words.now ≡ Some (meant p) }
     ensures write_fault { result ≡ Status.WriteFault → Rose (K.faults sink.old) (K.faults sink.new) }
     ensures write_noticed { K.faults sink.old < K.faults sink.new → result ≡ Status.WriteFault }
     ensures read_text { result ≡ Status.ReadFault → Appends (K.written sink.old) (K.written sink.new)

@@ -1,24 +1,60 @@
 //! The report of a command, made whole before anything is written.
 
-ghost use Rattle.std.specs.Prelude.{◌≡◌, IfOk, OnErr, IsSome, Some, is_none, option_map};
-ghost use Rattle.js_commands.specs.IncludeSaying.{answer_view};
-ghost use Rattle.js_top.specs.Report as R;
-ghost use Rattle.js_top.specs.Report.{answer_report};
-ghost use Rattle.js_words.specs.Commands.{command, Valid, Check, Norm};
+ghost use Rattle.std.specs.Prelude.{
+  ◌≡◌,
+  ◌≤◌,
+  ℕ,
+  [],
+  ◌∷◌,
+  ◌++◌,
+  true,
+  IfOk,
+  OnErr,
+  Some,
+  is_none,
+  option_map,
+  codes,
+  decimal,
+  encode_utf8_all,
+  string_bytes,
+};
+ghost use Rattle.families.specs.Families.{greatest};
+ghost use Rattle.js_gen.specs.KindView.{kind_view};
+ghost use Rattle.js_words.specs.Commands.{command};
+ghost use Rattle.js_words.specs.CommandView.{command_view};
+ghost use Rattle.js_words.specs.PlainWords.{Plain, is_plain, words_of, meant};
+ghost use Rattle.js_words.specs.Ranges.{IsInRange};
 ghost use Rattle.js_input.specs.OrderOfFiles.{BeginsInOrder};
-ghost use Rattle.js_top.specs.Names.{comparing, file_names, files_of};
-ghost use Rattle.js_top.specs.Preparing.{PreparedSays, IsPrintable, report_of};
+ghost use Rattle.js_commands.specs.IncludeOutcome.{second_file};
+ghost use Rattle.js_commands.specs.IncludeSaying.{answer_view};
+ghost use Rattle.js_top.specs.Names.{file_names, files_of};
+ghost use Rattle.js_top.specs.Report as R;
+ghost use Rattle.js_top.specs.Report.{
+  answer_report,
+  printed,
+  IsReportOf,
+  IsComparedReport,
+  IsValidReport,
+  IsCheckReport,
+  IsNormReport,
+  IsGenReport,
+};
+ghost use Rattle.js_top.specs.Preparing.{PreparedSays, ReportSays, IsNoReadFault, IsPrintable, report_of};
+ghost use Rattle.js_top.specs.declared.status.Status.TheVariants.{Other, Refused};
 
 use crate::finding::answer_text;
 use crate::status::Status;
+use crate::summary::summary_text;
 use js_commands::{
-    Checking, Inclusion, Listing, Validation, check_files, compare_files, list_table, validate,
+    Checking, FamilyInclusion, Inclusion, Listing, Validation, check_files, compare_family,
+    compare_files, list_table, validate,
 };
 use js_decide::Verdict;
 use js_doc::{Memory, Str};
+use js_gen::GenKind;
 use js_outside::Shelf;
 use js_report::refusal_line;
-use js_words::{Command, read_words};
+use js_words::{Command, WordsFault, read_words};
 use std::alloc::Global;
 
 /// What is to be written, and the status that it comes with. The first two take no memory.
@@ -65,20 +101,44 @@ pub(crate) fn prepare<H: Shelf>(
     ensures told { H.told shelf.new ≡ H.told shelf.old }
     ensures says { IfOk result (PreparedSays (H.told shelf.old) words.now (H.faults shelf.old) (H.faults shelf.new)) }
     ensures memory { OnErr result (H.faults shelf.new ≡ H.faults shelf.old) }
-    ensures some_words { OnErr result (IsSome (command words.now)) }
+    ensures plain { IfOk result (λ x. (p : Plain) → is_plain p ≡ true → words.now ≡ words_of p
+        → command words.now ≡ Some (meant p)) }
+    ensures fileless { file_names words.now ≡ [] → H.faults shelf.new ≡ H.faults shelf.old }
+    ensures made { file_names words.now ≡ [] → IfOk result IsNoReadFault }
     ensures begun { BeginsInOrder (H.told shelf.old) (file_names words.now) (H.begun shelf.old) (H.begun shelf.new) }
 {
-    match read_words(words) {
-        Some(Command::Sat(schema)) => prepare_compared(alloc, shelf, schema, None),
-        Some(Command::Include(first, second)) => {
-            prepare_compared(alloc, shelf, first, Some(second))
-        }
-        Some(Command::Valid(schema, document)) => prepare_valid(alloc, shelf, schema, document),
-        Some(Command::Check(first, second, certificate)) => {
+    match read_words(alloc, words) {
+        Ok(command) => prepare_command(alloc, shelf, &command),
+        Err(WordsFault::Usage) => Ok(Prepared::Usage),
+        Err(WordsFault::Memory) => Err(Memory),
+    }
+}
+
+/// The report of a command. The work is done by one thread, whatever number of workers it has.
+fn prepare_command<H: Shelf>(
+    alloc: Global,
+    shelf: &mut H,
+    command: &Command,
+) -> Result<Prepared, Memory>
+    requires { IsInRange (command_view command.now) }
+    ensures told { H.told shelf.new ≡ H.told shelf.old }
+    ensures says { IfOk result (ReportSays (IsReportOf (H.told shelf.old) (Some (command_view command.now)))
+        (H.faults shelf.old) (H.faults shelf.new)) }
+    ensures memory { OnErr result (H.faults shelf.new ≡ H.faults shelf.old) }
+    ensures fileless { files_of (Some (command_view command.now)) ≡ [] → H.faults shelf.new ≡ H.faults shelf.old }
+    ensures made { files_of (Some (command_view command.now)) ≡ [] → IfOk result IsNoReadFault }
+    ensures begun { BeginsInOrder (H.told shelf.old) (files_of (Some (command_view command.now)))
+        (H.begun shelf.old) (H.begun shelf.new) }
+{
+    match command {
+        Command::Sat(schema, _) => prepare_compared(alloc, shelf, schema, None),
+        Command::Include(first, second, _) => prepare_compared(alloc, shelf, first, Some(second)),
+        Command::Valid(schema, document) => prepare_valid(alloc, shelf, schema, document),
+        Command::Check(first, second, certificate, _) => {
             prepare_check(alloc, shelf, first, second, certificate)
         }
-        Some(Command::Norm(schema)) => prepare_norm(alloc, shelf, schema),
-        None => Ok(Prepared::Usage),
+        Command::Norm(schema) => prepare_norm(alloc, shelf, schema),
+        Command::Gen(kind, number, _) => prepare_gen(alloc, *kind, *number),
     }
 }
 
@@ -90,11 +150,12 @@ fn prepare_compared<H: Shelf>(
     second: Option<&Str>,
 ) -> Result<Prepared, Memory>
     ensures told { H.told shelf.new ≡ H.told shelf.old }
-    ensures says { IfOk result (CommandSays (H.told shelf.old)
-        (comparing first.now (option_map (λ s. s.now) second.entry)) (H.faults shelf.old) (H.faults shelf.new)) }
+    ensures says { IfOk result (ReportSays
+        (IsComparedReport (H.told shelf.old) first.now (option_map (λ s. s.now) second.entry)) (H.faults shelf.old)
+        (H.faults shelf.new)) }
     ensures memory { OnErr result (H.faults shelf.new ≡ H.faults shelf.old) }
     ensures begun { BeginsInOrder (H.told shelf.old)
-        (files_of (Some (comparing first.now (option_map (λ s. s.now) second.entry)))) (H.begun shelf.old)
+        (encode_utf8_all first.now ∷ second_file (option_map (λ s. s.now) second.entry)) (H.begun shelf.old)
         (H.begun shelf.new) }
 {
     match compare_files(alloc, shelf, first, second)? {
@@ -105,11 +166,6 @@ fn prepare_compared<H: Shelf>(
     }
 }
 
-ghost use Rattle.js_top.specs.Preparing.{CommandSays};
-ghost use Rattle.js_top.specs.Report.{printed};
-ghost use Rattle.js_top.specs.declared.status.Status.TheVariants.{Other, Refused};
-ghost use Rattle.std.specs.Prelude.{◌++◌, ◌∷◌, codes, decimal, string_bytes};
-
 /// The report of `valid`: the document is read only where the schema is one.
 fn prepare_valid<H: Shelf>(
     alloc: Global,
@@ -118,10 +174,10 @@ fn prepare_valid<H: Shelf>(
     document: &Str,
 ) -> Result<Prepared, Memory>
     ensures told { H.told shelf.new ≡ H.told shelf.old }
-    ensures says { IfOk result
-        (CommandSays (H.told shelf.old) (Valid schema.now document.now) (H.faults shelf.old) (H.faults shelf.new)) }
+    ensures says { IfOk result (ReportSays (IsValidReport (H.told shelf.old) schema.now document.now)
+        (H.faults shelf.old) (H.faults shelf.new)) }
     ensures memory { OnErr result (H.faults shelf.new ≡ H.faults shelf.old) }
-    ensures begun { BeginsInOrder (H.told shelf.old) (files_of (Some (Valid schema.now document.now)))
+    ensures begun { BeginsInOrder (H.told shelf.old) (encode_utf8_all schema.now ∷ encode_utf8_all document.now ∷ [])
         (H.begun shelf.old) (H.begun shelf.new) }
 {
     match validate(alloc, shelf, schema, document)? {
@@ -142,10 +198,11 @@ fn prepare_check<H: Shelf>(
     certificate: &Str,
 ) -> Result<Prepared, Memory>
     ensures told { H.told shelf.new ≡ H.told shelf.old }
-    ensures says { IfOk result (CommandSays (H.told shelf.old) (Check first.now second.now certificate.now)
+    ensures says { IfOk result (ReportSays (IsCheckReport (H.told shelf.old) first.now second.now certificate.now)
         (H.faults shelf.old) (H.faults shelf.new)) }
     ensures memory { OnErr result (H.faults shelf.new ≡ H.faults shelf.old) }
-    ensures begun { BeginsInOrder (H.told shelf.old) (files_of (Some (Check first.now second.now certificate.now)))
+    ensures begun { BeginsInOrder (H.told shelf.old)
+        (encode_utf8_all first.now ∷ encode_utf8_all second.now ∷ encode_utf8_all certificate.now ∷ [])
         (H.begun shelf.old) (H.begun shelf.new) }
 {
     match check_files(alloc, shelf, first, second, certificate)? {
@@ -161,16 +218,33 @@ fn prepare_check<H: Shelf>(
 /// The report of `norm`.
 fn prepare_norm<H: Shelf>(alloc: Global, shelf: &mut H, schema: &Str) -> Result<Prepared, Memory>
     ensures told { H.told shelf.new ≡ H.told shelf.old }
-    ensures says { IfOk result
-        (CommandSays (H.told shelf.old) (Norm schema.now) (H.faults shelf.old) (H.faults shelf.new)) }
+    ensures says { IfOk result (ReportSays (IsNormReport (H.told shelf.old) schema.now) (H.faults shelf.old)
+        (H.faults shelf.new)) }
     ensures memory { OnErr result (H.faults shelf.new ≡ H.faults shelf.old) }
-    ensures begun { BeginsInOrder (H.told shelf.old) (files_of (Some (Norm schema.now)))
-        (H.begun shelf.old) (H.begun shelf.new) }
+    ensures begun { BeginsInOrder (H.told shelf.old) (encode_utf8_all schema.now ∷ []) (H.begun shelf.old)
+        (H.begun shelf.new) }
 {
     match list_table(alloc, shelf, schema)? {
         Listing::Text(text) => Ok(Prepared::Made(text.into_bytes(), Status::Done)),
         Listing::Refused(words) => refused(alloc, "first", words),
         Listing::ReadFault => Ok(Prepared::ReadFault),
+    }
+}
+
+/// The report of `gen`, for which no file is read.
+fn prepare_gen(alloc: Global, kind: GenKind, number: u32) -> Result<Prepared, Memory>
+    requires least { 1 ≤ number }
+    requires most { number ≤ greatest (kind_view kind) }
+    ensures says { (faults : ℕ) → IfOk result (ReportSays (IsGenReport (kind_view kind) number) faults faults) }
+    ensures made { IfOk result IsNoReadFault }
+{
+    match compare_family(alloc, kind, number)? {
+        FamilyInclusion::Decided(decided) => {
+            let (text, finding) = summary_text(alloc, kind, number, &decided)?;
+            Ok(Prepared::Made(text, finding.status(false)))
+        }
+        FamilyInclusion::FirstRefused(words) => refused(alloc, "first", words),
+        FamilyInclusion::SecondRefused(words) => refused(alloc, "second", words),
     }
 }
 

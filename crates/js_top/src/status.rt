@@ -5,12 +5,12 @@ ghost use Rattle.std.specs.Prelude.{◌≡◌};
 /// How a run ended, in the order of the program's exit statuses.
 #[derive(Clone, Copy, PartialEq, Eq, Debug)]
 pub enum Status {
-    /// `include`: no document is valid for the first schema alone. `sat`: a document was printed. `valid`: the document
-    /// is valid. `check`: the certificate is accepted.
+    /// `include`, `gen`: no document is valid for the first schema alone. `sat`: a document was printed. `valid`: the
+    /// document is valid. `check`: the certificate is accepted. `norm`: the table was printed.
     Done,
 
-    /// `include`: a document was printed. `sat`: no document is valid for the schema. `valid`: the document isn't
-    /// valid. `check`: the certificate is rejected.
+    /// `include`: a document was printed, and `gen`: one was found. `sat`: no document is valid for the schema.
+    /// `valid`: the document isn't valid. `check`: the certificate is rejected.
     Other,
 
     /// The words are no command.

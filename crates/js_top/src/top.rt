@@ -1,17 +1,19 @@
 //! The top call.
 
-ghost use Rattle.std.specs.Prelude.{◌≡◌, ◌≢◌, ◌<◌, true, false, None, codes};
+ghost use Rattle.std.specs.Prelude.{◌≡◌, ◌≢◌, ◌<◌, [], true, false, Some, None, codes};
 ghost use Rattle.std.specs.Io.KnownBytes.{Appends};
 ghost use Rattle.js_outside.specs.Counts.{Rose, Stays, last_count};
 ghost use Rattle.js_outside.specs.Told.{CountsMisses};
 ghost use Rattle.js_input.specs.OrderOfFiles.{BeginsInOrder};
 ghost use Rattle.js_words.specs.Commands.{command};
-ghost use Rattle.js_top.specs.Names.{IsInclude, IsSat, IsCompared, IsValid, IsCheck, IsNorm, file_names, MissesFile};
+ghost use Rattle.js_words.specs.PlainWords.{Plain, is_plain, words_of, meant};
+ghost use Rattle.js_top.specs.Names.{IsInclude, IsSat, IsCompared, IsValid, IsCheck, IsNorm, IsGen, file_names, MissesFile};
 ghost use Rattle.js_commands.specs.IncludeMeaning.{IsCertificate};
 ghost use Rattle.js_top.specs.Correct.{IsCorrect};
 ghost use Rattle.js_top.specs.Judging.{WritesJudgement, WritesDecision, WritesJudgedRefusal};
 ghost use Rattle.verdicts.specs.Verdict.{Accepted};
 ghost use Rattle.js_top.specs.Checking.{IsVerdictWritten, WritesRejection, WritesCheckRefusal};
+ghost use Rattle.js_top.specs.Generating.{WritesSummary};
 ghost use Rattle.js_top.specs.Listing.{WritesNamedTable, WritesListing, WritesNormRefusal};
 ghost use Rattle.js_report.specs.Lines.{line};
 ghost use Rattle.js_top.specs.Running.{WritesPart, WritesReport, WritesMeaning, WritesAsked, WritesRefusal};
@@ -46,9 +48,13 @@ pub fn run<R, H: Shelf, K: Sink>(
     ensures write_fault { result ≡ Status.WriteFault → Rose (K.faults sink.old) (K.faults sink.new) }
     ensures usage { result ≡ Status.Usage → command words.now ≡ None }
 
-    // Other words are told to be other words, or the writing failed; no fault of reading is counted.
-    ensures other_words { command words.now ≡ None → result ≢ Status.WriteFault → result ≡ Status.Usage }
-    ensures no_read_fault { command words.now ≡ None → H.faults shelf.new ≡ H.faults shelf.old }
+    // Other words are told to be other words, unless memory is refused or the writing failed; plain words are the
+    // command that they mean. No fault of reading is counted where the words name no file.
+    ensures other_words { command words.now ≡ None → result ≢ Status.WriteFault → result ≢ Status.Memory
+        → result ≡ Status.Usage }
+    ensures plain { (p : Plain) → is_plain p ≡ true → words.now ≡ words_of p → result ≢ Status.Memory
+        → command words.now ≡ Some (meant p) }
+    ensures no_read_fault { file_names words.now ≡ [] → H.faults shelf.new ≡ H.faults shelf.old }
 
     // A count that rose is told.
     ensures write_noticed { K.faults sink.old < K.faults sink.new → result ≡ Status.WriteFault }
@@ -75,7 +81,7 @@ pub fn run<R, H: Shelf, K: Sink>(
         → WritesMeaning (H.told shelf.old) words.now (K.written sink.old) (K.written sink.new) IsCounterexample }
     ensures inclusion { result ≡ Status.Done → IsInclude words.now
         → WritesMeaning (H.told shelf.old) words.now (K.written sink.old) (K.written sink.new) IsCertificate }
-    ensures limit { result ≡ Status.Limit
+    ensures limit { result ≡ Status.Limit → (IsGen words.now → ⊥)
         → WritesMeaning (H.told shelf.old) words.now (K.written sink.old) (K.written sink.new) IsLimit }
 
     // For the schema of `sat` it means: a document that is valid for it, or that no document with
@@ -122,6 +128,10 @@ pub fn run<R, H: Shelf, K: Sink>(
         → WritesNamedTable (H.told shelf.old) words.now (K.written sink.old) (K.written sink.new) }
     ensures norm_refusal { result ≡ Status.Refused → IsNorm words.now
         → WritesNormRefusal (H.told shelf.old) words.now (K.written sink.old) (K.written sink.new) }
+
+    // `gen` reads no file, and writes what the two schemas of the family come to.
+    ensures generated { result ≢ Status.WriteFault → result ≢ Status.Memory → IsGen words.now
+        → WritesSummary words.now (K.written sink.old) (K.written sink.new) result }
 
     // The files are begun in the order of the words, each only after the one before it was read and not refused. No
     // other is begun.

@@ -1,62 +1,95 @@
--- Worked examples of the command words, each computed from the definition.
-use Rattle.std.specs.Prelude.{◌≡◌, [], ◌∷◌, Some, None, refl, codes}
-use Rattle.js_words.specs.Commands.{Sat, Include, Valid, Check, Norm, command}
+-- Worked examples of words, each computed from the definition. Plain words are proved for every name.
+use Rattle.std.proofs.Common.{◌≡◌, [], ◌∷◌, Some, None, chars, codes, refl}
+use Rattle.clap.specs.Words.{Text}
+use Rattle.clap.proofs.OnLiterals.{clap_on_literals}
+use Rattle.families.specs.Families.{Chain}
+use Rattle.js_words.specs.Commands.{Gen, Include, Norm, text_command}
 
-sat : command (codes "sat" ∷ codes "a" ∷ []) ≡ Some (Sat (codes "a"))
-sat = refl
+-- the option may stand before the names and between them
+option_first : text_command (codes "include" ∷ codes "--workers" ∷ codes "2" ∷ codes "a" ∷ codes "b" ∷ [])
+    ≡ Some (Include (codes "a") (codes "b") 2)
+unfolding text_command clap_on_literals
+option_first = refl
 
-sat_of_an_option : command (codes "sat" ∷ codes "--workers" ∷ []) ≡ None
-sat_of_an_option = refl
+option_between : text_command (codes "include" ∷ codes "a" ∷ codes "--workers=64" ∷ codes "b" ∷ [])
+    ≡ Some (Include (codes "a") (codes "b") 64)
+unfolding text_command clap_on_literals
+option_between = refl
 
-sat_of_two : command (codes "sat" ∷ codes "a" ∷ codes "b" ∷ []) ≡ None
-sat_of_two = refl
+-- after `--` each word is a name, however it begins
+after_dashes : (a b : Text) → text_command (codes "include" ∷ codes "--" ∷ a ∷ b ∷ [])
+    ≡ Some (Include (chars a) (chars b) 1)
+unfolding text_command clap_on_literals
+after_dashes a b = refl
 
-include : command (codes "include" ∷ codes "a" ∷ codes "b" ∷ []) ≡ Some (Include (codes "a") (codes "b"))
-include = refl
-
-valid : command (codes "valid" ∷ codes "a" ∷ codes "d" ∷ []) ≡ Some (Valid (codes "a") (codes "d"))
-valid = refl
-
-check : command (codes "check" ∷ codes "a" ∷ codes "b" ∷ codes "c" ∷ [])
-    ≡ Some (Check (codes "a") (codes "b") (codes "c"))
-check = refl
-
-check_of_two : command (codes "check" ∷ codes "a" ∷ codes "b" ∷ []) ≡ None
-check_of_two = refl
-
-check_of_four : command (codes "check" ∷ codes "a" ∷ codes "b" ∷ codes "c" ∷ codes "d" ∷ []) ≡ None
-check_of_four = refl
-
-certificate_is_an_option : command (codes "check" ∷ codes "a" ∷ codes "b" ∷ codes "--workers" ∷ []) ≡ None
-certificate_is_an_option = refl
-
-norm : command (codes "norm" ∷ codes "a" ∷ []) ≡ Some (Norm (codes "a"))
-norm = refl
-
-norm_of_an_option : command (codes "norm" ∷ codes "-a" ∷ []) ≡ None
-norm_of_an_option = refl
-
-norm_of_two : command (codes "norm" ∷ codes "a" ∷ codes "b" ∷ []) ≡ None
-norm_of_two = refl
-
--- a dash alone and the empty word are names
-dash_and_nothing : command (codes "valid" ∷ codes "-" ∷ [] ∷ []) ≡ Some (Valid (codes "-") [])
+-- and so is a dash alone, and a word of no letter
+dash_and_nothing : text_command (codes "include" ∷ codes "-" ∷ [] ∷ []) ≡ Some (Include (codes "-") [] 1)
+unfolding text_command clap_on_literals
 dash_and_nothing = refl
 
-option_is_no_name : command (codes "include" ∷ codes "-x" ∷ codes "b" ∷ []) ≡ None
-option_is_no_name = refl
+-- a subcommand's word is a name too
+a_word_as_name : text_command (codes "norm" ∷ codes "norm" ∷ []) ≡ Some (Norm (codes "norm"))
+unfolding text_command clap_on_literals
+a_word_as_name = refl
 
-second_is_an_option : command (codes "valid" ∷ codes "a" ∷ codes "-d" ∷ []) ≡ None
-second_is_an_option = refl
+generated : text_command (codes "gen" ∷ codes "chain" ∷ codes "1000" ∷ []) ≡ Some (Gen Chain 1000 1)
+unfolding text_command clap_on_literals
+generated = refl
 
-one_name : command (codes "valid" ∷ codes "a" ∷ []) ≡ None
-one_name = refl
+-- ---- no commands
 
-three_names : command (codes "include" ∷ codes "a" ∷ codes "b" ∷ codes "c" ∷ []) ≡ None
-three_names = refl
+no_words : text_command [] ≡ None
+unfolding text_command clap_on_literals
+no_words = refl
 
-other_word : command (codes "gen" ∷ codes "a" ∷ codes "b" ∷ []) ≡ None
+other_word : text_command (codes "frob" ∷ []) ≡ None
+unfolding text_command clap_on_literals
 other_word = refl
 
-no_words : command [] ≡ None
-no_words = refl
+help_word : text_command (codes "help" ∷ []) ≡ None
+unfolding text_command clap_on_literals
+help_word = refl
+
+help_option : text_command (codes "norm" ∷ codes "a" ∷ codes "--help" ∷ []) ≡ None
+unfolding text_command clap_on_literals
+help_option = refl
+
+a_name_too_few : text_command (codes "include" ∷ codes "a" ∷ []) ≡ None
+unfolding text_command clap_on_literals
+a_name_too_few = refl
+
+a_name_too_many : text_command (codes "include" ∷ codes "a" ∷ codes "b" ∷ codes "c" ∷ []) ≡ None
+unfolding text_command clap_on_literals
+a_name_too_many = refl
+
+unknown_option : text_command (codes "sat" ∷ codes "-a" ∷ []) ≡ None
+unfolding text_command clap_on_literals
+unknown_option = refl
+
+option_of_another : text_command (codes "valid" ∷ codes "a" ∷ codes "d" ∷ codes "--workers" ∷ codes "1" ∷ []) ≡ None
+unfolding text_command clap_on_literals
+option_of_another = refl
+
+option_twice : text_command (codes "sat" ∷ codes "a" ∷ codes "--workers=1" ∷ codes "--workers=1" ∷ []) ≡ None
+unfolding text_command clap_on_literals
+option_twice = refl
+
+no_workers : text_command (codes "sat" ∷ codes "a" ∷ codes "--workers=0" ∷ []) ≡ None
+unfolding text_command clap_on_literals
+no_workers = refl
+
+too_many_workers : text_command (codes "sat" ∷ codes "a" ∷ codes "--workers=65" ∷ []) ≡ None
+unfolding text_command clap_on_literals
+too_many_workers = refl
+
+leading_zero : text_command (codes "sat" ∷ codes "a" ∷ codes "--workers=04" ∷ []) ≡ None
+unfolding text_command clap_on_literals
+leading_zero = refl
+
+other_family : text_command (codes "gen" ∷ codes "rings" ∷ codes "1" ∷ []) ≡ None
+unfolding text_command clap_on_literals
+other_family = refl
+
+past_the_greatest : text_command (codes "gen" ∷ codes "patterns" ∷ codes "9" ∷ []) ≡ None
+unfolding text_command clap_on_literals
+past_the_greatest = refl

@@ -1,129 +1,109 @@
 //! Reading the words.
 
-ghost use Rattle.std.specs.Prelude.{◌≡◌, codes, option_map};
-ghost use Rattle.documents.specs.Tests.{same_word};
-ghost use Rattle.js_words.specs.Commands as C;
+ghost use Rattle.std.specs.Prelude.{◌≡◌, IfErr, IfOk, None, Some, true, map, encode_utf8_all, chars};
+ghost use Rattle.std.specs.List.{All};
+ghost use Rattle.js_words.specs.Commands.{command, text_command};
 ghost use Rattle.js_words.specs.CommandView.{command_view};
+ghost use Rattle.js_words.specs.Giving.{Gives};
+ghost use Rattle.js_words.specs.PlainWords.{Plain, is_plain, meant, words_of};
+ghost use Rattle.js_words.specs.Ranges.{IsInRange};
 
-use js_doc::Str;
+use crate::command_line::command_line;
+use crate::matched::of_matches;
+use clap::error::ErrorKind;
+use js_doc::{Memory, Str};
+use js_gen::GenKind;
+use std::alloc::{AllocError, Global};
 
-/// What the words ask for, with the names of files.
-#[derive(Clone, Copy)]
-pub enum Command<'a> {
+/// What the words ask for, with the names of files. The last number is that of the workers.
+#[derive(Drop)]
+pub enum Command {
     /// A schema: has it a document?
-    Sat(&'a Str),
+    Sat(Str, u32),
 
     /// Two schemas: is the first included in the second?
-    Include(&'a Str, &'a Str),
+    Include(Str, Str, u32),
 
     /// A schema and a document: is it valid?
-    Valid(&'a Str, &'a Str),
+    Valid(Str, Str),
 
     /// Two schemas and a certificate: does it show that the first is included in the second?
-    Check(&'a Str, &'a Str, &'a Str),
+    Check(Str, Str, Str, u32),
 
     /// A schema: its core table.
-    Norm(&'a Str),
+    Norm(Str),
+
+    /// The two schemas of a family at a number: is the first included in the second?
+    Gen(GenKind, u32, u32),
 }
 
-/// The command of the words; `None` where they are none.
-pub fn read_words(words: &[Str]) -> Option<Command<'_>>
-    ensures { option_map command_view result ≡ C.command words.now }
+/// Why there is no command.
+#[derive(Clone, Copy, PartialEq, Eq, Debug)]
+pub enum WordsFault {
+    /// The words are none.
+    Usage,
+
+    /// Memory was refused.
+    Memory,
+}
+
+impl From<Memory> for WordsFault {
+    ghost use Rattle.js_words.specs.declared.words.WordsFault.TheVariants as fault;
+
+    ghost from_gives = { λ _ e. e ≡ fault.Memory };
+
+    fn from(_: Memory) -> WordsFault {
+        WordsFault::Memory
+    }
+}
+
+impl From<AllocError> for WordsFault {
+    ghost use Rattle.js_words.specs.declared.words.WordsFault.TheVariants as fault;
+
+    ghost from_gives = { λ _ e. e ≡ fault.Memory };
+
+    fn from(_: AllocError) -> WordsFault {
+        WordsFault::Memory
+    }
+}
+
+/// The command of the words.
+///
+/// The answer is `command` or `Memory`. Plain words are always the command that they mean.
+pub fn read_words(alloc: Global, words: &[Str]) -> Result<Command, WordsFault>
+    ensures ok { IfOk result (λ c. command words.now ≡ Some (command_view c)) }
+    ensures usage { IfErr result (λ e. e ≡ WordsFault.Usage → command words.now ≡ None) }
+    ensures plain { (p : Plain) → is_plain p ≡ true → words.now ≡ words_of p → Gives result (meant p) }
+    ensures in_range { IfOk result (λ c. IsInRange (command_view c)) }
 {
-    match words {
-        [word, name] => {
-            if is_name(name) {
-                of_one(word, name)
+    let texts = texts_of(alloc, words)?;
+    of_texts(alloc, texts.as_slice())
+}
+
+fn of_texts<'a>(alloc: Global, texts: &'a [&'a str]) -> Result<Command, WordsFault>
+    ensures ok { IfOk result (λ c. text_command (map (λ t. t.now) texts.now) ≡ Some (command_view c)) }
+    ensures usage { IfErr result (λ e. e ≡ WordsFault.Usage → text_command (map (λ t. t.now) texts.now) ≡ None) }
+{
+    let command = command_line(alloc)?;
+    match command.try_get_matches_from(texts) {
+        Ok(matches) => of_matches(alloc, &matches),
+        Err(error) => {
+            if error.kind() == ErrorKind::OutOfMemory {
+                Err(WordsFault::Memory)
             } else {
-                None
+                Err(WordsFault::Usage)
             }
         }
-        [word, first, second] => {
-            if is_name(first) && is_name(second) {
-                named(word, first, second)
-            } else {
-                None
-            }
-        }
-        [word, first, second, third] => {
-            if is_name(first) && is_name(second) && is_name(third) {
-                of_three(word, first, second, third)
-            } else {
-                None
-            }
-        }
-        _ => None,
     }
 }
 
-fn of_one<'a>(word: &Str, name: &'a Str) -> Option<Command<'a>>
-    ensures { option_map command_view result ≡ C.of_one word.now name.now }
+fn texts_of(alloc: Global, words: &[Str]) -> Result<Vec<&str>, AllocError>
+    ensures texts { IfOk result (λ v. map (λ t. t.now) v.items ≡ map encode_utf8_all words.now) }
+    ensures chars { IfOk result (λ v. All (λ w. chars (encode_utf8_all w) ≡ w) words.now) }
 {
-    if is_sat(word) {
-        Some(Command::Sat(name))
-    } else if is_norm(word) {
-        Some(Command::Norm(name))
-    } else {
-        None
+    let mut texts = Vec::with_capacity(alloc, words.len())?;
+    for word in words {
+        texts.push(word.as_text())?;
     }
-}
-
-fn named<'a>(word: &Str, first: &'a Str, second: &'a Str) -> Option<Command<'a>>
-    ensures { option_map command_view result ≡ C.named word.now first.now second.now }
-{
-    if is_include(word) {
-        Some(Command::Include(first, second))
-    } else if is_valid(word) {
-        Some(Command::Valid(first, second))
-    } else {
-        None
-    }
-}
-
-fn of_three<'a>(word: &Str, first: &'a Str, second: &'a Str, third: &'a Str) -> Option<Command<'a>>
-    ensures { option_map command_view result ≡ C.of_three word.now first.now second.now third.now }
-{
-    if is_check(word) {
-        Some(Command::Check(first, second, third))
-    } else {
-        None
-    }
-}
-
-fn is_sat(word: &Str) -> bool
-    ensures { result ≡ same_word word.now (codes "sat") }
-{
-    "sat" == word.as_text()
-}
-
-fn is_include(word: &Str) -> bool
-    ensures { result ≡ same_word word.now (codes "include") }
-{
-    "include" == word.as_text()
-}
-
-fn is_valid(word: &Str) -> bool
-    ensures { result ≡ same_word word.now (codes "valid") }
-{
-    "valid" == word.as_text()
-}
-
-fn is_check(word: &Str) -> bool
-    ensures { result ≡ same_word word.now (codes "check") }
-{
-    "check" == word.as_text()
-}
-
-fn is_norm(word: &Str) -> bool
-    ensures { result ≡ same_word word.now (codes "norm") }
-{
-    "norm" == word.as_text()
-}
-
-/// A name is any word that doesn't begin with `-`, or `-` alone.
-fn is_name(word: &Str) -> bool
-    ensures { result ≡ C.is_name word.now }
-{
-    let bytes = word.as_text().as_bytes();
-    bytes.len() < 2 || bytes[0] != b'-'
+    Ok(texts)
 }

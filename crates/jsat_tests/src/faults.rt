@@ -1,13 +1,14 @@
 //! What is answered where a read or a write fails.
 
 use crate::setting::{
-    CERTIFICATE, ROOM, STRING, STRING_OR_NULL, expect, expect_written, status_of, two_files,
+    CERTIFICATE, ROOM, STRING, STRING_OR_NULL, add, expect, expect_written, status_of, two_files,
 };
 use js_doc::Memory;
 use js_outside::{
     CallList, CutShelf, CutSink, FailingShelf, FailingSink, FileMap, MemoryShelf, MemorySink,
 };
 use std::alloc::Global;
+use std::process::Abort;
 
 /// No run makes as many calls.
 const NEVER: u64 = 1_000_000;
@@ -51,6 +52,45 @@ fn each_call_of_the_shelf_may_fail(rt: HostRuntime) -> Result<(), Memory> {
         expect_written(&rt, (status, sink.written()), wanted);
     }
     Ok(())
+}
+
+/// How many calls of the shelf `check` makes: one call that fails is told exactly where it is made.
+fn expect_calls(
+    rt: &impl Abort,
+    alloc: Global,
+    certificate: &[u8],
+    calls: u64,
+    answer: (u8, &str),
+) -> Result<(), Memory> {
+    for call in 0..=calls {
+        let mut files = strings(alloc)?;
+        add(alloc, &mut files, "c", certificate)?;
+        let mut shelf = FailingShelf::new(files, one_call(alloc, call)?);
+        let mut sink = MemorySink::new(alloc, ROOM)?;
+        let status = status_of(alloc, "check a b c", &mut shelf, &mut sink)?;
+        let wanted = if call < calls {
+            (5, "readfault\n")
+        } else {
+            answer
+        };
+        expect_written(rt, (status, sink.written()), wanted);
+    }
+    Ok(())
+}
+
+/// Of a certificate that is rejected nothing is read behind the piece with the first wrong line, and of one that is
+/// accepted all is, up to its end. Three calls for each schema and one that begins the certificate come before.
+#[test]
+fn nothing_is_read_behind_a_rejection(rt: HostRuntime) -> Result<(), Memory> {
+    let alloc = rt.alloc();
+    let rejected = (1, "rejected 1 4\n");
+    expect_calls(&rt, alloc, b"goals 0\n", 8, rejected)?;
+    let mut long = Vec::from_slice(alloc, b"goals 0\n")?;
+    for _ in 0..30_000u32 {
+        long.extend_from_slice(b"count\n")?;
+    }
+    expect_calls(&rt, alloc, long.as_slice(), 8, rejected)?;
+    expect_calls(&rt, alloc, CERTIFICATE.as_bytes(), 9, (0, "accepted\n"))
 }
 
 #[test]

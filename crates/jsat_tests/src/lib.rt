@@ -10,6 +10,8 @@ mod checking;
 #[cfg(test)]
 mod faults;
 #[cfg(test)]
+mod generating;
+#[cfg(test)]
 mod judging;
 #[cfg(test)]
 mod listing;

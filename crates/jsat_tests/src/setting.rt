@@ -24,7 +24,12 @@ pub(crate) const CERTIFICATE: &str = "certificate 1\ngoals 1\ngoal +0 -2\nentry 
     at object\nrule +0\nkind +1\n\
     end\n";
 
-fn add(alloc: Global, files: &mut FileMap, name: &str, bytes: &[u8]) -> Result<(), Memory> {
+pub(crate) fn add(
+    alloc: Global,
+    files: &mut FileMap,
+    name: &str,
+    bytes: &[u8],
+) -> Result<(), Memory> {
     files.insert(Str::from_text(alloc, name)?, Vec::from_slice(alloc, bytes)?)
 }
 

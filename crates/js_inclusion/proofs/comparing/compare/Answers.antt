@@ -6,7 +6,7 @@ use Rattle.certificate_lines.specs.Text.{lines_text}
 use Rattle.refutations.specs.Refutation.{refutation}
 use Rattle.js_guard.specs.RankedView.{entries_of}
 use Rattle.js_expander.specs.Found.{finders}
-use Rattle.js_decide.specs.View.{verdict_view}
+use Rattle.js_decide.specs.View.{verdict_view, decided_view}
 use Rattle.js_decide.specs.Certified.{HasCertificate}
 use Rattle.js_inclusion.proofs.MeaningLaws.{means-verdict}
 use Rattle.js_inclusion.proofs.TableLaws.{over-both}
@@ -16,8 +16,7 @@ pub returns-clause-answer : goal.returns-clause-answer
 returns-clause-answer c =
     over-both (entries_of c.args.a.now) (entries_of c.args.b.now) c.in_ok-core.core.positions c.in_ok-core.at_a.0
     c.in_ok-core.at_b.0 c.in_ok-core.ensures.positions c.in_ok-core.ensures.first c.in_ok-core.ensures.second
-    (λ T m n. verdict_view c.in_ok-decided.decided.verdict ≡ (decision (finders T) T m n).verdict)
-    (ap (λ d. d.verdict) c.in_ok-decided.ensures.decided)
+    (λ T m n. decided_view c.in_ok-decided.decided ≡ decision (finders T) T m n) c.in_ok-decided.ensures.decided
 
 pub returns-clause-certificate : goal.returns-clause-certificate
 returns-clause-certificate c =

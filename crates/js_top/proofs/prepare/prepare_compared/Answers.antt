@@ -2,8 +2,8 @@ use Rattle.std.proofs.Common.{option_map, string_bytes, refl}
 use Rattle.std.proofs.lemmas.Result.{IfOk-weaker}
 use Rattle.js_commands.specs.IncludeSaying.{answer_view}
 use Rattle.js_commands.specs.IncludeOutcome.{FirstRefused, SecondRefused}
-use Rattle.js_top.specs.Names.{comparing}
-use Rattle.js_top.proofs.Includes.{IfOk-both, IsReportOf-comparing, CommandSays-answer, CommandSays-found}
+use Rattle.js_top.specs.Report.{IsComparedReport}
+use Rattle.js_top.proofs.Includes.{IfOk-both, ReportSays-answer, ReportSays-found}
 use Rattle.js_top.proofs.MeaningLaws.{printable}
 use Rattle.js_top.proofs.prepare.prepare_compared.Goals as goal
 
@@ -16,7 +16,7 @@ pub returns-in-Decided-clause-says : goal.returns-in-Decided-clause-says
 returns-in-Decided-clause-says g c =
     let (same, comes, means) = rw c.in-Decided.is at c.in_ok-verdict.ensures.says in
     IfOk-both c.answered.result _ _ _ c.answered.ensures.report c.answered.ensures.read (λ p e back.
-    CommandSays-found (g.H.Shelf.told c.args.shelf.now) c.args.first.now (option_map (λ s. s.now) c.args.second)
+    ReportSays-found (g.H.Shelf.told c.args.shelf.now) c.args.first.now (option_map (λ s. s.now) c.args.second)
     (answer_view c.in-Decided.verdict) _ _ _ p c.is_sat.result same refl c.is_sat.ensures comes
     means e back)
 
@@ -24,16 +24,14 @@ pub returns-in-FirstRefused-clause-says : goal.returns-in-FirstRefused-clause-sa
 returns-in-FirstRefused-clause-says g c =
     let (same, comes, means) = rw c.in-FirstRefused.is at c.in_ok-verdict.ensures.says in
     IfOk-weaker c.refused.result _ _ (λ p e.
-    CommandSays-answer (g.H.Shelf.told c.args.shelf.now)
-    (comparing c.args.first.now (option_map (λ s. s.now) c.args.second)) _ _ _ p _ same refl e refl
-    (IsReportOf-comparing (g.H.Shelf.told c.args.shelf.now) c.args.first.now (option_map (λ s. s.now) c.args.second) _
-    (FirstRefused (string_bytes c.in-FirstRefused.words), comes, tt, tt, refl))) c.refused.ensures
+    ReportSays-answer (IsComparedReport (g.H.Shelf.told c.args.shelf.now) c.args.first.now
+    (option_map (λ s. s.now) c.args.second)) _ _ _ p _ same refl e refl
+    (FirstRefused (string_bytes c.in-FirstRefused.words), comes, tt, tt, refl)) c.refused.ensures
 
 pub returns-in-SecondRefused-clause-says : goal.returns-in-SecondRefused-clause-says
 returns-in-SecondRefused-clause-says g c =
     let (same, comes, means) = rw c.in-SecondRefused.is at c.in_ok-verdict.ensures.says in
     IfOk-weaker c.refused-in-SecondRefused.result _ _ (λ p e.
-    CommandSays-answer (g.H.Shelf.told c.args.shelf.now)
-    (comparing c.args.first.now (option_map (λ s. s.now) c.args.second)) _ _ _ p _ same refl e refl
-    (IsReportOf-comparing (g.H.Shelf.told c.args.shelf.now) c.args.first.now (option_map (λ s. s.now) c.args.second) _
-    (SecondRefused (string_bytes c.in-SecondRefused.words), comes, tt, tt, refl))) c.refused-in-SecondRefused.ensures
+    ReportSays-answer (IsComparedReport (g.H.Shelf.told c.args.shelf.now) c.args.first.now
+    (option_map (λ s. s.now) c.args.second)) _ _ _ p _ same refl e refl
+    (SecondRefused (string_bytes c.in-SecondRefused.words), comes, tt, tt, refl)) c.refused-in-SecondRefused.ensures

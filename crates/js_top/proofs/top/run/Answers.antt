@@ -3,6 +3,8 @@ use Rattle.js_top.specs.declared.status.Status.TheVariants.{Other, Done, Limit, 
 use Rattle.js_top.proofs.FileLaws.{prepared-document, prepared-inclusion, prepared-satisfied, prepared-unsatisfied, prepared-limit, prepared-report, prepared-part, prepared-correct, prepared-limited, means-refusal}
 use Rattle.js_top.proofs.JudgingLaws.{means-judgement, prepared-decision, means-judged_refusal}
 use Rattle.js_top.proofs.CheckingLaws.{means-acceptance, means-rejection, means-check_refusal}
+use Rattle.js_top.proofs.Includes.{no_read_fault}
+use Rattle.js_top.proofs.GeneratingLaws.{gen-fileless, means-summary}
 use Rattle.js_top.proofs.ListingLaws.{means-table, prepared-listing, means-norm_refusal}
 use Rattle.js_top.proofs.MissingLaws.{prepared-missing, prepared-only_missing}
 use Rattle.js_top.specs.Judging.{WritesDecision}
@@ -54,11 +56,11 @@ returns-in-Ok-write_report-clause-unsatisfied g c = λ e i. (
 )
 
 pub returns-in-Ok-write_report-clause-limit : goal.returns-in-Ok-write_report-clause-limit
-returns-in-Ok-write_report-clause-limit g c = λ e. (
+returns-in-Ok-write_report-clause-limit g c = λ e i. (
   c.text.result.now,
   c.in-Ok-write_report.ensures.whole,
   prepared-limit (g.H.Shelf.told c.args.shelf.now) c.args.words.now _ _ c.in-Ok.prepared c.text.result.now
-      c.in-Ok.ensures.says c.text.ensures (sym c.status.ensures ∙ e),
+      c.in-Ok.ensures.says c.text.ensures (sym c.status.ensures ∙ e) i,
 )
 
 pub returns-in-Ok-write_report-clause-refusal : goal.returns-in-Ok-write_report-clause-refusal
@@ -91,7 +93,7 @@ returns-in-Ok-write_report-clause-headline g c = λ h k m.
     subst (IsCorrect (g.H.Shelf.told c.args.shelf.now) c.args.words.now (g.K.Sink.written c.args.sink.now)
     (g.K.Sink.written c.write_report.new.sink)) (sym c.status.ensures)
     (prepared-correct (g.H.Shelf.told c.args.shelf.now) c.args.words.now _ _ c.in-Ok.prepared _ _ c.text.result.now
-    c.in-Ok.ensures.says c.text.ensures h c.in-Ok-write_report.ensures.whole)
+    c.in-Ok.ensures.plain c.in-Ok.ensures.says c.text.ensures h c.in-Ok-write_report.ensures.whole)
 
 pub returns-in-Ok-write_report-clause-decided : goal.returns-in-Ok-write_report-clause-decided
 returns-in-Ok-write_report-clause-decided g c = λ h k m.
@@ -178,3 +180,12 @@ pub returns-in-Ok-write_report-clause-only_missing : goal.returns-in-Ok-write_re
 returns-in-Ok-write_report-clause-only_missing g c = λ e counts counts' below.
     prepared-only_missing (g.H.Shelf.told c.args.shelf.now) c.args.words.now _ _ c.in-Ok.prepared _ _
     c.in-Ok.ensures.says (sym c.status.ensures ∙ e) c.prepare.ensures.begun counts counts' below
+
+pub returns-in-Ok-write_report-clause-generated : goal.returns-in-Ok-write_report-clause-generated
+returns-in-Ok-write_report-clause-generated g c = λ w m i.
+    means-summary (g.H.Shelf.told c.args.shelf.now) c.args.words.now _ _ c.text.result.now _
+    (prepared-report (g.H.Shelf.told c.args.shelf.now) c.args.words.now _ _ c.in-Ok.prepared c.text.result.now _
+    c.in-Ok.ensures.says c.text.ensures (sym c.status.ensures)
+    (λ r. no_read_fault (g.H.Shelf.told c.args.shelf.now) c.args.words.now _ _ c.in-Ok.prepared c.in-Ok.ensures.says
+    (rw c.in-Ok.is at c.prepare.ensures.made (gen-fileless c.args.words.now i)) (sym c.status.ensures ∙ r))) i
+    c.in-Ok-write_report.ensures.whole

@@ -1,8 +1,0 @@
-mod NumbersLemmas
-mod SpellingLemmas
-mod WalkLemmas
-mod Subcommands
-mod PlainWordsLemmas
-mod RangesLemmas
-mod ReadLemmas
-mod Examples

@@ -1,0 +1,103 @@
+//! What `gen` prints, and numbers of workers.
+
+use crate::setting::{CERTIFICATE, STRING, STRING_OR_NULL, expect};
+use js_doc::Memory;
+
+#[test]
+fn a_family_is_summarised(rt: HostRuntime) -> Result<(), Memory> {
+    for (line, status, report) in [
+        (
+            "gen chain 1",
+            1,
+            "generated chain 1\ngoals 1\nrounds 1\ndocument\n",
+        ),
+        (
+            "gen chain 40",
+            1,
+            "generated chain 40\ngoals 40\nrounds 40\nparts 40\n",
+        ),
+        (
+            "gen chain 1000",
+            1,
+            "generated chain 1000\ngoals 1000\nrounds 1000\nparts 1000\n",
+        ),
+        (
+            "gen wide 2 --workers 64",
+            0,
+            "generated wide 2\ngoals 5\nrounds 1\ncertificate 3\n",
+        ),
+        (
+            "gen wide 50",
+            0,
+            "generated wide 50\ngoals 101\nrounds 1\ncertificate 51\n",
+        ),
+        (
+            "gen tree --workers=4 3",
+            0,
+            "generated tree 3\ngoals 9\nrounds 1\ncertificate 6\n",
+        ),
+        (
+            "gen tree 100",
+            0,
+            "generated tree 100\ngoals 300\nrounds 1\ncertificate 200\n",
+        ),
+        (
+            "gen patterns 8",
+            1,
+            "generated patterns 8\ngoals 257\nrounds 2\ndocument\n",
+        ),
+        ("gen patterns 9", 2, "usage\n"),
+        ("gen chain 0", 2, "usage\n"),
+        ("gen chain 01", 2, "usage\n"),
+        ("gen chain", 2, "usage\n"),
+        ("gen chains 1", 2, "usage\n"),
+    ] {
+        expect(&rt, rt.alloc(), line, (b"true", b"true"), (status, report))?;
+    }
+    Ok(())
+}
+
+#[test]
+fn a_number_of_workers_changes_nothing(rt: HostRuntime) -> Result<(), Memory> {
+    for line in [
+        "include a b --workers 1",
+        "include --workers 64 a b",
+        "include a --workers=2 b",
+    ] {
+        let files = (STRING.as_bytes(), STRING_OR_NULL.as_bytes());
+        expect(&rt, rt.alloc(), line, files, (0, CERTIFICATE))?;
+    }
+    Ok(())
+}
+
+#[test]
+fn numbers_of_workers_that_are_refused(rt: HostRuntime) -> Result<(), Memory> {
+    for line in [
+        "include a b --workers 0",
+        "include a b --workers 65",
+        "include a b --workers 08",
+        "include a b --workers",
+        "include a b --workers 1 --workers 1",
+        "valid a b --workers 1",
+        "norm a --workers 1",
+    ] {
+        let files = (STRING.as_bytes(), STRING.as_bytes());
+        expect(&rt, rt.alloc(), line, files, (2, "usage\n"))?;
+    }
+    Ok(())
+}
+
+/// Behind `--` all words are names.
+#[test]
+fn a_name_may_begin_with_a_dash(rt: HostRuntime) -> Result<(), Memory> {
+    for (line, status, report) in [
+        ("include a -- b", 0, CERTIFICATE),
+        ("include -- a b", 0, CERTIFICATE),
+        ("include a -- -b", 5, "readfault\n"),
+        ("include a -b", 2, "usage\n"),
+    ] {
+        let files = (STRING.as_bytes(), STRING_OR_NULL.as_bytes());
+        expect(&rt, rt.alloc(), line, files, (status, report))?;
+    }
+    Ok(())
+}
