@@ -385,6 +385,13 @@ def chosen(cases):
     return found
 
 
+def prefixes(good):
+    """Every proper prefix of the certificate of a schema that asks for a member like itself."""
+    core = Core(*PAIRS['next'])
+    text = '\n'.join(good['next']) + '\n'
+    return [Case(PAIRS['next'], 'a prefix', [text[:length]], core) for length in range(len(text))]
+
+
 def made():
     good = {name: certificate(Core(*schemas)) for name, schemas in PAIRS.items()}
     whole = [Case(PAIRS[name], 'as it is', ['\n'.join(lines) + '\n'], Core(*PAIRS[name]), None)
@@ -396,7 +403,7 @@ def made():
         hand.append(Case(schemas, name, ['\n'.join(lines) + '\n'], Core(*schemas), **told))
     core = Core(*PAIRS['next'])
     hand += [Case(PAIRS['next'], name, pieces, core, wanted) for name, pieces, wanted in long_cases(good)]
-    return whole + hand + chosen(all_changes(good))
+    return whole + hand + prefixes(good) + chosen(all_changes(good))
 
 
 def cover(cases):
