@@ -3,8 +3,9 @@
 
     tests/pages/trust.py [--list]
 
-From the file of the headline it follows each import of a definition file of this repository. Silent and status 0 where the page
-lists exactly these files; else a line for each file that is missing there or that the headline doesn't rest on, and status 1.
+From the file of the headline it follows each import of a definition file of this repository; of the kit the libraries are told whose
+definitions are imported. Silent and status 0 where the page lists exactly these; else a line for each that is missing there or that
+the headline doesn't rest on, and status 1.
 `--list` prints the lines of the page's list, crate by crate, in place of comparing.
 """
 
@@ -16,15 +17,20 @@ HEADLINE = 'crates/js_top/specs/Correct.antt'
 PAGE = 'docs/trust.md'
 ROOT = os.path.dirname(os.path.dirname(os.path.dirname(os.path.abspath(__file__))))
 IMPORT = re.compile(r'^\s*(?:pub )?use Rattle\.(\w+)\.specs\.([\w.]+?)(?:\.\{| as |\s*$)', re.M)
-ENTRY = re.compile(r'^- `(\w+)`: (.*)$', re.M)
+KIT = 'of the kit'
+ENTRY = re.compile(r'^- `?(\w+|of the kit)`?: (.*)$', re.M)
 
 
 def imports(path):
-    """The definition files of this repository that a file imports; those of values in the program stand for their types."""
+    """The definition files of this repository that a file imports, and the names of the kit's libraries; those of values in
+    the program stand for their types."""
     with open(os.path.join(ROOT, path), encoding='utf-8') as file:
         text = file.read()
     for crate, module in IMPORT.findall(text):
         if module.startswith('declared.'):
+            continue
+        if not os.path.isdir(os.path.join(ROOT, 'crates', crate)):
+            yield crate
             continue
         parts = module.split('.')
         for length in range(len(parts), 0, -1):
@@ -42,17 +48,19 @@ def rests_on(path):
         for found in imports(left.pop()):
             if found not in seen:
                 seen.add(found)
-                left.append(found)
+                if '/' in found:
+                    left.append(found)
     return seen
 
 
 def lines(files):
     """The list as the page has it: a line for each crate, in the order of names."""
-    crates = {}
-    for path in files:
+    crates, kit = {}, sorted(path for path in files if '/' not in path)
+    for path in files - set(kit):
         _, crate, _, name = path.split('/', 3)
         crates.setdefault(crate, []).append(name[:-len('.antt')])
-    return ['- `%s`: %s' % (crate, ', '.join('`%s`' % name for name in sorted(crates[crate]))) for crate in sorted(crates)]
+    found = ['- `%s`: %s' % (crate, ', '.join('`%s`' % name for name in sorted(crates[crate]))) for crate in sorted(crates)]
+    return found + ['- %s: %s' % (KIT, ', '.join('`%s`' % name for name in kit))]
 
 
 def main():
