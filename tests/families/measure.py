@@ -1,26 +1,39 @@
 #!/usr/bin/env python3
 """Measures `jsat gen` on its four families, and prints the table of `docs/performance.md`: measure.py [WORKERS].
 
-JSAT names the program. Each row is the least processor time of three runs, with the memory that was held, what was
+JSAT names the program. Each row is the least processor time of five runs, with the memory that one held, what was
 printed, and how many times the row before it the time is. It needs GNU `time`."""
 import os
+import resource
 import subprocess
 import sys
 
 JSAT = os.environ.get('JSAT', 'jsat')
 SIZES = {'chain': (1, 10, 100, 1000), 'tree': (1, 10, 100, 1000), 'wide': (2, 25, 50, 100, 200),
          'patterns': (2, 4, 6, 8)}
-RUNS = 3
+RUNS = 5
 
 
-def run(family, number, workers):
-    """The processor time in seconds, the memory in bytes, and the lines of one run."""
-    words = [JSAT, 'gen', family, str(number), '--workers', str(workers)]
-    ran = subprocess.run(['/usr/bin/time', '-f', '%U %S %M', *words], capture_output=True, text=True, check=False)
+def spent():
+    """The processor time of all runs so far."""
+    used = resource.getrusage(resource.RUSAGE_CHILDREN)
+    return used.ru_utime + used.ru_stime
+
+
+def run(words):
+    """The processor time in seconds, and the lines of one run."""
+    start = spent()
+    ran = subprocess.run(words, capture_output=True, text=True, check=False)
+    seconds = spent() - start
     if ran.returncode not in (0, 1):
         sys.exit('%s ended with %d: %s' % (' '.join(words), ran.returncode, ran.stdout))
-    user, system, memory = ran.stderr.split()[-3:]
-    return float(user) + float(system), int(memory) * 1024, ran.stdout.splitlines()
+    return seconds, ran.stdout.splitlines()
+
+
+def memory(words):
+    """The bytes that a run held at most."""
+    ran = subprocess.run(['/usr/bin/time', '-f', '%M', *words], capture_output=True, text=True, check=False)
+    return int(ran.stderr.split()[-1]) * 1024
 
 
 def shown_time(seconds):
@@ -31,12 +44,12 @@ def rows(workers):
     for family, sizes in SIZES.items():
         last = None
         for number in sizes:
-            ran = [run(family, number, workers) for _ in range(RUNS)]
-            seconds, memory, lines = min(ran)
+            words = [JSAT, 'gen', family, str(number), '--workers', workers]
+            seconds, lines = min(run(words) for _ in range(RUNS))
             told = dict(line.split(' ', 1) for line in lines[1:3])
-            ratio = '-' if last is None else '%.1f' % (seconds / max(last, 0.001))
+            ratio = '-' if last is None else '%.1f' % (seconds / last)
             yield (family, number, told['goals'], told['rounds'], lines[3], shown_time(seconds), ratio,
-                   '%.1f MB' % (memory / 1e6))
+                   '%.1f MB' % (memory(words) / 1e6))
             last = seconds
 
 
