@@ -3,11 +3,10 @@
 
     compare.py JSAT SEED SECONDS
 
-A document that is printed, plain or in parts, has to be valid for the first schema and invalid for the second; where there
-is none, `jsat check` has to accept the certificate, and random documents are tried in vain. What is wrong is told with the
-schemas. The last lines count the answers, and the pairs that weren't compared: for a document in parts of more values than
-MOST_VALUES, or one too deep for the package, or schemas in which it doesn't come to an end. The status is 1 where something
-is wrong, and else 0."""
+A document that is printed, plain or in parts, has to be valid for the first schema and invalid for the second; where
+there is none, `jsat check` has to accept the certificate, and random documents are tried in vain. What is wrong is told
+with the schemas. The last lines count the answers, and the pairs that weren't compared: for a document in parts of more
+values than MOST_VALUES, or where the package goes too deep. The status is 1 where something is wrong, and else 0."""
 import json
 import os
 import re
@@ -31,7 +30,7 @@ class TooLarge(Exception):
 
 
 def of_parts(text):
-    """The document that a table of parts stands for. Parts are shared in it, so it takes no more memory than the table."""
+    """The document that a table of parts stands for. It shares the parts, so it takes no more memory than the table."""
     documents, sizes = [], []
     for line in text.split('\n')[1:-1]:
         part = json.loads(TOKEN.sub(lambda token: token.group(1) or token.group(), line.split(' ', 1)[1]))

@@ -3,11 +3,12 @@
 
     tests/pages/trust.py [--list]
 
-From the file of the headline it follows each import of a definition file of this repository; of the kit the libraries are
-told whose definitions are imported. Of a file of proofs it follows each definition that is named, with what that definition
-itself names, and lists it with its file's name. Lemmas are passed over, since they define nothing, and so are the program's
-own types (`declared.`), which are alternatives with their fields, as the code declares them. Silent and status 0 where the
-page lists exactly these; else a line for each that is missing there or that the headline doesn't rest on, and status 1.
+From the file of the headline it follows each import of a definition file of this repository; of the kit the libraries
+are told whose definitions are imported. Of a file of proofs it follows each definition that is named, with what that
+definition itself names, and lists it with its file's name. Lemmas are passed over, since they define nothing, and so are
+the program's own types (`declared.`), which are alternatives with their fields, as the code declares them. Silent and
+status 0 where the page lists exactly these; else a line for each that is missing there or that the headline doesn't rest
+on, and status 1.
 `--list` prints the lines of the page's list, crate by crate, in place of comparing.
 """
 
@@ -48,8 +49,9 @@ def definition(path, name):
 
 
 def imports(path, text, is_whole):
-    """What a text in a file names by the file's imports: definition files of this repository, definitions in files of proofs
-    as pairs of a file and a name, and names of the kit's libraries. A whole file names all definition files that it imports."""
+    """What a text in a file names by the file's imports: definition files of this repository, definitions in files of
+    proofs as pairs of a file and a name, and names of the kit's libraries. A whole file names all definition files that
+    it imports."""
     named = set(NAME.findall(USE.sub('', text).replace('◌', '')))
     for crate, folder, module, names, alias in USE.findall(text_of(path)):
         used = named.intersection(re.split(r', *', names.replace('◌', '')) if names else [alias])
@@ -95,8 +97,8 @@ def lines(found):
         _, crate, _, file = path.split('/', 3)
         file = file[:-len('.antt')]
         crates.setdefault(crate, []).append(file if name is None else '%s.%s' % (file, name))
-    told = ['- `%s`: %s' % (crate, ', '.join('`%s`' % name for name in sorted(crates[crate]))) for crate in sorted(crates)]
-    return told + ['- %s: %s' % (KIT, ', '.join('`%s`' % name for name in sorted(kit)))]
+    told = [('`%s`' % crate, crates[crate]) for crate in sorted(crates)] + [(KIT, kit)]
+    return ['- %s: %s' % (crate, ', '.join('`%s`' % name for name in sorted(names))) for crate, names in told]
 
 
 def main():
