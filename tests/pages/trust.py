@@ -3,12 +3,12 @@
 
     tests/pages/trust.py [--list]
 
-From the file of the headline it follows each import of a definition file of this repository; of the kit the libraries
-are told whose definitions are imported. Of a file of proofs it follows each definition that is named, with what that
-definition itself names, and lists it with its file's name. Lemmas are passed over, since they define nothing, and so are
-the program's own types (`declared.`), which are alternatives with their fields, as the code declares them. Silent and
-status 0 where the page lists exactly these; else a line for each that is missing there or that the headline doesn't rest
-on, and status 1.
+From the file of the headline it follows each import of a definition file of this repository; of the kit it tells the
+libraries whose definitions are imported. Of a file of proofs it follows each definition that is named, with what that
+definition itself names, and lists it with its file's name. Lemmas are passed over, since they define nothing, and so
+are the program's own types (`declared.`), which are alternatives with their fields, as the code declares them. Silent
+and status 0 where the page lists exactly these; else a line for each that is missing there or that the headline doesn't
+rest on, and status 1.
 `--list` prints the lines of the page's list, crate by crate, in place of comparing.
 """
 
