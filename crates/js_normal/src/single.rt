@@ -23,16 +23,6 @@ use js_schema::{EntryList, PatternText, TypeList};
 use js_values::Sink;
 use std::alloc::Global;
 
-/// The kinds, in the order in which they are always taken.
-const KINDS: [JsonKind; 6] = [
-    JsonKind::Null,
-    JsonKind::Boolean,
-    JsonKind::Number,
-    JsonKind::Text,
-    JsonKind::Array,
-    JsonKind::Object,
-];
-
 /// Appends a node where there is one.
 pub(crate) fn optional(node: Option<Node>, sink: &mut Sink) -> Result<(), Memory>
     ensures { OnOk result (sink.new ≡ run (M.if_some M.node (option_map node_view node)) sink.old) }
@@ -210,7 +200,7 @@ fn before(n: i128) -> i128
 fn kinds_of(alloc: Global, types: &TypeList) -> Result<KindList, Memory>
     ensures { IfOk result (λ ks. map kind_view ks ≡ W.kinds_of (map type_view types.now)) }
 {
-    kinds_among(alloc, types, &KINDS)
+    kinds_among(alloc, types, &JsonKind::ALL)
 }
 
 /// Those of the kinds that the types name.
