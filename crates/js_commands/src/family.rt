@@ -11,7 +11,9 @@ use js_doc::{Json, Memory};
 use js_gen::{GenKind, generate};
 use js_inclusion::compare;
 use js_input::{SchemaInput, read_schema_value};
+use js_par::{Gate, Workers};
 use std::alloc::Global;
+use std::thread::Threads;
 
 /// What the schemas of a family come to.
 #[derive(Drop)]
@@ -28,16 +30,26 @@ pub enum FamilyInclusion {
 }
 
 /// Compares the two schemas that the family has at `number`, as those of two files.
-pub fn compare_family(alloc: Global, kind: GenKind, number: u32) -> Result<FamilyInclusion, Memory>
+pub fn compare_family<R: Threads + Sync, G: Gate + Sync>(
+    workers: &Workers<'_, R, G>,
+    alloc: Global,
+    kind: GenKind,
+    number: u32,
+) -> Result<FamilyInclusion, Memory>
     requires least { 1 ≤ number }
     requires most { number ≤ greatest (kind_view kind) }
     ensures { IfOk result (FamilyInclusionSays (kind_view kind) number) }
 {
     let (first, second) = generate(alloc, kind, number)?;
-    compare_values(alloc, &first, &second)
+    compare_values(workers, alloc, &first, &second)
 }
 
-fn compare_values(alloc: Global, first: &Json, second: &Json) -> Result<FamilyInclusion, Memory>
+fn compare_values<R: Threads + Sync, G: Gate + Sync>(
+    workers: &Workers<'_, R, G>,
+    alloc: Global,
+    first: &Json,
+    second: &Json,
+) -> Result<FamilyInclusion, Memory>
     ensures { IfOk result (ValuesSay (view first.now) (view second.now)) }
 {
     let a = match read_schema_value(alloc, first)? {
@@ -46,7 +58,7 @@ fn compare_values(alloc: Global, first: &Json, second: &Json) -> Result<FamilyIn
     };
     match read_schema_value(alloc, second)? {
         SchemaInput::Read(b) => {
-            let decided = compare(alloc, &a, &b)?;
+            let decided = compare(workers, alloc, &a, &b)?;
             Ok(FamilyInclusion::Decided(decided))
         }
         SchemaInput::Refused(words) => Ok(FamilyInclusion::SecondRefused(words)),

@@ -16,7 +16,9 @@ use js_guard::RankedSchema;
 use js_inclusion::{compare, false_schema};
 use js_input::{SchemaInput, load_schema};
 use js_outside::Shelf;
+use js_par::{Gate, Workers};
 use std::alloc::Global;
+use std::thread::Threads;
 
 /// What two schemas come to.
 #[derive(Drop)]
@@ -37,7 +39,8 @@ pub enum Inclusion {
 
 /// Compares the schemas of two files; without a second file, the first file's with the value `false`. The first file is
 /// read first, and the second only where the first is a schema.
-pub fn compare_files<H: Shelf>(
+pub fn compare_files<R: Threads + Sync, G: Gate + Sync, H: Shelf>(
+    workers: &Workers<'_, R, G>,
     alloc: Global,
     shelf: &mut H,
     first: &Str,
@@ -52,12 +55,13 @@ pub fn compare_files<H: Shelf>(
         (H.begun shelf.new) }
 {
     match second {
-        Some(second) => compare_two(alloc, shelf, first, second),
-        None => compare_with_false(alloc, shelf, first),
+        Some(second) => compare_two(workers, alloc, shelf, first, second),
+        None => compare_with_false(workers, alloc, shelf, first),
     }
 }
 
-fn compare_two<H: Shelf>(
+fn compare_two<R: Threads + Sync, G: Gate + Sync, H: Shelf>(
+    workers: &Workers<'_, R, G>,
     alloc: Global,
     shelf: &mut H,
     first: &Str,
@@ -76,13 +80,14 @@ fn compare_two<H: Shelf>(
         None => return Ok(Inclusion::ReadFault),
     };
     match load_schema(alloc, shelf, second)? {
-        Some(SchemaInput::Read(b)) => compared(alloc, &a, &b),
+        Some(SchemaInput::Read(b)) => compared(workers, alloc, &a, &b),
         Some(SchemaInput::Refused(words)) => Ok(Inclusion::SecondRefused(words)),
         None => Ok(Inclusion::ReadFault),
     }
 }
 
-fn compare_with_false<H: Shelf>(
+fn compare_with_false<R: Threads + Sync, G: Gate + Sync, H: Shelf>(
+    workers: &Workers<'_, R, G>,
     alloc: Global,
     shelf: &mut H,
     first: &Str,
@@ -94,22 +99,31 @@ fn compare_with_false<H: Shelf>(
     ensures begun { H.begun shelf.new ≡ H.begun shelf.old ++ encode_utf8_all first.now ∷ [] }
 {
     match load_schema(alloc, shelf, first)? {
-        Some(SchemaInput::Read(a)) => compared_with_false(alloc, &a),
+        Some(SchemaInput::Read(a)) => compared_with_false(workers, alloc, &a),
         Some(SchemaInput::Refused(words)) => Ok(Inclusion::FirstRefused(words)),
         None => Ok(Inclusion::ReadFault),
     }
 }
 
-fn compared_with_false(alloc: Global, a: &RankedSchema) -> Result<Inclusion, Memory>
+fn compared_with_false<R: Threads + Sync, G: Gate + Sync>(
+    workers: &Workers<'_, R, G>,
+    alloc: Global,
+    a: &RankedSchema,
+) -> Result<Inclusion, Memory>
     ensures { IfOk result (SchemasSay (entries_of a.now) nothing) }
 {
     let b = false_schema(alloc)?;
-    compared(alloc, a, &b)
+    compared(workers, alloc, a, &b)
 }
 
-fn compared(alloc: Global, a: &RankedSchema, b: &RankedSchema) -> Result<Inclusion, Memory>
+fn compared<R: Threads + Sync, G: Gate + Sync>(
+    workers: &Workers<'_, R, G>,
+    alloc: Global,
+    a: &RankedSchema,
+    b: &RankedSchema,
+) -> Result<Inclusion, Memory>
     ensures { IfOk result (SchemasSay (entries_of a.now) (entries_of b.now)) }
 {
-    let decided = compare(alloc, a, b)?;
+    let decided = compare(workers, alloc, a, b)?;
     Ok(Inclusion::Decided(decided.verdict))
 }

@@ -26,18 +26,25 @@ use crate::verdict::{Decided, Verdict};
 use js_algebra::{Core, Goal};
 use js_doc::Memory;
 use js_expander::CoreExpander;
+use js_par::{Gate, Workers};
 use js_refute::{no_goal, refute};
 use std::alloc::Global;
+use std::thread::Threads;
 
 /// Where the root is a goal.
-pub(crate) fn decide_root(alloc: Global, core: &Core, root: Goal) -> Result<Decided, Memory>
+pub(crate) fn decide_root<R: Threads + Sync, G: Gate + Sync>(
+    workers: &Workers<'_, R, G>,
+    alloc: Global,
+    core: &Core,
+    root: Goal,
+) -> Result<Decided, Memory>
     requires { takes core.now.positions core.now.ranks root ≡ true }
     ensures decided { IfOk result (λ d. decided_view d ≡ of_root (words_by (cells_at core.now.positions))
         (goal_expansion core.now.positions) most_goals most_total (Some root)) }
     ensures certificate { IfOk result (λ d. HasCertificate
         (lines_text (root_refutation core.now.positions most_goals most_total (Some root))) d.verdict) }
 {
-    let searched = search_root(alloc, &CoreExpander::new(core), root)?;
+    let searched = search_root(workers, alloc, &CoreExpander::new(core), root)?;
     let goals = searched.explored.len();
     let rounds = searched.rounds.last_round();
     Ok(Decided {

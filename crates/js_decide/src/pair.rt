@@ -14,13 +14,21 @@ use crate::certified::{decide_clash, decide_root};
 use crate::verdict::Decided;
 use js_algebra::{Core, Pos, Signed, form};
 use js_doc::Memory;
+use js_par::{Gate, Workers};
 use std::alloc::Global;
+use std::thread::Threads;
 
 /// Whether a document meets the position `a` and not the position `b`.
 ///
-/// It costs the exploration of the goals that the two lead to: an expansion each, and rounds over their alternatives.
-/// Where there is no such document, it costs what `refute` costs beside that.
-pub fn decide(alloc: Global, core: &Core, a: Pos, b: Pos) -> Result<Decided, Memory>
+/// It costs the exploration of the goals that the two lead to: an expansion each, which the workers share, and rounds
+/// over their alternatives. Where there is no such document, it costs what `refute` costs beside that.
+pub fn decide<R: Threads + Sync, G: Gate + Sync>(
+    workers: &Workers<'_, R, G>,
+    alloc: Global,
+    core: &Core,
+    a: Pos,
+    b: Pos,
+) -> Result<Decided, Memory>
     requires a_in { a.0 < length core.now.positions }
     requires b_in { b.0 < length core.now.positions }
     ensures decided { IfOk result
@@ -36,7 +44,7 @@ pub fn decide(alloc: Global, core: &Core, a: Pos, b: Pos) -> Result<Decided, Mem
     // The length comes with the fact that this is a table.
     let _length = core.len();
     match form(alloc, core, &[Signed::plus(a), Signed::minus(b)])? {
-        Some(root) => decide_root(alloc, core, root),
+        Some(root) => decide_root(workers, alloc, core, root),
         None => decide_clash(alloc),
     }
 }

@@ -19,13 +19,20 @@ use js_algebra::Goal;
 use js_doc::Memory;
 use js_expansion::Expander;
 use js_explore::{Explored, explore};
+use js_par::{Gate, Workers};
 use js_rounds::Rounds;
 use std::alloc::Global;
+use std::thread::Threads;
 
 /// Explores from a root, runs rounds, and tells what they show of it.
 ///
-/// It costs what `explore`, `Rounds::run` and `Rounds::witness` cost.
-pub fn search_root<E: Expander>(alloc: Global, expander: &E, root: Goal) -> Result<Searched, Memory>
+/// It costs what `explore`, `Rounds::run` and `Rounds::witness` cost, of which the workers share the first.
+pub fn search_root<R: Threads + Sync, E: Expander + Sync, G: Gate + Sync>(
+    workers: &Workers<'_, R, G>,
+    alloc: Global,
+    expander: &E,
+    root: Goal,
+) -> Result<Searched, Memory>
     requires { E.takes expander.now root ≡ true }
     ensures outcome { IfOk result (λ s. outcome_view s.outcome ≡ D.verdict_of (words_by (E.cells expander.now))
         (E.expansion expander.now) (explored_view s.explored).found) }
@@ -38,7 +45,7 @@ pub fn search_root<E: Expander>(alloc: Global, expander: &E, root: Goal) -> Resu
     ensures has_run { IfOk result (λ s. s.rounds.has_run ≡ true) }
     ensures rounds { IfOk result (λ s. AreRounds (E.expansion expander.now) (explored_view s.explored).found s.rounds) }
 {
-    let explored = explore(alloc, expander, root)?;
+    let explored = explore(workers, alloc, expander, root)?;
     let mut rounds = Rounds::new(alloc, &explored)?;
     rounds.run_uncounted(&explored);
     let outcome = outcome(alloc, expander, &explored, &rounds)?;

@@ -14,8 +14,10 @@ use js_expansion::{
     Alternative, AlternativeList, Expander, Expansion, FillerList, LimitKind, Placed, PlacedList,
     Shape, Slot,
 };
+use js_par::{OpenGate, Workers};
 use std::alloc::Global;
 use std::test::Fail;
+use std::thread::Threads;
 
 /// A goal, whether null meets it, the goals of which an array of one element meets it, and its hole.
 #[derive(Drop)]
@@ -306,10 +308,12 @@ fn is_told(alloc: Global, outcome: &Outcome, told: &Told, goals: &[Goal]) -> Res
 #[test]
 fn small_searches_are_decided(rt: HostRuntime) -> Result<(), Fail> {
     let goals = goals(rt.alloc(), 3)?;
+    let gate = OpenGate;
+    let workers = Workers::new(&rt, &gate, 2);
     for case in CASES.iter() {
         let expander = expander(rt.alloc(), case, &goals)?;
         let root = goals.first().ok_or("no goal")?.clone()?;
-        let searched = search_root(rt.alloc(), &expander, root)?;
+        let searched = search_root(&workers, rt.alloc(), &expander, root)?;
         assert!(rt; is_told(rt.alloc(), &searched.outcome, &case.told, &goals)?);
         assert_eq!(rt; searched.explored.len(), case.goals);
         assert_eq!(rt; searched.rounds.last_round(), case.rounds);
@@ -321,6 +325,8 @@ fn small_searches_are_decided(rt: HostRuntime) -> Result<(), Fail> {
 #[test]
 fn too_many_goals(rt: HostRuntime) -> Result<(), Fail> {
     let elements = goals(rt.alloc(), 65_537)?;
+    let gate = OpenGate;
+    let workers = Workers::new(&rt, &gate, 2);
     let root = elements.first().ok_or("no goal")?.clone()?;
     let row = Row {
         goal: root.clone()?,
@@ -331,7 +337,7 @@ fn too_many_goals(rt: HostRuntime) -> Result<(), Fail> {
     let expander = Rows {
         rows: vec![in rt.alloc(); row]?,
     };
-    let searched = search_root(rt.alloc(), &expander, root)?;
+    let searched = search_root(&workers, rt.alloc(), &expander, root)?;
     let told = Told::Limit(LimitKind::Goals, None);
     assert!(rt; is_told(rt.alloc(), &searched.outcome, &told, &[])?);
     assert_eq!(rt; searched.explored.len(), 65_536);

@@ -4,5 +4,6 @@ pub mod View
 pub mod NumberedView
 pub mod Exploration
 pub mod ExploredView
--- Internal: the expander that the tests have.
+-- Internal: the answers for the goals of a wave; the expander that the tests have.
+pub mod WaveAnswers
 pub mod Small

@@ -7,6 +7,7 @@ mod explored;
 mod exploring;
 mod numbered;
 mod numbering;
+mod waves;
 
 pub use explored::Explored;
 pub use exploring::{MOST_GOALS, MOST_TOTAL, explore};

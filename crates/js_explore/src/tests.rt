@@ -1,4 +1,5 @@
-//! A small search within several limits.
+//! A small search within several limits, by one worker and by several; and that the goals of a wave are expanded at once,
+//! shown by a gate that holds each until the other has come.
 
 ghost use Rattle.std.specs.Prelude.{◌≡◌, [], ◌∷◌, map, true, false, IfOk};
 ghost use Rattle.js_algebra.specs.Equality.{same_goal};
@@ -15,16 +16,19 @@ use js_expansion::{
     Alternative, AlternativeList, Expander, Expansion, Filler, FillerList, LimitKind, Placed,
     PlacedList, Shape, Slot,
 };
+use js_par::{Meeting, OpenGate, Workers};
 use std::alloc::Global;
 use std::test::Fail;
+use std::thread::Threads;
 
 /// The first goal asks for an array of the second, to which one of the third may be added, or for an array of the
-/// first. Each other asks for an array of the third, and has a hole.
+/// first. Each other asks for an array of the third, and has a hole. It waits at each goal for those that are to meet.
 #[derive(Drop)]
 struct Small {
     first: Goal,
     second: Goal,
     third: Goal,
+    meeting: Meeting,
 }
 
 /// An array of one element and of what may be added to it.
@@ -85,6 +89,8 @@ impl Expander for Small {
     ghost cells = { λ x g t k. [] ∷ [] };
 
     fn expand(&self, alloc: Global, goal: &Goal) -> Result<Expansion, Memory> {
+        self.meeting.wait();
+        self.meeting.go();
         if *goal == self.first {
             self.of_first(alloc)
         } else {
@@ -119,7 +125,7 @@ impl Expander for Small {
 }
 
 /// Three goals, each of one position.
-fn expander(alloc: Global) -> Result<Small, Fail> {
+fn expander(alloc: Global, meeting: Meeting) -> Result<Small, Fail> {
     let nodes = vec![in alloc; Node::BoolIs(true), Node::BoolIs(true), Node::BoolIs(true)]?;
     let ranks = vec![in alloc; 0, 1, 2]?;
     let nodes = NodeList::from_vec(nodes);
@@ -128,6 +134,7 @@ fn expander(alloc: Global) -> Result<Small, Fail> {
         first: form(alloc, &core, &[Signed::plus(Pos(0))])?.ok_or("a clash")?,
         second: form(alloc, &core, &[Signed::plus(Pos(1))])?.ok_or("a clash")?,
         third: form(alloc, &core, &[Signed::plus(Pos(2))])?.ok_or("a clash")?,
+        meeting,
     })
 }
 
@@ -215,28 +222,55 @@ const CASES: [Case; 7] = [
     },
 ];
 
-#[test]
-fn searches_within_limits(rt: HostRuntime) -> Result<(), Fail> {
-    let expander = expander(rt.alloc())?;
+/// Whether in each case what it says is found.
+fn finds<R: Threads + Sync>(
+    workers: &Workers<'_, R, OpenGate>,
+    alloc: Global,
+    expander: &Small,
+) -> Result<bool, Memory> {
     for case in CASES.iter() {
+        let root = expander.first.clone()?;
         let explored = explore_within(
-            rt.alloc(),
-            &expander,
-            expander.first.clone()?,
+            workers,
+            alloc,
+            expander,
+            root,
             case.most_goals,
             case.most_total,
         )?;
-        assert_eq!(rt; explored.taken(), case.taken);
-        assert_eq!(rt; explored.over(), case.over);
-        assert_eq!(rt; numbers(rt.alloc(), &explored)?.as_slice(), case.numbers);
+        let numbers = numbers(alloc, &explored)?;
+        if explored.taken() != case.taken
+            || explored.over() != case.over
+            || numbers.as_slice() != case.numbers
+        {
+            return Ok(false);
+        }
     }
-    Ok(())
+    Ok(true)
 }
 
 #[test]
-fn goals_by_number(rt: HostRuntime) -> Result<(), Fail> {
-    let expander = expander(rt.alloc())?;
-    let explored = explore(rt.alloc(), &expander, expander.first.clone()?)?;
+fn searches_within_limits(rt: HostRuntime) -> Result<(), Fail> {
+    let expander = expander(rt.alloc(), Meeting::new(0, 0))?;
+    let gate = OpenGate;
+    let alone = Workers::new(&rt, &gate, 1);
+    assert!(rt; finds(&alone, rt.alloc(), &expander)?);
+    let four = Workers::new(&rt, &gate, 4);
+    assert!(rt; finds(&four, rt.alloc(), &expander)?);
+    let many = Workers::new(&rt, &gate, 64);
+    assert!(rt; finds(&many, rt.alloc(), &expander)?);
+    Ok(())
+}
+
+/// The root is a wave by itself, and the two goals that it names are the second one.
+#[test]
+fn goals_of_a_wave_meet(rt: HostRuntime) -> Result<(), Fail> {
+    let expander = expander(rt.alloc(), Meeting::new(1, 2))?;
+    let gate = Meeting::new(1, 2);
+    let workers = Workers::new(&rt, &gate, 2);
+    let explored = explore(&workers, rt.alloc(), &expander, expander.first.clone()?)?;
+    assert!(rt; gate.was_met());
+    assert!(rt; expander.meeting.was_met());
     assert_eq!(rt; explored.len(), 3);
     assert!(rt; *explored.goal(2) == expander.third);
     assert_eq!(rt; explored.number(&expander.second), Some(1));

@@ -11,11 +11,18 @@ use crate::tables::joined_tables;
 use js_decide::{Decided, decide};
 use js_doc::Memory;
 use js_guard::RankedSchema;
+use js_par::{Gate, Workers};
 use std::alloc::Global;
+use std::thread::Threads;
 
 /// Compares two schemas: it finds a document that is valid for the first and not for the second, the certificate that
 /// there is none, or a limit. The cost is that of the core tables and of the search that `decide` makes.
-pub fn compare(alloc: Global, a: &RankedSchema, b: &RankedSchema) -> Result<Decided, Memory>
+pub fn compare<R: Threads + Sync, G: Gate + Sync>(
+    workers: &Workers<'_, R, G>,
+    alloc: Global,
+    a: &RankedSchema,
+    b: &RankedSchema,
+) -> Result<Decided, Memory>
     ensures answer { IfOk result (λ d. decided_view d ≡ decided_of (entries_of a.now) (entries_of b.now)) }
     ensures certificate { IfOk result
         (λ d. HasCertificate (certificate_text (entries_of a.now) (entries_of b.now)) d.verdict) }
@@ -24,6 +31,6 @@ pub fn compare(alloc: Global, a: &RankedSchema, b: &RankedSchema) -> Result<Deci
     ensures means { IfOk result (λ d. Means (entries_of a.now) (entries_of b.now) (verdict_view d.verdict)) }
 {
     let (core, at_a, at_b) = joined_tables(alloc, a, b)?;
-    let decided = decide(alloc, &core, at_a, at_b)?;
+    let decided = decide(workers, alloc, &core, at_a, at_b)?;
     Ok(decided)
 }

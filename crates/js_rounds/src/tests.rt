@@ -19,8 +19,10 @@ use js_expansion::{
     Shape, Slot,
 };
 use js_explore::explore;
+use js_par::{OpenGate, Workers};
 use std::alloc::Global;
 use std::test::Fail;
+use std::thread::Threads;
 
 /// Four goals: of the second no round has any, and the third is used twice by the fourth.
 #[derive(Drop)]
@@ -235,7 +237,9 @@ fn expander(alloc: Global) -> Result<Small, Fail> {
 #[test]
 fn least_rounds_and_first_alternatives(rt: HostRuntime) -> Result<(), Fail> {
     let expander = expander(rt.alloc())?;
-    let explored = explore(rt.alloc(), &expander, expander.root.clone()?)?;
+    let gate = OpenGate;
+    let workers = Workers::new(&rt, &gate, 1);
+    let explored = explore(&workers, rt.alloc(), &expander, expander.root.clone()?)?;
     let mut rounds = Rounds::new(rt.alloc(), &explored)?;
     rounds.run_uncounted(&explored);
     rounds.run_uncounted(&explored);
@@ -289,7 +293,9 @@ const CASES: [Case; 3] = [
 #[test]
 fn parts_in_order_of_rounds(rt: HostRuntime) -> Result<(), Fail> {
     let expander = expander(rt.alloc())?;
-    let explored = explore(rt.alloc(), &expander, expander.root.clone()?)?;
+    let gate = OpenGate;
+    let workers = Workers::new(&rt, &gate, 1);
+    let explored = explore(&workers, rt.alloc(), &expander, expander.root.clone()?)?;
     let mut rounds = Rounds::new(rt.alloc(), &explored)?;
     rounds.run_uncounted(&explored);
     for case in CASES.iter() {

@@ -14,12 +14,20 @@ use crate::status::Status;
 use crate::top::run;
 use js_doc::Str;
 use js_outside::{FileMap, MemoryShelf, Sink};
+use js_par::OpenGate;
 use std::alloc::Global;
+use std::thread::Threads;
 
 /// As [`run`], over these files: with every status but those of faults, what is written and the status are the report of
 /// the files. A read fault is told exactly where a file that the words name isn't there and each before it is a schema,
 /// unless memory is refused or the report can't be written.
-pub fn run_in_memory<K: Sink>(alloc: Global, words: &[Str], files: FileMap, sink: &mut K) -> Status
+pub fn run_in_memory<R: Threads + Sync, K: Sink>(
+    rt: &R,
+    alloc: Global,
+    words: &[Str],
+    files: FileMap,
+    sink: &mut K,
+) -> Status
     ensures report { result ≢ Status.ReadFault → result ≢ Status.WriteFault → result ≢ Status.Memory
         → WritesReport (Some (contents files)) words.now (K.written sink.old) (K.written sink.new) result }
     ensures usage { result ≡ Status.Usage → command words.now ≡ None }
@@ -37,7 +45,7 @@ pub fn run_in_memory<K: Sink>(alloc: Global, words: &[Str], files: FileMap, sink
     ensures only_missing { result ≡ Status.ReadFault → MissesFile (Some (contents files)) words.now }
 {
     let mut shelf = MemoryShelf::new(files);
-    let status = run(&(), alloc, words, &mut shelf, sink);
+    let status = run(rt, alloc, words, &OpenGate, &mut shelf, sink);
     // It says that the count of faults is still that of the names that aren't there.
     let _ = shelf.faults();
     status

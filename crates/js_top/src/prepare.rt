@@ -53,9 +53,11 @@ use js_decide::Verdict;
 use js_doc::{Memory, Str};
 use js_gen::GenKind;
 use js_outside::Shelf;
+use js_par::{Gate, Workers};
 use js_report::refusal_line;
 use js_words::{Command, WordsFault, read_words};
 use std::alloc::Global;
+use std::thread::Threads;
 
 /// What is to be written, and the status that it comes with. The first two take no memory.
 #[derive(Drop)]
@@ -93,9 +95,11 @@ impl Prepared {
 }
 
 /// The report of the words over the shelf's files.
-pub(crate) fn prepare<H: Shelf>(
+pub(crate) fn prepare<R: Threads + Sync, G: Gate + Sync, H: Shelf>(
+    rt: &R,
     alloc: Global,
     words: &[Str],
+    gate: &G,
     shelf: &mut H,
 ) -> Result<Prepared, Memory>
     ensures told { H.told shelf.new ≡ H.told shelf.old }
@@ -108,15 +112,17 @@ pub(crate) fn prepare<H: Shelf>(
     ensures begun { BeginsInOrder (H.told shelf.old) (file_names words.now) (H.begun shelf.old) (H.begun shelf.new) }
 {
     match read_words(alloc, words) {
-        Ok(command) => prepare_command(alloc, shelf, &command),
+        Ok(command) => prepare_command(rt, alloc, gate, shelf, &command),
         Err(WordsFault::Usage) => Ok(Prepared::Usage),
         Err(WordsFault::Memory) => Err(Memory),
     }
 }
 
-/// The report of a command. The work is done by one thread, whatever number of workers it has.
-fn prepare_command<H: Shelf>(
+/// The report of a command. The search goes to as many workers as it has; a certificate is judged by one thread.
+fn prepare_command<R: Threads + Sync, G: Gate + Sync, H: Shelf>(
+    rt: &R,
     alloc: Global,
+    gate: &G,
     shelf: &mut H,
     command: &Command,
 ) -> Result<Prepared, Memory>
@@ -131,19 +137,29 @@ fn prepare_command<H: Shelf>(
         (H.begun shelf.old) (H.begun shelf.new) }
 {
     match command {
-        Command::Sat(schema, _) => prepare_compared(alloc, shelf, schema, None),
-        Command::Include(first, second, _) => prepare_compared(alloc, shelf, first, Some(second)),
+        Command::Sat(schema, count) => {
+            let workers = Workers::new(rt, gate, *count);
+            prepare_compared(&workers, alloc, shelf, schema, None)
+        }
+        Command::Include(first, second, count) => {
+            let workers = Workers::new(rt, gate, *count);
+            prepare_compared(&workers, alloc, shelf, first, Some(second))
+        }
         Command::Valid(schema, document) => prepare_valid(alloc, shelf, schema, document),
         Command::Check(first, second, certificate, _) => {
             prepare_check(alloc, shelf, first, second, certificate)
         }
         Command::Norm(schema) => prepare_norm(alloc, shelf, schema),
-        Command::Gen(kind, number, _) => prepare_gen(alloc, *kind, *number),
+        Command::Gen(kind, number, count) => {
+            let workers = Workers::new(rt, gate, *count);
+            prepare_gen(&workers, alloc, *kind, *number)
+        }
     }
 }
 
 /// The report of `include`, where the second file is read only where the first was, and without one that of `sat`.
-fn prepare_compared<H: Shelf>(
+fn prepare_compared<R: Threads + Sync, G: Gate + Sync, H: Shelf>(
+    workers: &Workers<'_, R, G>,
     alloc: Global,
     shelf: &mut H,
     first: &Str,
@@ -158,7 +174,7 @@ fn prepare_compared<H: Shelf>(
         (encode_utf8_all first.now ∷ second_file (option_map (λ s. s.now) second.entry)) (H.begun shelf.old)
         (H.begun shelf.new) }
 {
-    match compare_files(alloc, shelf, first, second)? {
+    match compare_files(workers, alloc, shelf, first, second)? {
         Inclusion::Decided(verdict) => answered(alloc, verdict, is_sat(second)),
         Inclusion::FirstRefused(words) => refused(alloc, "first", words),
         Inclusion::SecondRefused(words) => refused(alloc, "second", words),
@@ -232,13 +248,18 @@ fn prepare_norm<H: Shelf>(alloc: Global, shelf: &mut H, schema: &Str) -> Result<
 }
 
 /// The report of `gen`, for which no file is read.
-fn prepare_gen(alloc: Global, kind: GenKind, number: u32) -> Result<Prepared, Memory>
+fn prepare_gen<R: Threads + Sync, G: Gate + Sync>(
+    workers: &Workers<'_, R, G>,
+    alloc: Global,
+    kind: GenKind,
+    number: u32,
+) -> Result<Prepared, Memory>
     requires least { 1 ≤ number }
     requires most { number ≤ greatest (kind_view kind) }
     ensures says { (faults : ℕ) → IfOk result (ReportSays (IsGenReport (kind_view kind) number) faults faults) }
     ensures made { IfOk result IsNoReadFault }
 {
-    match compare_family(alloc, kind, number)? {
+    match compare_family(workers, alloc, kind, number)? {
         FamilyInclusion::Decided(decided) => {
             let (text, finding) = summary_text(alloc, kind, number, &decided)?;
             Ok(Prepared::Made(text, finding.status(false)))

@@ -23,18 +23,22 @@ use crate::prepare::prepare;
 use crate::status::Status;
 use js_doc::Str;
 use js_outside::{Shelf, Sink};
+use js_par::Gate;
 use js_report::write_report;
 use std::alloc::Global;
+use std::thread::Threads;
 
 /// Does all that the program does: takes the words, reads the files that they name, decides, and writes the report.
 ///
-/// Nothing is written until the report is complete. `rt` is the runtime, of which nothing is used so far: all work is
-/// done on the caller's thread. Where the shelf tells its files, the report is that of its files; where it tells none,
-/// that of some files, as they were when they were read.
-pub fn run<R, H: Shelf, K: Sink>(
+/// Nothing is written until the report is complete. `rt` is the runtime on whose threads as many workers as the words say
+/// search, and `gate` is told of each goal that several of them expand; the report is the same for every number of
+/// workers. Where the shelf tells its files, the report is that of its files; where it tells none, that of some files, as
+/// they were when they were read.
+pub fn run<R: Threads + Sync, G: Gate + Sync, H: Shelf, K: Sink>(
     rt: &R,
     alloc: Global,
     words: &[Str],
+    gate: &G,
     shelf: &mut H,
     sink: &mut K,
 ) -> Status
@@ -149,8 +153,7 @@ pub fn run<R, H: Shelf, K: Sink>(
     // The files that the shelf tells are the same after the call.
     ensures told { H.told shelf.new ≡ H.told shelf.old }
 {
-    let _ = rt;
-    match prepare(alloc, words, shelf) {
+    match prepare(rt, alloc, words, gate, shelf) {
         Err(_) => Status::Memory,
         Ok(prepared) => match write_report(sink, prepared.text()) {
             Ok(()) => prepared.status(),

@@ -3,6 +3,7 @@
 
 use js_doc::{Memory, Str};
 use js_outside::{FileShelf, StdoutSink};
+use js_par::OpenGate;
 use js_top::{Status, run};
 use std::env;
 use std::env::Env;
@@ -14,7 +15,14 @@ fn main(rt: HostRuntime) -> ExitCode {
         Ok(words) => {
             let mut shelf = FileShelf::new(&rt);
             let mut sink = StdoutSink::new(&rt);
-            run(&rt, rt.alloc(), words.as_slice(), &mut shelf, &mut sink)
+            run(
+                &rt,
+                rt.alloc(),
+                words.as_slice(),
+                &OpenGate,
+                &mut shelf,
+                &mut sink,
+            )
         }
         Err(status) => status,
     };

@@ -178,7 +178,7 @@ fn negations_may_nest_127_deep(rt: HostRuntime) -> Result<(), Memory> {
         let a = nested(alloc, count, "{\"not\":", "true", "}")?;
         let mut shelf = MemoryShelf::new(two_files(alloc, a.as_bytes(), b"false")?);
         let mut sink = MemorySink::new(alloc, ROOM)?;
-        let found = status_of(alloc, "include a b", &mut shelf, &mut sink)?;
+        let found = status_of(&rt, alloc, "include a b", &mut shelf, &mut sink)?;
         assert_eq!(rt; found, status, "{count} negations");
     }
     Ok(())

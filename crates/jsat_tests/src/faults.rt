@@ -9,6 +9,7 @@ use js_outside::{
 };
 use std::alloc::Global;
 use std::process::Abort;
+use std::thread::Threads;
 
 /// No run makes as many calls.
 const NEVER: u64 = 1_000_000;
@@ -43,7 +44,7 @@ fn each_call_of_the_shelf_may_fail(rt: HostRuntime) -> Result<(), Memory> {
     for call in 0..=6u64 {
         let mut shelf = FailingShelf::new(strings(alloc)?, one_call(alloc, call)?);
         let mut sink = MemorySink::new(alloc, ROOM)?;
-        let status = status_of(alloc, "include a b", &mut shelf, &mut sink)?;
+        let status = status_of(&rt, alloc, "include a b", &mut shelf, &mut sink)?;
         let wanted = if call < 6 {
             (5, "readfault\n")
         } else {
@@ -55,8 +56,8 @@ fn each_call_of_the_shelf_may_fail(rt: HostRuntime) -> Result<(), Memory> {
 }
 
 /// How many calls of the shelf `check` makes: one call that fails is told exactly where it is made.
-fn expect_calls(
-    rt: &impl Abort,
+fn expect_calls<R: Abort + Threads + Sync>(
+    rt: &R,
     alloc: Global,
     certificate: &[u8],
     calls: u64,
@@ -67,7 +68,7 @@ fn expect_calls(
         add(alloc, &mut files, "c", certificate)?;
         let mut shelf = FailingShelf::new(files, one_call(alloc, call)?);
         let mut sink = MemorySink::new(alloc, ROOM)?;
-        let status = status_of(alloc, "check a b c", &mut shelf, &mut sink)?;
+        let status = status_of(rt, alloc, "check a b c", &mut shelf, &mut sink)?;
         let wanted = if call < calls {
             (5, "readfault\n")
         } else {
@@ -104,7 +105,7 @@ fn the_first_write_may_fail(rt: HostRuntime) -> Result<(), Memory> {
     ] {
         let mut shelf = FailingShelf::new(strings(alloc)?, one_call(alloc, read)?);
         let mut sink = FailingSink::new(alloc, ROOM, one_call(alloc, write)?)?;
-        let status = status_of(alloc, "include a b", &mut shelf, &mut sink)?;
+        let status = status_of(&rt, alloc, "include a b", &mut shelf, &mut sink)?;
         expect_written(&rt, (status, sink.written()), wanted);
     }
     Ok(())
@@ -121,7 +122,7 @@ fn a_small_sink_keeps_a_front_of_the_report(rt: HostRuntime) -> Result<(), Memor
     ] {
         let mut shelf = CutShelf::new(strings(alloc)?, 1);
         let mut sink = CutSink::new(alloc, room, 1)?;
-        let status = status_of(alloc, "include a b", &mut shelf, &mut sink)?;
+        let status = status_of(&rt, alloc, "include a b", &mut shelf, &mut sink)?;
         expect_written(&rt, (status, sink.written()), wanted);
     }
     Ok(())
@@ -132,7 +133,7 @@ fn a_sink_that_takes_whole_pieces_may_keep_none(rt: HostRuntime) -> Result<(), M
     let alloc = rt.alloc();
     let mut shelf = MemoryShelf::new(strings(alloc)?);
     let mut sink = MemorySink::new(alloc, 206)?;
-    let status = status_of(alloc, "include a b", &mut shelf, &mut sink)?;
+    let status = status_of(&rt, alloc, "include a b", &mut shelf, &mut sink)?;
     assert_eq!(rt; status, 6);
     assert!(rt; CERTIFICATE.as_bytes().starts_with(sink.written()));
     Ok(())

@@ -1,4 +1,4 @@
-//! What `gen` prints, and numbers of workers.
+//! What `gen` prints.
 
 use crate::setting::{CERTIFICATE, STRING, STRING_OR_NULL, expect};
 use js_doc::Memory;
@@ -53,36 +53,6 @@ fn a_family_is_summarised(rt: HostRuntime) -> Result<(), Memory> {
         ("gen chains 1", 2, "usage\n"),
     ] {
         expect(&rt, rt.alloc(), line, (b"true", b"true"), (status, report))?;
-    }
-    Ok(())
-}
-
-#[test]
-fn a_number_of_workers_changes_nothing(rt: HostRuntime) -> Result<(), Memory> {
-    for line in [
-        "include a b --workers 1",
-        "include --workers 64 a b",
-        "include a --workers=2 b",
-    ] {
-        let files = (STRING.as_bytes(), STRING_OR_NULL.as_bytes());
-        expect(&rt, rt.alloc(), line, files, (0, CERTIFICATE))?;
-    }
-    Ok(())
-}
-
-#[test]
-fn numbers_of_workers_that_are_refused(rt: HostRuntime) -> Result<(), Memory> {
-    for line in [
-        "include a b --workers 0",
-        "include a b --workers 65",
-        "include a b --workers 08",
-        "include a b --workers",
-        "include a b --workers 1 --workers 1",
-        "valid a b --workers 1",
-        "norm a --workers 1",
-    ] {
-        let files = (STRING.as_bytes(), STRING.as_bytes());
-        expect(&rt, rt.alloc(), line, files, (2, "usage\n"))?;
     }
     Ok(())
 }

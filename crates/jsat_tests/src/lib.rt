@@ -21,3 +21,5 @@ mod objects;
 mod satisfying;
 #[cfg(test)]
 mod setting;
+#[cfg(test)]
+mod workers;

@@ -2,10 +2,12 @@
 
 use js_doc::{Memory, Str};
 use js_outside::{FileMap, MemorySink, Shelf, Sink};
+use js_par::OpenGate;
 use js_top::{run, run_in_memory};
 use std::alloc::{AllocError, Global};
 use std::process::Abort;
 use std::str;
+use std::thread::Threads;
 
 /// More bytes than any report here has.
 pub(crate) const ROOM: u64 = 100_000;
@@ -41,8 +43,8 @@ pub(crate) fn two_files(alloc: Global, a: &[u8], b: &[u8]) -> Result<FileMap, Me
 }
 
 /// Fails unless `check` of a certificate for two schemas has this status and report.
-pub(crate) fn expect_checked(
-    rt: &impl Abort,
+pub(crate) fn expect_checked<R: Abort + Threads + Sync>(
+    rt: &R,
     alloc: Global,
     (a, b, certificate): (&str, &str, &str),
     wanted: (u8, &str),
@@ -51,14 +53,14 @@ pub(crate) fn expect_checked(
     let mut files = two_files(alloc, a.as_bytes(), b.as_bytes())?;
     add(alloc, &mut files, "c", certificate.as_bytes())?;
     let mut sink = MemorySink::new(alloc, ROOM)?;
-    let answer = run_in_memory(alloc, words.as_slice(), files, &mut sink).code();
+    let answer = run_in_memory(rt, alloc, words.as_slice(), files, &mut sink).code();
     expect_written(rt, (answer, sink.written()), wanted);
     Ok(())
 }
 
 /// Fails unless `include` prints a certificate for two schemas that begins with this text, and `check` accepts it.
-pub(crate) fn expect_certificate(
-    rt: &impl Abort,
+pub(crate) fn expect_certificate<R: Abort + Threads + Sync>(
+    rt: &R,
     alloc: Global,
     (a, b): (&str, &str),
     front: &str,
@@ -66,7 +68,7 @@ pub(crate) fn expect_certificate(
     let words = words_of(alloc, "include a b")?;
     let files = two_files(alloc, a.as_bytes(), b.as_bytes())?;
     let mut sink = MemorySink::new(alloc, ROOM)?;
-    let status = run_in_memory(alloc, words.as_slice(), files, &mut sink).code();
+    let status = run_in_memory(rt, alloc, words.as_slice(), files, &mut sink).code();
     let printed = str::from_utf8(sink.written()).unwrap_or("no text");
     assert!(rt;
         printed.as_bytes().starts_with(front.as_bytes()),
@@ -77,7 +79,7 @@ pub(crate) fn expect_certificate(
 }
 
 /// The words of a command line.
-fn words_of(alloc: Global, line: &str) -> Result<Vec<Str>, Memory> {
+pub(crate) fn words_of(alloc: Global, line: &str) -> Result<Vec<Str>, Memory> {
     let mut words = Vec::new(alloc);
     for word in line.split_whitespace() {
         words.push(Str::from_text(alloc, word)?)?;
@@ -86,19 +88,20 @@ fn words_of(alloc: Global, line: &str) -> Result<Vec<Str>, Memory> {
 }
 
 /// The exit status of a command line over a shelf, with its report in a sink.
-pub(crate) fn status_of<H: Shelf, K: Sink>(
+pub(crate) fn status_of<R: Threads + Sync, H: Shelf, K: Sink>(
+    rt: &R,
     alloc: Global,
     line: &str,
     shelf: &mut H,
     sink: &mut K,
 ) -> Result<u8, Memory> {
     let words = words_of(alloc, line)?;
-    Ok(run(&(), alloc, words.as_slice(), shelf, sink).code())
+    Ok(run(rt, alloc, words.as_slice(), &OpenGate, shelf, sink).code())
 }
 
 /// Fails unless a command line over two files has this status and report.
-pub(crate) fn expect(
-    rt: &impl Abort,
+pub(crate) fn expect<R: Abort + Threads + Sync>(
+    rt: &R,
     alloc: Global,
     line: &str,
     (a, b): (&[u8], &[u8]),
@@ -107,7 +110,7 @@ pub(crate) fn expect(
     let words = words_of(alloc, line)?;
     let files = two_files(alloc, a, b)?;
     let mut sink = MemorySink::new(alloc, ROOM)?;
-    let answer = run_in_memory(alloc, words.as_slice(), files, &mut sink).code();
+    let answer = run_in_memory(rt, alloc, words.as_slice(), files, &mut sink).code();
     expect_written(rt, (answer, sink.written()), (status, report));
     Ok(())
 }

@@ -10,13 +10,13 @@ use Rattle.js_decide.proofs.Deciding.{taken_inside, certified_root}
 use Rattle.js_decide.proofs.certified.decide_root.Goals as goal
 
 pub certified-requires-clause-inside : goal.certified-requires-clause-inside
-certified-requires-clause-inside c =
+certified-requires-clause-inside g c =
     let taken = rw c.new.ensures at c.in_ok-searched.ensures.taken in
     taken_inside c.args.core.now.positions c.args.core.now.ranks (found_view c.in_ok-searched.searched.explored).goals
     taken
 
 pub returns-clause-decided : goal.returns-clause-decided
-returns-clause-decided c =
+returns-clause-decided g c =
     let T = c.args.core.now.positions in
     let f = found_view c.in_ok-searched.searched.explored in
     let outcome = rw c.new.ensures at c.in_ok-searched.ensures.outcome in
@@ -29,7 +29,7 @@ returns-clause-decided c =
     (c.last_round-rounds.ensures.rounds (goal_expansion T) f rounds)
 
 pub returns-clause-certificate : goal.returns-clause-certificate
-returns-clause-certificate c =
+returns-clause-certificate g c =
     let T = c.args.core.now.positions in
     let found = rw c.new.ensures at c.in_ok-searched.ensures.found in
     let explores = rw c.new.ensures at c.in_ok-searched.ensures.explores in

@@ -6,14 +6,14 @@ use Rattle.js_decide.proofs.Deciding.{root_taken, answer_decided, answer_certifi
 use Rattle.js_decide.proofs.pair.decide.Goals as goal
 
 pub decide_root-requires : goal.decide_root-requires
-decide_root-requires c =
+decide_root-requires g c =
     root_taken c.args.core.now.positions c.args.core.now.ranks c.len-length.ensures.table c.args.a.0 c.args.b.0
     c.requires.a_in c.requires.b_in c.in-Some.root
     (sym c.in-Some.is ∙ c.in_ok-root.ensures.goal
     ∙ ap₂ (λ x y. form c.args.core.now.positions (x ∷ y ∷ [])) c.plus.ensures c.minus.ensures)
 
 pub returns-in-Some-clause-decided : goal.returns-in-Some-clause-decided
-returns-in-Some-clause-decided c =
+returns-in-Some-clause-decided g c =
     answer_decided c.args.core.now.positions c.args.core.now.ranks c.len-length.ensures.table c.args.a.0 c.args.b.0
     c.requires.a_in c.requires.b_in (Some c.in-Some.root)
     (sym c.in-Some.is ∙ c.in_ok-root.ensures.goal
@@ -21,7 +21,7 @@ returns-in-Some-clause-decided c =
     c.decide_root.result c.decide_root.ensures.decided
 
 pub returns-in-Some-clause-certificate : goal.returns-in-Some-clause-certificate
-returns-in-Some-clause-certificate c =
+returns-in-Some-clause-certificate g c =
     answer_certified c.args.core.now.positions c.args.core.now.ranks c.len-length.ensures.table c.args.a.0 c.args.b.0
     c.requires.a_in c.requires.b_in (Some c.in-Some.root)
     (sym c.in-Some.is ∙ c.in_ok-root.ensures.goal
@@ -29,7 +29,7 @@ returns-in-Some-clause-certificate c =
     c.decide_root.result c.decide_root.ensures.certificate
 
 pub returns-in-Some-clause-means : goal.returns-in-Some-clause-means
-returns-in-Some-clause-means c =
+returns-in-Some-clause-means g c =
     answer_means c.args.core.now.positions c.args.core.now.ranks c.len-length.ensures.table c.args.a.0 c.args.b.0
     c.requires.a_in c.requires.b_in (Some c.in-Some.root)
     (sym c.in-Some.is ∙ c.in_ok-root.ensures.goal
@@ -37,7 +37,7 @@ returns-in-Some-clause-means c =
     c.decide_root.result c.decide_root.ensures.decided
 
 pub returns-in-Some-clause-accepted : goal.returns-in-Some-clause-accepted
-returns-in-Some-clause-accepted c =
+returns-in-Some-clause-accepted g c =
     answer_accepted c.args.core.now.positions c.args.core.now.ranks c.len-length.ensures.table c.args.a.0 c.args.b.0
     c.requires.a_in c.requires.b_in (Some c.in-Some.root)
     (sym c.in-Some.is ∙ c.in_ok-root.ensures.goal
@@ -47,7 +47,7 @@ returns-in-Some-clause-accepted c =
     c.decide_root.ensures.certificate
 
 pub returns-in-None-clause-decided : goal.returns-in-None-clause-decided
-returns-in-None-clause-decided c =
+returns-in-None-clause-decided g c =
     answer_decided c.args.core.now.positions c.args.core.now.ranks c.len-length.ensures.table c.args.a.0 c.args.b.0
     c.requires.a_in c.requires.b_in None
     (sym c.in-None.is ∙ c.in_ok-root.ensures.goal
@@ -56,7 +56,7 @@ returns-in-None-clause-decided c =
     (goal_expansion c.args.core.now.positions))
 
 pub returns-in-None-clause-certificate : goal.returns-in-None-clause-certificate
-returns-in-None-clause-certificate c =
+returns-in-None-clause-certificate g c =
     answer_certified c.args.core.now.positions c.args.core.now.ranks c.len-length.ensures.table c.args.a.0 c.args.b.0
     c.requires.a_in c.requires.b_in None
     (sym c.in-None.is ∙ c.in_ok-root.ensures.goal
@@ -64,7 +64,7 @@ returns-in-None-clause-certificate c =
     c.decide_clash.result (c.decide_clash.ensures.certificate c.args.core.now.positions)
 
 pub returns-in-None-clause-means : goal.returns-in-None-clause-means
-returns-in-None-clause-means c =
+returns-in-None-clause-means g c =
     answer_means c.args.core.now.positions c.args.core.now.ranks c.len-length.ensures.table c.args.a.0 c.args.b.0
     c.requires.a_in c.requires.b_in None
     (sym c.in-None.is ∙ c.in_ok-root.ensures.goal
@@ -73,7 +73,7 @@ returns-in-None-clause-means c =
     (goal_expansion c.args.core.now.positions))
 
 pub returns-in-None-clause-accepted : goal.returns-in-None-clause-accepted
-returns-in-None-clause-accepted c =
+returns-in-None-clause-accepted g c =
     answer_accepted c.args.core.now.positions c.args.core.now.ranks c.len-length.ensures.table c.args.a.0 c.args.b.0
     c.requires.a_in c.requires.b_in None
     (sym c.in-None.is ∙ c.in_ok-root.ensures.goal

@@ -13,20 +13,20 @@ use Rattle.js_inclusion.proofs.TableLaws.{over-both}
 use Rattle.js_inclusion.proofs.comparing.compare.Goals as goal
 
 pub returns-clause-answer : goal.returns-clause-answer
-returns-clause-answer c =
+returns-clause-answer g c =
     over-both (entries_of c.args.a.now) (entries_of c.args.b.now) c.in_ok-core.core.positions c.in_ok-core.at_a.0
     c.in_ok-core.at_b.0 c.in_ok-core.ensures.positions c.in_ok-core.ensures.first c.in_ok-core.ensures.second
     (λ T m n. decided_view c.in_ok-decided.decided ≡ decision (finders T) T m n) c.in_ok-decided.ensures.decided
 
 pub returns-clause-certificate : goal.returns-clause-certificate
-returns-clause-certificate c =
+returns-clause-certificate g c =
     over-both (entries_of c.args.a.now) (entries_of c.args.b.now) c.in_ok-core.core.positions c.in_ok-core.at_a.0
     c.in_ok-core.at_b.0 c.in_ok-core.ensures.positions c.in_ok-core.ensures.first c.in_ok-core.ensures.second
     (λ T m n. HasCertificate (lines_text (refutation T m n)) c.in_ok-decided.decided.verdict)
     c.in_ok-decided.ensures.certificate
 
 pub returns-clause-means : goal.returns-clause-means
-returns-clause-means c =
+returns-clause-means g c =
     means-verdict (entries_of c.args.a.now) (entries_of c.args.b.now) c.in_ok-core.ensures.a_table
     c.in_ok-core.ensures.b_table c.args.a.now.ranks c.args.b.now.ranks c.args.a.now.falls c.args.b.now.falls
     (verdict_view c.in_ok-decided.decided.verdict)

@@ -5,8 +5,8 @@ use Rattle.js_explore.specs.Exploration.{Explores}
 use Rattle.js_explore.specs.ExploredView.{explored_view, found_view}
 use Rattle.js_explore.proofs.Steps.{after_step, after_all, finished}
 use Rattle.js_explore.proofs.Going.{explores}
-use Rattle.js_explore.proofs.exploring.explore_within.Goals as goal
-use Rattle.js_explore.proofs.exploring.explore_within.Goals.{else-loop-turn-test, then-loop-turn-test+in_ok-step+then-not-branch}
+use Rattle.js_explore.proofs.exploring.explore_alone.Goals as goal
+use Rattle.js_explore.proofs.exploring.explore_alone.Goals.{else-loop-turn-test, then-loop-turn-test+in_ok-step+then-not-branch}
 
 pub returns-clause-found : goal.returns-clause-found
 returns-clause-found g c =

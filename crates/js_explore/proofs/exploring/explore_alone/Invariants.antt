@@ -3,7 +3,7 @@ use Rattle.std.proofs.Common.{◌≡◌}
 use Rattle.search.specs.Explored.{after}
 use Rattle.js_explore.specs.Exploration.{GoesOn}
 use Rattle.js_explore.specs.ExploredView.{explored_view, found_view}
-use Rattle.js_explore.proofs.exploring.explore_within.Given as goal
+use Rattle.js_explore.proofs.exploring.explore_alone.Given as goal
 
 abbrev pub invariant-loop-turn : goal.invariant-loop-turn
 invariant-loop-turn g l = record {

@@ -1,0 +1,116 @@
+//! Numbers of workers: what is printed is the same for each, and goals are expanded by as many threads at once.
+
+use crate::setting::{
+    CERTIFICATE, ROOM, STRING, STRING_OR_NULL, expect, expect_written, two_files, words_of,
+};
+use js_doc::Memory;
+use js_outside::{MemoryShelf, MemorySink};
+use js_par::Meeting;
+use js_top::run;
+use std::alloc::{AllocError, Global};
+
+#[test]
+fn a_number_of_workers_changes_nothing(rt: HostRuntime) -> Result<(), Memory> {
+    let chain = (1, "generated chain 40\ngoals 40\nrounds 40\nparts 40\n");
+    let wide = (0, "generated wide 2\ngoals 5\nrounds 1\ncertificate 3\n");
+    let tree = (0, "generated tree 3\ngoals 9\nrounds 1\ncertificate 6\n");
+    for (line, answer) in [
+        ("include a b --workers 1", (0, CERTIFICATE)),
+        ("include --workers 64 a b", (0, CERTIFICATE)),
+        ("include a --workers=2 b", (0, CERTIFICATE)),
+        ("gen chain 40 --workers 1", chain),
+        ("gen chain 40 --workers 4", chain),
+        ("gen chain 40 --workers 64", chain),
+        ("gen wide 2 --workers 1", wide),
+        ("gen wide 2 --workers 4", wide),
+        ("gen wide 2 --workers 64", wide),
+        ("gen tree 3 --workers 1", tree),
+        ("gen tree 3 --workers 4", tree),
+        ("gen tree 3 --workers 64", tree),
+    ] {
+        let files = (STRING.as_bytes(), STRING_OR_NULL.as_bytes());
+        expect(&rt, rt.alloc(), line, files, answer)?;
+    }
+    Ok(())
+}
+
+/// Forty schemas, of which each asks for two documents of the next one, and the last for null.
+fn chain(alloc: Global) -> Result<String, AllocError> {
+    let mut text = String::from_str(
+        alloc,
+        "{\"$ref\":\"#/definitions/d0\",\"definitions\":{\"d39\":{\"type\":\"null\"}",
+    )?;
+    for next in 1..40u32 {
+        let number = next - 1;
+        write!(
+            text,
+            ",\"d{number}\":{{\"type\":\"object\",\"required\":[\"l\",\"r\"],\"properties\":{{"
+        )?;
+        write!(
+            text,
+            "\"l\":{{\"$ref\":\"#/definitions/d{next}\"}},\"r\":{{\"$ref\":\"#/definitions/d{next}\"}}}}}}"
+        )?;
+    }
+    text.push_str("}}")?;
+    Ok(text)
+}
+
+/// Its document, in forty parts.
+fn chain_parts(alloc: Global) -> Result<String, AllocError> {
+    let mut text = String::from_str(alloc, "parts 40\n0 null\n")?;
+    for number in 1..40u32 {
+        let below = number - 1;
+        write!(text, "{number} {{\"l\":#{below},\"r\":#{below}}}\n")?;
+    }
+    Ok(text)
+}
+
+#[test]
+fn a_document_in_parts_is_the_same(rt: HostRuntime) -> Result<(), Memory> {
+    let schema = chain(rt.alloc())?;
+    let parts = chain_parts(rt.alloc())?;
+    for line in [
+        "sat a --workers 1",
+        "sat a --workers 4",
+        "sat a --workers 64",
+    ] {
+        let files = (schema.as_bytes(), b"".as_slice());
+        expect(&rt, rt.alloc(), line, files, (0, parts.as_str()))?;
+    }
+    Ok(())
+}
+
+#[test]
+fn numbers_of_workers_that_are_refused(rt: HostRuntime) -> Result<(), Memory> {
+    for line in [
+        "include a b --workers 0",
+        "include a b --workers 65",
+        "include a b --workers 08",
+        "include a b --workers",
+        "include a b --workers 1 --workers 1",
+        "valid a b --workers 1",
+        "norm a --workers 1",
+    ] {
+        let files = (STRING.as_bytes(), STRING.as_bytes());
+        expect(&rt, rt.alloc(), line, files, (2, "usage\n"))?;
+    }
+    Ok(())
+}
+
+/// An object with two integers: its goal is a wave by itself, and theirs are the second one.
+const TWO_INTEGERS: &str =
+    r#"{"type":"object","required":["p0","p1"],"properties":{"p0":{"type":"integer","minimum":0},"p1":{"type":"integer","minimum":1}},"additionalProperties":false}"#;
+
+#[test]
+fn goals_of_a_wave_meet(rt: HostRuntime) -> Result<(), Memory> {
+    let alloc = rt.alloc();
+    let words = words_of(alloc, "sat a --workers 2")?;
+    let mut shelf = MemoryShelf::new(two_files(alloc, TWO_INTEGERS.as_bytes(), b"")?);
+    let mut sink = MemorySink::new(alloc, ROOM)?;
+    let gate = Meeting::new(1, 2);
+    let status = run(&rt, alloc, words.as_slice(), &gate, &mut shelf, &mut sink).code();
+    let wanted = (0, "document\n{\"p0\":0,\"p1\":1}\n");
+    expect_written(&rt, (status, sink.written()), wanted);
+    assert!(rt; gate.was_met());
+    Ok(())
+}
