@@ -1,5 +1,5 @@
-//! A small search within several limits, by one worker and by several; and that the goals of a wave are expanded at once,
-//! shown by a gate that holds each until the other has come.
+//! A small search within several limits, by one worker and by several; and that the goals of a wave are expanded at
+//! once, shown by a gate that holds each until the other has come.
 
 ghost use Rattle.std.specs.Prelude.{◌≡◌, [], ◌∷◌, map, true, false, IfOk};
 ghost use Rattle.js_algebra.specs.Equality.{same_goal};

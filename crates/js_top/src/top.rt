@@ -30,10 +30,10 @@ use std::thread::Threads;
 
 /// Does all that the program does: takes the words, reads the files that they name, decides, and writes the report.
 ///
-/// Nothing is written until the report is complete. `rt` is the runtime on whose threads as many workers as the words say
-/// search, and `gate` is told of each goal that several of them expand; the report is the same for every number of
-/// workers. Where the shelf tells its files, the report is that of its files; where it tells none, that of some files, as
-/// they were when they were read.
+/// Nothing is written until the report is complete. `rt` is the runtime on whose threads as many workers as the words
+/// say search, and `gate` is told of each goal where they are several; the report is the same for every number of
+/// workers. Where the shelf tells its files, the report is that of its files; where it tells none, that of some files,
+/// as they were when they were read.
 pub fn run<R: Threads + Sync, G: Gate + Sync, H: Shelf, K: Sink>(
     rt: &R,
     alloc: Global,

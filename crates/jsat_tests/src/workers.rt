@@ -99,7 +99,8 @@ fn numbers_of_workers_that_are_refused(rt: HostRuntime) -> Result<(), Memory> {
 
 /// An object with two integers: its goal is a wave by itself, and theirs are the second one.
 const TWO_INTEGERS: &str =
-    r#"{"type":"object","required":["p0","p1"],"properties":{"p0":{"type":"integer","minimum":0},"p1":{"type":"integer","minimum":1}},"additionalProperties":false}"#;
+    "{\"type\":\"object\",\"required\":[\"p0\",\"p1\"],\"additionalProperties\":false,\"properties\":{\
+    \"p0\":{\"type\":\"integer\",\"minimum\":0},\"p1\":{\"type\":\"integer\",\"minimum\":1}}}";
 
 #[test]
 fn goals_of_a_wave_meet(rt: HostRuntime) -> Result<(), Memory> {
