@@ -190,6 +190,8 @@ MORE_ARRAYS = [
     at('array', {'contains': False}, {'contains': NULL}),
     at('array', *({'contains': {'minimum': k}} for k in range(5)), maxItems=2),
     at('array', *({'contains': {'minimum': k}} for k in range(5))),
+    # two ends of the plan tree, the second of which is too long, and neither
+    at('array', maxItems=1, contains=NULL, items=[STRING]), at('array', maxItems=2, contains=NULL, items=[STRING]),
 ]
 RECURSIVE = [
     {'items': {'$ref': '#'}}, {'contains': {'$ref': '#'}}, at('array', contains={'$ref': '#'}), no(items={'$ref': '#'}),
@@ -269,6 +271,8 @@ OBJECTS = [
     {'minProperties': 18446744073709551615}, {'maxProperties': 18446744073709551615},
     {'minProperties': 65537, 'propertyNames': {'minLength': 65536}},
     # finite cells, about the number that is counted to
+    {'propertyNames': {'enum': ['a', 'b']}, 'minProperties': 2},
+    {'propertyNames': {'enum': ['a', 'b']}, 'minProperties': 3},
     {'minProperties': 3, 'propertyNames': {'enum': ['b', 'a', 'ab']}},
     {'minProperties': 4, 'propertyNames': {'enum': ['b', 'a', 'ab']}},
     {'minProperties': 3, 'required': ['a'], 'propertyNames': {'enum': ['b', 'a', 'ab']}},
@@ -342,6 +346,7 @@ MORE_OBJECTS = [
     # a name that serves two demands, and two names where one could
     at('object', no(patternProperties={'a': NULL}), no(patternProperties={'b': TRUTH})),
     at('object', no(patternProperties={'a': NULL}), no(patternProperties={'b': TRUTH}), maxProperties=1),
+    at('object', no(patternProperties={'^a': NULL}), no(patternProperties={'b$': NULL}), maxProperties=1),
     at('object', no(patternProperties={'a': NULL}), no(patternProperties={'a': TRUTH})),
     at('object', no(patternProperties={'a': ref('n')}), no(patternProperties={'a': no(ref('n'))}),
         definitions={'n': NULL}),

@@ -138,3 +138,21 @@ fn a_sink_that_takes_whole_pieces_may_keep_none(rt: HostRuntime) -> Result<(), M
     assert!(rt; CERTIFICATE.as_bytes().starts_with(sink.written()));
     Ok(())
 }
+
+#[test]
+fn the_first_calls_of_sat_may_fail(rt: HostRuntime) -> Result<(), Memory> {
+    let alloc = rt.alloc();
+    for (read, write, wanted) in [
+        (NEVER, NEVER, (0, "document\nnull\n")),
+        (0, NEVER, (5, "readfault\n")),
+        (NEVER, 0, (6, "")),
+        (0, 0, (6, "")),
+    ] {
+        let files = two_files(alloc, b"{}", b"false")?;
+        let mut shelf = FailingShelf::new(files, one_call(alloc, read)?);
+        let mut sink = FailingSink::new(alloc, ROOM, one_call(alloc, write)?)?;
+        let status = status_of(&rt, alloc, "sat a", &mut shelf, &mut sink)?;
+        expect_written(&rt, (status, sink.written()), wanted);
+    }
+    Ok(())
+}

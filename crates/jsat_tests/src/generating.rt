@@ -3,6 +3,10 @@
 use crate::setting::{CERTIFICATE, STRING, STRING_OR_NULL, expect};
 use js_doc::Memory;
 
+const WIDE: &str = "generated wide 2\ngoals 5\nrounds 1\ncertificate 3\n";
+
+const TREE: &str = "generated tree 3\ngoals 9\nrounds 1\ncertificate 6\n";
+
 #[test]
 fn a_family_is_summarised(rt: HostRuntime) -> Result<(), Memory> {
     for (line, status, report) in [
@@ -21,21 +25,15 @@ fn a_family_is_summarised(rt: HostRuntime) -> Result<(), Memory> {
             1,
             "generated chain 1000\ngoals 1000\nrounds 1000\nparts 1000\n",
         ),
-        (
-            "gen wide 2 --workers 64",
-            0,
-            "generated wide 2\ngoals 5\nrounds 1\ncertificate 3\n",
-        ),
+        ("gen wide 2", 0, WIDE),
+        ("gen wide 2 --workers 64", 0, WIDE),
         (
             "gen wide 50",
             0,
             "generated wide 50\ngoals 101\nrounds 1\ncertificate 51\n",
         ),
-        (
-            "gen tree --workers=4 3",
-            0,
-            "generated tree 3\ngoals 9\nrounds 1\ncertificate 6\n",
-        ),
+        ("gen tree 3", 0, TREE),
+        ("gen tree --workers=4 3", 0, TREE),
         (
             "gen tree 100",
             0,

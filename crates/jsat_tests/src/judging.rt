@@ -29,10 +29,22 @@ fn documents_are_judged(rt: HostRuntime) -> Result<(), Memory> {
             "invalid\n",
         ),
         (
-            "{\"exclusiveMinimum\":18446744073709551615}",
+            "{\"type\":\"integer\",\"exclusiveMinimum\":18446744073709551615}",
             "parts 1\n0 18446744073709551616\n",
             0,
             "valid\n",
+        ),
+        (
+            r##"{"$ref":"#/definitions/x","uniqueItems":true,"definitions":{"x":true}}"##,
+            "null",
+            0,
+            "valid\n",
+        ),
+        (
+            r##"{"$ref":"#/definitions/a~1b%25","definitions":{"a/b%":{"const":7}}}"##,
+            "null",
+            1,
+            "invalid\n",
         ),
     ] {
         let files = (schema.as_bytes(), document.as_bytes());
@@ -45,16 +57,6 @@ fn documents_are_judged(rt: HostRuntime) -> Result<(), Memory> {
 fn the_first_refusal_of_a_judgement_is_told(rt: HostRuntime) -> Result<(), Memory> {
     for (schema, document, report) in [
         ("{\"type\":", "{", "refused first notjson\n"),
-        (
-            "{\"$ref\":\"#x\"}",
-            "null",
-            "refused first ref badpointer \"\"\n",
-        ),
-        (
-            "{\"type\":\"string\",\"pattern\":\"a{16385}\"}",
-            "null",
-            "refused first pattern repeattoowide 1 \"/pattern\"\n",
-        ),
         (
             "{\"allOf\":[{\"$ref\":\"#\"}]}",
             "0.5",
@@ -78,6 +80,42 @@ fn the_first_refusal_of_a_judgement_is_told(rt: HostRuntime) -> Result<(), Memor
         ),
     ] {
         let files = (schema.as_bytes(), document.as_bytes());
+        expect(&rt, rt.alloc(), "valid a b", files, (3, report))?;
+    }
+    Ok(())
+}
+
+#[test]
+fn a_schema_of_a_judgement_is_refused(rt: HostRuntime) -> Result<(), Memory> {
+    for (schema, report) in [
+        (
+            r#"{"type":"integer","minimum":0.5}"#,
+            "refused first notwhole \"/minimum\"\n",
+        ),
+        (
+            r#"{"uniqueItems":true}"#,
+            "refused first uniqueitems \"/uniqueItems\"\n",
+        ),
+        (r#"{"$ref":"o.json"}"#, "refused first ref remote \"\"\n"),
+        ("{\"$ref\":\"#x\"}", "refused first ref badpointer \"\"\n"),
+        (
+            "{\"type\":\"string\",\"pattern\":\"a{16385}\"}",
+            "refused first pattern repeattoowide 1 \"/pattern\"\n",
+        ),
+        (
+            r#"{"type":"string","pattern":"a{3,2}"}"#,
+            "refused first pattern quantifierorder 1 \"/pattern\"\n",
+        ),
+        (
+            r#"{"type":"string","pattern":"(?=a)"}"#,
+            "refused first pattern unsupported lookaround 0 \"/pattern\"\n",
+        ),
+        (
+            r#"{"type":"string","pattern":"a)"}"#,
+            "refused first pattern syntax 1 \"/pattern\"\n",
+        ),
+    ] {
+        let files = (schema.as_bytes(), b"null".as_slice());
         expect(&rt, rt.alloc(), "valid a b", files, (3, report))?;
     }
     Ok(())

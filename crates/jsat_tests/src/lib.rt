@@ -14,6 +14,8 @@ mod generating;
 #[cfg(test)]
 mod judging;
 #[cfg(test)]
+mod large;
+#[cfg(test)]
 mod listing;
 #[cfg(test)]
 mod objects;

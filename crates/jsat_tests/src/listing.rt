@@ -18,6 +18,17 @@ fn tables_are_listed(rt: HostRuntime) -> Result<(), Memory> {
             "core 3\n0 same 1\n1 all 2\n2 nummin -1\n",
         ),
         (
+            r#"{"type":"integer","multipleOf":6,"not":{"multipleOf":3}}"#,
+            0,
+            "core 6\n0 all 2 3 4\n1 all 5\n2 types number\n3 multiple 6\n4 not 1\n5 multiple 3\n",
+        ),
+        (
+            r#"{"enum":[3,"x",null],"not":{"type":"null"}}"#,
+            0,
+            "core 12\n0 all 9 10\n1 all 11\n2 types null\n3 types number\n4 numin 3\n5 all 3 4\n\
+                6 types string\n7 words \"x\"\n8 all 6 7\n9 any 2 5 8\n10 not 1\n11 types null\n",
+        ),
+        (
             "{\"type\":5}",
             3,
             "refused first wrongshape type \"/type\"\n",

@@ -73,11 +73,12 @@ fn an_object_satisfies_a_schema(rt: HostRuntime) -> Result<(), Memory> {
     Ok(())
 }
 
+/// As it may stand in a file: what asks nothing (`$schema`, `title`, `format`) is there too.
 pub(crate) const CLOSED: &str =
-    r#"{"type":"object","required":["name"],"properties":{"name":{"type":"string","minLength":1}},"additionalProperties":false}"#;
+    r##"{"$schema":"http://json-schema.org/draft-06/schema#","title":"v1","type":"object","required":["name"],"properties":{"name":{"type":"string","minLength":1,"format":"hostname"}},"additionalProperties":false}"##;
 
 pub(crate) const WITH_TAGS: &str =
-    r#"{"type":"object","required":["name"],"properties":{"name":{"type":"string","minLength":1},"tags":{"type":"array","items":{"type":"string"}}},"additionalProperties":false}"#;
+    r##"{"$schema":"http://json-schema.org/draft-06/schema#","title":"v2","type":"object","required":["name"],"properties":{"name":{"type":"string","minLength":1,"format":"hostname"},"tags":{"type":"array","items":{"type":"string"}}},"additionalProperties":false}"##;
 
 #[test]
 fn objects_of_one_schema_are_not_of_another(rt: HostRuntime) -> Result<(), Memory> {

@@ -1,7 +1,8 @@
-//! What `sat` and `include` answer for schemas that ask for more of a document than its kind, but for objects.
+//! What `sat` and `include` answer for schemas that ask for more of a document than its kind. Most cases of objects are
+//! in `objects.rt`.
 
 use crate::objects::{CLOSED, WITH_TAGS};
-use crate::setting::{STRING, expect, expect_certificate};
+use crate::setting::{STRING, expect, expect_certificate, expect_checked};
 use js_doc::Memory;
 
 #[test]
@@ -109,16 +110,6 @@ fn one_schema_is_included_in_another(rt: HostRuntime) -> Result<(), Memory> {
     for (a, b, front) in [
         ("false", STRING, "certificate 1\ngoals 0\nend\n"),
         (
-            r#"{"type":"array","items":{"type":"string"},"additionalItems":false}"#,
-            r#"{"type":"array","items":{"type":"string"}}"#,
-            "certificate 1\ngoals 2\ngoal +0 -5\ngoal +1 -6\nentry 0\n",
-        ),
-        (
-            r#"{"type":"array","items":{"type":"string"}}"#,
-            r#"{"type":"array","items":{"type":"string"},"additionalItems":false}"#,
-            "certificate 1\n",
-        ),
-        (
             r#"{"oneOf":[{"type":"integer"},{"type":"integer","minimum":3}]}"#,
             r#"{"type":"integer","maximum":2}"#,
             "certificate 1\n",
@@ -126,6 +117,28 @@ fn one_schema_is_included_in_another(rt: HostRuntime) -> Result<(), Memory> {
         (CLOSED, WITH_TAGS, "certificate 1\n"),
     ] {
         expect_certificate(&rt, rt.alloc(), (a, b), front)?;
+    }
+    Ok(())
+}
+
+/// `additionalItems` isn't read beside one schema, so the two ask the same, and their tables are the same too.
+#[test]
+fn lists_of_strings_are_lists_of_strings(rt: HostRuntime) -> Result<(), Memory> {
+    let closed = r#"{"type":"array","items":{"type":"string"},"additionalItems":false}"#;
+    let plain = r#"{"type":"array","items":{"type":"string"}}"#;
+    let certificate = "certificate 1\ngoals 2\ngoal +0 -5\ngoal +1 -6\nentry 0\n\
+        at null\nrule +0\nkind +2\nat boolean\nrule +0\nkind +2\nat number\nrule +0\nkind +2\n\
+        at string\nrule +0\nkind +2\n\
+        at array\nrule +0\nrule -5\nkind -7\narray\nsplit\ntail 0 goal 1\n\
+        at object\nrule +0\nkind +2\nentry 1\n\
+        at null\nrule +1\nkind +4\nat boolean\nrule +1\nkind +4\nat number\nrule +1\nkind +4\n\
+        at string\nrule +1\nrule -6\nkind -9\n\
+        at array\nrule +1\nkind +4\nat object\nrule +1\nkind +4\nend\n";
+    for (a, b) in [(closed, plain), (plain, closed)] {
+        let files = (a.as_bytes(), b.as_bytes());
+        expect(&rt, rt.alloc(), "include a b", files, (0, certificate))?;
+        let accepted = (0, "accepted\n");
+        expect_checked(&rt, rt.alloc(), (a, b, certificate), accepted)?;
     }
     Ok(())
 }
@@ -139,6 +152,10 @@ fn a_limit_is_told(rt: HostRuntime) -> Result<(), Memory> {
             "limit multiples +0\n",
         ),
         (r#"{"type":"array","minItems":65537}"#, "limit counts +0\n"),
+        (
+            r#"{"type":"string","minLength":65536}"#,
+            "limit states +0\n",
+        ),
         (
             r#"{"type":"string","pattern":"^a{16384}b$"}"#,
             "limit positions +0\n",
@@ -167,11 +184,25 @@ fn sat_refuses_a_file(rt: HostRuntime) -> Result<(), Memory> {
             r##"{"allOf":[{"$ref":"#"}]}"##,
             "refused first cycle \"\" \"/allOf/0\"\n",
         ),
-        (r##"{"$ref":"#x"}"##, "refused first ref badpointer \"\"\n"),
-        (r#"{"$ref":"o.json"}"#, "refused first ref remote \"\"\n"),
         (
             r#"{"type":"string","pattern":"a{3,2}"}"#,
             "refused first pattern quantifierorder 1 \"/pattern\"\n",
+        ),
+        (
+            r#"{"type":"string","pattern":"(?=a)"}"#,
+            "refused first pattern unsupported lookaround 0 \"/pattern\"\n",
+        ),
+        (
+            r#"{"type":"string","pattern":"a)"}"#,
+            "refused first pattern syntax 1 \"/pattern\"\n",
+        ),
+        (
+            r##"{"$ref":"#x","definitions":{"a/b%":{"const":7}}}"##,
+            "refused first ref badpointer \"\"\n",
+        ),
+        (
+            r##"{"$ref":"o.json","definitions":{"a/b%":{"const":7}}}"##,
+            "refused first ref remote \"\"\n",
         ),
     ] {
         let files = (a.as_bytes(), b"".as_slice());

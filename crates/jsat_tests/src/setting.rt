@@ -10,7 +10,7 @@ use std::str;
 use std::thread::Threads;
 
 /// More bytes than any report here has.
-pub(crate) const ROOM: u64 = 100_000;
+pub(crate) const ROOM: u64 = 400_000;
 
 pub(crate) const STRING: &str = r#"{"type":"string"}"#;
 
@@ -42,19 +42,26 @@ pub(crate) fn two_files(alloc: Global, a: &[u8], b: &[u8]) -> Result<FileMap, Me
     Ok(files)
 }
 
-/// Fails unless `check` of a certificate for two schemas has this status and report.
+/// Fails unless `check` of a certificate for two schemas has this status and report, whatever the number of workers.
 pub(crate) fn expect_checked<R: Abort + Threads + Sync>(
     rt: &R,
     alloc: Global,
     (a, b, certificate): (&str, &str, &str),
     wanted: (u8, &str),
 ) -> Result<(), Memory> {
-    let words = words_of(alloc, "check a b c")?;
-    let mut files = two_files(alloc, a.as_bytes(), b.as_bytes())?;
-    add(alloc, &mut files, "c", certificate.as_bytes())?;
-    let mut sink = MemorySink::new(alloc, ROOM)?;
-    let answer = run_in_memory(rt, alloc, words.as_slice(), files, &mut sink).code();
-    expect_written(rt, (answer, sink.written()), wanted);
+    for line in [
+        "check a b c",
+        "check a b c --workers 1",
+        "check a b c --workers=4",
+        "check --workers 64 a b c",
+    ] {
+        let words = words_of(alloc, line)?;
+        let mut files = two_files(alloc, a.as_bytes(), b.as_bytes())?;
+        add(alloc, &mut files, "c", certificate.as_bytes())?;
+        let mut sink = MemorySink::new(alloc, ROOM)?;
+        let answer = run_in_memory(rt, alloc, words.as_slice(), files, &mut sink).code();
+        expect_written(rt, (answer, sink.written()), wanted);
+    }
     Ok(())
 }
 

@@ -7,7 +7,6 @@ use js_doc::Memory;
 use js_outside::{MemoryShelf, MemorySink};
 use js_par::Meeting;
 use js_top::run;
-use std::alloc::{AllocError, Global};
 
 #[test]
 fn a_number_of_workers_changes_nothing(rt: HostRuntime) -> Result<(), Memory> {
@@ -30,52 +29,6 @@ fn a_number_of_workers_changes_nothing(rt: HostRuntime) -> Result<(), Memory> {
     ] {
         let files = (STRING.as_bytes(), STRING_OR_NULL.as_bytes());
         expect(&rt, rt.alloc(), line, files, answer)?;
-    }
-    Ok(())
-}
-
-/// Forty schemas, of which each asks for two documents of the next one, and the last for null.
-fn chain(alloc: Global) -> Result<String, AllocError> {
-    let mut text = String::from_str(
-        alloc,
-        "{\"$ref\":\"#/definitions/d0\",\"definitions\":{\"d39\":{\"type\":\"null\"}",
-    )?;
-    for next in 1..40u32 {
-        let number = next - 1;
-        write!(
-            text,
-            ",\"d{number}\":{{\"type\":\"object\",\"required\":[\"l\",\"r\"],\"properties\":{{"
-        )?;
-        write!(
-            text,
-            "\"l\":{{\"$ref\":\"#/definitions/d{next}\"}},\"r\":{{\"$ref\":\"#/definitions/d{next}\"}}}}}}"
-        )?;
-    }
-    text.push_str("}}")?;
-    Ok(text)
-}
-
-/// Its document, in forty parts.
-fn chain_parts(alloc: Global) -> Result<String, AllocError> {
-    let mut text = String::from_str(alloc, "parts 40\n0 null\n")?;
-    for number in 1..40u32 {
-        let below = number - 1;
-        write!(text, "{number} {{\"l\":#{below},\"r\":#{below}}}\n")?;
-    }
-    Ok(text)
-}
-
-#[test]
-fn a_document_in_parts_is_the_same(rt: HostRuntime) -> Result<(), Memory> {
-    let schema = chain(rt.alloc())?;
-    let parts = chain_parts(rt.alloc())?;
-    for line in [
-        "sat a --workers 1",
-        "sat a --workers 4",
-        "sat a --workers 64",
-    ] {
-        let files = (schema.as_bytes(), b"".as_slice());
-        expect(&rt, rt.alloc(), line, files, (0, parts.as_str()))?;
     }
     Ok(())
 }
