@@ -1,5 +1,9 @@
 mod Holes
 mod Told
 mod Deciding
+mod Shallow
+mod GoalCounts
+mod AllCounts
+mod Counts
 mod NoWords
 mod Truths

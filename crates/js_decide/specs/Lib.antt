@@ -1,6 +1,8 @@
--- What a reader must believe: the verdicts and decisions that the program's values stand for, and what the certificate
--- of a verdict is.
+-- What a reader must believe: the verdicts and decisions that the program's values stand for, what the certificate
+-- of a verdict is, how deep its document is, and what its limits count.
 pub mod View
 pub mod Certified
+pub mod Shallow
+pub mod Counted
 -- Internal: the expander that the tests have.
 pub mod Rows

@@ -3,6 +3,7 @@ use Rattle.goals.specs.Goal.{form}
 use Rattle.js_expander.specs.Found.{goal_expansion, cells_at}
 use Rattle.js_rounds.specs.Slots.{words_by}
 use Rattle.js_decide.proofs.Deciding.{root_taken, answer_decided, answer_certified, answer_means, answer_accepted}
+use Rattle.js_decide.proofs.Counts.{answer_small, answer_shallow, answer_counted}
 use Rattle.js_decide.proofs.pair.decide.Goals as goal
 
 pub decide_root-requires : goal.decide_root-requires
@@ -82,3 +83,33 @@ returns-in-None-clause-accepted g c =
     (c.decide_clash.ensures.decided (words_by (cells_at c.args.core.now.positions))
     (goal_expansion c.args.core.now.positions))
     (c.decide_clash.ensures.certificate c.args.core.now.positions)
+
+pub returns-in-Some-clause-small : goal.returns-in-Some-clause-small
+returns-in-Some-clause-small g c =
+    answer_small c.args.core.now.positions c.args.core.now.ranks c.len-length.ensures.table c.args.a.0 c.args.b.0
+    c.requires.a_in c.requires.b_in c.decide_root.result (returns-in-Some-clause-decided g c)
+
+pub returns-in-Some-clause-shallow : goal.returns-in-Some-clause-shallow
+returns-in-Some-clause-shallow g c =
+    answer_shallow c.args.core.now.positions c.args.core.now.ranks c.len-length.ensures.table c.args.a.0 c.args.b.0
+    c.requires.a_in c.requires.b_in c.decide_root.result (returns-in-Some-clause-decided g c)
+
+pub returns-in-Some-clause-counted : goal.returns-in-Some-clause-counted
+returns-in-Some-clause-counted g c =
+    answer_counted c.args.core.now.positions c.args.core.now.ranks c.len-length.ensures.table c.args.a.0 c.args.b.0
+    c.requires.a_in c.requires.b_in c.decide_root.result (returns-in-Some-clause-decided g c)
+
+pub returns-in-None-clause-small : goal.returns-in-None-clause-small
+returns-in-None-clause-small g c =
+    answer_small c.args.core.now.positions c.args.core.now.ranks c.len-length.ensures.table c.args.a.0 c.args.b.0
+    c.requires.a_in c.requires.b_in c.decide_clash.result (returns-in-None-clause-decided g c)
+
+pub returns-in-None-clause-shallow : goal.returns-in-None-clause-shallow
+returns-in-None-clause-shallow g c =
+    answer_shallow c.args.core.now.positions c.args.core.now.ranks c.len-length.ensures.table c.args.a.0 c.args.b.0
+    c.requires.a_in c.requires.b_in c.decide_clash.result (returns-in-None-clause-decided g c)
+
+pub returns-in-None-clause-counted : goal.returns-in-None-clause-counted
+returns-in-None-clause-counted g c =
+    answer_counted c.args.core.now.positions c.args.core.now.ranks c.len-length.ensures.table c.args.a.0 c.args.b.0
+    c.requires.a_in c.requires.b_in c.decide_clash.result (returns-in-None-clause-decided g c)
