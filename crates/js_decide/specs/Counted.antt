@@ -38,8 +38,8 @@ abbrev pub HaveManyStates : ℕ → List Atom → Type 0
 HaveManyStates most atoms = (n : ℕ) × (most < n) × HaveStates atoms n
 
 module _ (T : List Position) where
-  -- what holds of a branch of a goal, of which the tree at the branch's kind has no more ends than it may have: of the
-  -- kind, the number and the set of the branch
+  -- one of the branches of a goal, at a kind where the goal's tree has no more ends than it may have; and what holds of
+  -- its kind, its number and its set
   pub record OfBranch (g : List Signed) (P : Kind → ℕ → List Signed → Type 0) : Type 0 where
     pub kind : Kind
     pub number : ℕ
@@ -48,18 +48,19 @@ module _ (T : List Position) where
     pub at : slice_get (G.branches (G.steps T kind g)) number ≡ Some set
     pub holds : P kind number set
 
-  -- of the atoms of its automaton: it reads strings, or names of members
+  -- what holds of the atoms of its automaton, which reads strings, or the names of members
   abbrev pub OfAtoms : (List Atom → Type 0) → Kind → ℕ → List Signed → Type 0
   OfAtoms P K.Text k S = P (string_atoms T S)
   OfAtoms P K.Object k S = P (atoms_of_names T S)
   OfAtoms P t k S = ⊥
 
-  -- of its numbers: what such an answer says of them
+  -- what an answer says of its numbers: the least common multiple, or the next candidate, is over 2^127-1 in size; or so
+  -- many candidates are struck, and another one is left
   abbrev pub OfNumbers : Cases → Kind → ℕ → List Signed → Type 0
   OfNumbers c K.Number k S = Says most_candidates (lcm_of (number_group T S).multiples) (number_group T S) c
   OfNumbers c t k S = ⊥
 
-  -- the least number of elements, or of members
+  -- the least number of its elements, or of its members
   abbrev pub HasManyParts : Kind → ℕ → List Signed → Type 0
   HasManyParts K.Array k S = most_counts < A.lower T S
   HasManyParts K.Object k S = most_counts < O.lower T S
@@ -124,7 +125,8 @@ module _ (expansion : List Signed → Expansion) where
   PassesAll most most_all f L.Total = most_all < all_places (take (suc f.taken) f.goals)
   PassesAll most most_all f k = ⊥
 
--- a limit is told where its count is over its number
+-- where a limit is told its count is over its number: at the goal that is told with it, or of all that were explored from
+-- the root
 abbrev pub IsCounted : List Position → (a b : ℕ) → Verdict → Type 0
 IsCounted T a b (D.Limit k (Some g)) = Passes T g k
 IsCounted T a b (D.Limit k None) =
