@@ -54,8 +54,8 @@ module _ (T : List Position) where
   OfAtoms P K.Object k S = P (atoms_of_names T S)
   OfAtoms P t k S = ⊥
 
-  -- what an answer says of its numbers: the least common multiple, or the next candidate, is over 2^127-1 in size; or so
-  -- many candidates are struck, and another one is left
+  -- what an answer says of its numbers: the least common multiple, or the next candidate, is over 2^127-1 in size; or
+  -- so many candidates are struck, and another one is left
   abbrev pub OfNumbers : Cases → Kind → ℕ → List Signed → Type 0
   OfNumbers c K.Number k S = Says most_candidates (lcm_of (number_group T S).multiples) (number_group T S) c
   OfNumbers c t k S = ⊥
@@ -125,8 +125,8 @@ module _ (expansion : List Signed → Expansion) where
   PassesAll most most_all f L.Total = most_all < all_places (take (suc f.taken) f.goals)
   PassesAll most most_all f k = ⊥
 
--- where a limit is told its count is over its number: at the goal that is told with it, or of all that were explored from
--- the root
+-- where a limit is told its count is over its number: at the goal that is told with it, or of all that were explored
+-- from the root
 abbrev pub IsCounted : List Position → (a b : ℕ) → Verdict → Type 0
 IsCounted T a b (D.Limit k (Some g)) = Passes T g k
 IsCounted T a b (D.Limit k None) =
