@@ -17,7 +17,6 @@ use js_expansion::{
 use js_par::{OpenGate, Workers};
 use std::alloc::Global;
 use std::test::Fail;
-use std::thread::Threads;
 
 /// A goal, whether null meets it, the goals of which an array of one element meets it, and its hole.
 #[derive(Drop)]

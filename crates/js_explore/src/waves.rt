@@ -4,10 +4,9 @@
 //! goals are expanded nothing is written that threads share: each expands goals by their numbers, and gives its
 //! expansions back. They are then taken in the order of the goals, and only there new goals get their numbers.
 
-ghost use Rattle.std.specs.Prelude.{◌≡◌, ◌+◌, ◌-◌, ◌<◌, ◌≤◌, None, true, false, length, IfOk, OnOk};
+ghost use Rattle.std.specs.Prelude.{◌≡◌, ◌+◌, ◌-◌, ◌<◌, ◌≤◌, true, false, length, IfOk, OnOk};
 ghost use Rattle.std.specs.List.{range_with_len};
 ghost use Rattle.documents.specs.Tests.{every};
-ghost use Rattle.alternatives.specs.Limit as L;
 ghost use Rattle.search.specs.Explored as S;
 ghost use Rattle.js_explore.specs.Exploration.{Explores, GoesOn};
 ghost use Rattle.js_explore.specs.ExploredView.{explored_view, found_view};

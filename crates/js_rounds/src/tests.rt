@@ -22,7 +22,6 @@ use js_explore::explore;
 use js_par::{OpenGate, Workers};
 use std::alloc::Global;
 use std::test::Fail;
-use std::thread::Threads;
 
 /// Four goals: of the second no round has any, and the third is used twice by the fourth.
 #[derive(Drop)]
