@@ -1,4 +1,8 @@
 -- The cells of names that code's cells stand for.
 pub mod View
+-- How many words there are, exactly.
+pub mod Counting
 -- Used inside: words of one state have one vector.
 pub mod Groups
+-- The rows that are led to, and the lengths of their words.
+pub mod Lengths

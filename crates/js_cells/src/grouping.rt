@@ -1,7 +1,7 @@
 //! Rows by what is said of their words. Each vector of what is said is kept once and found by its hash, so that a row
 //! costs what the literals say of it, whatever the number of cells.
 
-ghost use Rattle.std.specs.Prelude.{◌≡◌, ◌≤◌, ◌<◌, ◌+◌, ◌^◌, [], ◌∷◌, ◌++◌, map, length, IfOk, OnOk};
+ghost use Rattle.std.specs.Prelude.{◌≡◌, ◌<◌, ◌+◌, ◌^◌, [], ◌∷◌, ◌++◌, map, length, IfOk, OnOk};
 ghost use Rattle.list_laws.specs.In.{IsIn};
 ghost use Rattle.word_states.specs.Mention.{mention, mention_all};
 ghost use Rattle.cells.specs.Cells.{same_vector, place};
@@ -54,7 +54,7 @@ pub(crate) fn group(
         (rows_of automaton.now)) }
 {
     let mut truths = Vec::new(alloc);
-    let mut held = vec![in alloc; false; core.len() as usize]?;
+    let mut held = Vec::new(alloc);
     let mut grouped = Grouped {
         vectors: IndexSet::new(alloc),
         cells: Vec::new(alloc),

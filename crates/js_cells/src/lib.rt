@@ -7,6 +7,7 @@
 
 mod grouping;
 mod name_cells;
+mod row_length;
 mod telling;
 #[cfg(test)]
 mod tests;

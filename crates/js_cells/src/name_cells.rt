@@ -10,6 +10,7 @@ ghost use Rattle.js_cells.specs.Groups.{ShareVectors};
 ghost use Rattle.js_said.specs.AtomCode.{same_atoms-prop};
 
 use crate::grouping::group;
+use crate::row_length::word_length;
 use indexmap::IndexSet;
 use js_algebra::{Core, Signed};
 use js_automaton::Automaton;
@@ -41,16 +42,21 @@ pub struct Cells<'a> {
 }
 
 impl<'a> Cells<'a> {
-    ghost use Rattle.std.specs.Prelude.{◌≡◌, ◌<◌, ◌≤◌, ℕ, [], ◌++◌, map, length, get_or, min, take, true, nat_eq, IfOk};
+    ghost use Rattle.std.specs.Prelude.{◌≡◌, ◌<◌, ◌≤◌, ℕ, List, [], ◌∷◌, ◌++◌, map, length, get_or, min, take, true, nat_eq, IfOk};
+    ghost use Rattle.std.specs.Option.{MatchOption};
     ghost use Rattle.word_states.specs.Classes.{characters};
+    ghost use Rattle.word_states.specs.Rows.{row_of};
+    ghost use Rattle.word_laws.specs.Laws.{IsWord};
     ghost use Rattle.goals.specs.Signed as G;
     ghost use Rattle.alternatives.specs.Limit.{most_words};
     ghost use Rattle.finders.specs.WordsFound.{far, words_found};
     ghost use Rattle.finders.specs.Names.{atoms_of_names};
     ghost use Rattle.cells.specs.Cells.{cells, cell_of, truth};
+    ghost use Rattle.cell_laws.specs.RightCells.{IsOf};
     ghost use Rattle.js_algebra.specs.View.{signed_view, are_in_table};
     ghost use Rattle.js_automaton.specs.AutomatonView.{atoms_of, rows_of};
     ghost use Rattle.js_cells.specs.View.{cells_view};
+    ghost use Rattle.js_cells.specs.Counting.{IsCount};
 
     /// The cells of the names of a set, by the automaton of its atoms. It costs for each row what the literals say of
     /// it, and memory for each row and for each cell and literal.
@@ -94,6 +100,19 @@ impl<'a> Cells<'a> {
         self.names.as_slice()
     }
 
+    /// The cell of the words that lead to a row.
+    pub fn cell_of(&self, row: u32) -> u32
+        requires { row < length (rows_of self.now.automaton.now) }
+        ensures row { result ≡ cell_of self.now.core.now.positions (cells_view self.now)
+            (get_or (rows_of self.now.automaton.now) row []) }
+        ensures words { (w : List ℕ) → IsWord w
+            → row_of (atoms_of self.now.automaton.now) (rows_of self.now.automaton.now) w ≡ row
+            → cell_of self.now.core.now.positions (cells_view self.now) w ≡ result }
+        ensures within { result < length (cells_view self.now).vectors }
+    {
+        self.places[row as usize]
+    }
+
     /// What the literal of that number among `names` says of the names of a cell.
     pub fn truth(&self, cell: u32, literal: usize) -> bool
         requires cell { cell < length (cells_view self.now).vectors }
@@ -112,6 +131,11 @@ impl<'a> Cells<'a> {
             → get_or numbers.items r 0 ≡ min 65537 (length (words_found characters far
             (λ w. nat_eq (cell_of self.now.core.now.positions (cells_view self.now)
             (get_or (rows_of self.now.automaton.now) r [] ++ w)) cell)))) }
+
+        // From each row as many different words lead to names of the cell, and where the number isn't cut no more.
+        ensures exact { IfOk result (λ numbers. (r : ℕ) → r < length (rows_of self.now.automaton.now)
+            → IsCount self.now.core.now.positions (cells_view self.now) cell
+            (get_or (rows_of self.now.automaton.now) r []) (get_or numbers.items r 0)) }
     {
         let marks = self.marks(alloc, cell)?;
         self.counter.count(alloc, &marks)
@@ -120,12 +144,30 @@ impl<'a> Cells<'a> {
     /// How many names a cell has, cut at 65,537.
     pub fn capacity(&self, alloc: Global, cell: u32) -> Result<u32, Memory>
         requires { cell < length (cells_view self.now).vectors }
-        ensures { IfOk result (λ n. n ≡ min 65537 (length ((cells_view self.now).words cell))) }
+        ensures number { IfOk result (λ n. n ≡ min 65537 (length ((cells_view self.now).words cell))) }
+
+        // There are as many different names of the cell, and where the number isn't cut no more.
+        ensures exact { IfOk result (λ n.
+            IsCount self.now.core.now.positions (cells_view self.now) cell [] n) }
     {
         // There is a first row, which is that of the empty word.
         let _rows = self.automaton.rows();
         let numbers = self.words_from(alloc, cell)?;
         Ok(numbers[0])
+    }
+
+    /// How many characters the first name of a cell has; no name of it is shorter. It costs the rows before the first
+    /// of the cell, with their classes, and takes no memory.
+    pub fn least(&self, cell: u32) -> u32
+        requires { cell < length (cells_view self.now).vectors }
+        ensures first { map length (take 1 ((cells_view self.now).words cell)) ≡ result ∷ [] }
+        ensures least { (w : List ℕ) → IsOf self.now.core.now.positions (cells_view self.now) cell w
+            → result ≤ length w }
+    {
+        match self.first_row(cell) {
+            Some(row) => word_length(self.automaton, row),
+            None => 0,
+        }
     }
 
     /// The first names of a cell, in order.
@@ -136,6 +178,27 @@ impl<'a> Cells<'a> {
     {
         let marks = self.marks(alloc, cell)?;
         js_row_words::first_words(alloc, self.automaton, &marks, count)
+    }
+
+    /// The first row of a cell.
+    fn first_row(&self, cell: u32) -> Option<u32>
+        ensures { MatchOption result
+            ((r : ℕ) → r < length (rows_of self.now.automaton.now)
+            → cell_of self.now.core.now.positions (cells_view self.now) (get_or (rows_of self.now.automaton.now) r [])
+            ≡ cell → ⊥)
+            (λ row. (row < length (rows_of self.now.automaton.now))
+            × (cell_of self.now.core.now.positions (cells_view self.now)
+            (get_or (rows_of self.now.automaton.now) row []) ≡ cell)
+            × ((r : ℕ) → r < row
+            → cell_of self.now.core.now.positions (cells_view self.now) (get_or (rows_of self.now.automaton.now) r [])
+            ≡ cell → ⊥)) }
+    {
+        for row in 0..self.automaton.rows() {
+            if self.cell_of(row) == cell {
+                return Some(row);
+            }
+        }
+        None
     }
 
     /// The rows of a cell.

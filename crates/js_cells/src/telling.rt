@@ -14,7 +14,7 @@ use js_said::Said;
 use std::alloc::Global;
 
 /// What each of the literals says of the words of a row. `truths` is room that is kept from row to row, and so is
-/// `held`, which has a place for each position.
+/// `held`, which has a place for each position once a plan is asked, and none before.
 pub(crate) fn vector(
     alloc: Global,
     core: &Core,
@@ -22,11 +22,10 @@ pub(crate) fn vector(
     said: &[Said],
     row: u32,
     truths: &mut Vec<bool>,
-    held: &mut [bool],
+    held: &mut Vec<bool>,
 ) -> Result<Vec<bool>, Memory>
     requires said { (s : Said) → IsIn s said.now → IsSaid core.now.positions (atoms_of automaton.now) s }
     requires row { row < length (rows_of automaton.now) }
-    requires held { length core.now.positions ≤ length held.old }
     ensures { IfOk result (λ v. v.items
         ≡ told_of core.now.positions (atoms_of automaton.now) said.now (get_or (rows_of automaton.now) row [])) }
 {
@@ -44,11 +43,10 @@ fn truth(
     said: &Said,
     row: u32,
     truths: &mut Vec<bool>,
-    held: &mut [bool],
+    held: &mut Vec<bool>,
 ) -> Result<bool, Memory>
     requires said { IsSaid core.now.positions (atoms_of automaton.now) said.now }
     requires row { row < length (rows_of automaton.now) }
-    requires held { length core.now.positions ≤ length held.old }
     ensures { IfOk result (λ b. b ≡ tells core.now.positions (atoms_of automaton.now)
         (get_or (rows_of automaton.now) row []) said.now) }
 {
@@ -57,9 +55,21 @@ fn truth(
         Said::NoneOf(numbers) => Ok(!is_any_true(automaton, numbers, row)),
         Said::Planned(plan, numbers) => {
             tell(automaton, numbers, row, truths)?;
-            Ok(plan.truth(core, truths, held))
+            make_room(core, held)?;
+            Ok(plan.truth(core, truths, held.as_mut_slice()))
         }
     }
+}
+
+/// Makes a place for each position, where there is none yet.
+fn make_room(core: &Core, held: &mut Vec<bool>) -> Result<(), Memory>
+    ensures { OnOk result (length core.now.positions ≤ length held.new.items) }
+{
+    let count = core.len() as usize;
+    if held.len() < count {
+        held.resize(count, false)?;
+    }
+    Ok(())
 }
 
 /// Whether one of the atoms is true of the words of a row.

@@ -27,14 +27,16 @@ fn pattern(alloc: Global, text: &str) -> Result<Pattern, Fail> {
 }
 
 /// Null, a string, the word a and nothing; what holds of the values of a and b, and nothing of others; names that are
-/// there; what holds of the values of names with an a and with a b; that each name is a; counts; and long names.
+/// there; what holds of the values of names with an a and with a b; that each name is a; counts; long names; that each
+/// name is a or b, and three members; and what holds of the values of names that begin with a and that end with b.
 fn table(alloc: Global) -> Result<Core, Fail>
-    ensures { IfOk result (λ core. length core.positions ≡ 20) }
+    ensures { IfOk result (λ core. length core.positions ≡ 25) }
 {
     let null = KindList::from_vec(vec![in alloc; JsonKind::Null]?);
     let text = KindList::from_vec(vec![in alloc; JsonKind::Text]?);
     let word = StrList::from_vec(vec![in alloc; Str::from_text(alloc, "a")?]?);
     let names = vec![in alloc; Str::from_text(alloc, "a")?, Str::from_text(alloc, "b")?]?;
+    let two = vec![in alloc; Str::from_text(alloc, "a")?, Str::from_text(alloc, "b")?]?;
     let others = NameSet::Others(
         StrList::from_vec(names),
         PatternList::from_vec(Vec::new(alloc)),
@@ -60,8 +62,15 @@ fn table(alloc: Global) -> Result<Core, Fail>
         Node::PropsMin(65_537),
         Node::LengthMin(65_536),
         Node::NamesIn(Pos(18)),
+        Node::Words(StrList::from_vec(two)),
+        Node::NamesIn(Pos(20)),
+        Node::PropsMin(3),
+        Node::MembersOf(NameSet::Matching(pattern(alloc, "^a")?), Pos(0)),
+        Node::MembersOf(NameSet::Matching(pattern(alloc, "b$")?), Pos(0)),
     ]?;
-    let ranks = vec![in alloc; 0, 0, 0, 0, 0, 0, 0, 0, 0, 0, 0, 0, 0, 0, 0, 0, 0, 0, 0, 0]?;
+    let ranks = vec![in alloc;
+        0, 0, 0, 0, 0, 0, 0, 0, 0, 0, 0, 0, 0, 0, 0, 0, 0, 0, 0, 0, 0, 0, 0, 0, 0,
+    ]?;
     Ok(Core::make(alloc, NodeList::from_vec(nodes), RankList::from_vec(ranks))?)
 }
 
@@ -145,7 +154,7 @@ struct Case {
     numbers: &'static [u32],
 }
 
-const CASES: [Case; 15] = [
+const CASES: [Case; 17] = [
     // A closed object, in which a has to be: b is the other member.
     Case {
         plus: &[4, 5, 6, 7, 15],
@@ -238,6 +247,18 @@ const CASES: [Case; 15] = [
         minus: &[15],
         numbers: &[],
     },
+    // Three members, and two names that may be there: there is no room for the need.
+    Case {
+        plus: &[21, 22],
+        minus: &[],
+        numbers: &[1_000_000, 3, 1_010, 2],
+    },
+    // One member at most, which serves both demands.
+    Case {
+        plus: &[14],
+        minus: &[23, 24],
+        numbers: &[1_000_000, 1_030, 100, 0],
+    },
 ];
 
 #[test]
@@ -296,20 +317,33 @@ fn names(
 fn first_names(rt: HostRuntime) -> Result<(), Fail> {
     let core = table(rt.alloc())?;
     let none: &[u32] = &[];
-    // Names with an a and a b; and names that are neither a nor b.
-    let both = branch(rt.alloc(), &core, none, &[11, 12])?;
-    let words = names(rt.alloc(), &core, &both, 3, 4)?;
-    let wanted = ["ab", "ba", "aab", "aba"];
-    assert!(rt; words.as_slice().len() == wanted.len());
-    for (word, text) in words.as_slice().iter().zip(wanted) {
-        assert_eq!(rt; word.as_text(), text);
-    }
-    let others = branch(rt.alloc(), &core, &[4, 5], none)?;
-    let words = names(rt.alloc(), &core, &others, 0, 3)?;
-    let wanted = ["", "c", "d"];
-    assert!(rt; words.as_slice().len() == wanted.len());
-    for (word, text) in words.as_slice().iter().zip(wanted) {
-        assert_eq!(rt; word.as_text(), text);
+    // Names with an a and a b; names that are neither a nor b; the names a and b; and those that begin with a and end
+    // with b.
+    let cases = [
+        (
+            none,
+            [11, 12].as_slice(),
+            3,
+            4,
+            ["ab", "ba", "aab", "aba"].as_slice(),
+        ),
+        ([4, 5].as_slice(), none, 0, 3, ["", "c", "d"].as_slice()),
+        ([21, 22].as_slice(), none, 1, 2, ["a", "b"].as_slice()),
+        (
+            [14].as_slice(),
+            [23, 24].as_slice(),
+            3,
+            1,
+            ["ab"].as_slice(),
+        ),
+    ];
+    for (plus, minus, cell, count, wanted) in cases {
+        let branch = branch(rt.alloc(), &core, plus, minus)?;
+        let words = names(rt.alloc(), &core, &branch, cell, count)?;
+        assert!(rt; words.as_slice().len() == wanted.len());
+        for (word, text) in words.as_slice().iter().zip(wanted) {
+            assert_eq!(rt; word.as_text(), *text);
+        }
     }
     Ok(())
 }

@@ -6,6 +6,6 @@ use Rattle.js_cells.proofs.tests.table.Goals as goal
 
 pub make-requires-clause-table : goal.make-requires-clause-table
 make-requires-clause-table c =
-    let ranks : c.from_vec-2.result ≡ 0 ∷ 0 ∷ 0 ∷ 0 ∷ 1 ∷ 0 ∷ 0 ∷ 0 ∷ 0 ∷ [] =
+    let ranks : c.from_vec-2.result ≡ 0 ∷ 0 ∷ 0 ∷ 0 ∷ 1 ∷ 0 ∷ 0 ∷ 0 ∷ 0 ∷ 0 ∷ 0 ∷ [] =
     c.from_vec-2.ensures ∙ c.in_ok-ranks.ensures.items in
     ap₂ (λ ns rs. is_table (map node_view ns) rs) (c.from_vec.ensures ∙ c.in_ok-nodes.ensures.items) ranks ∙ refl

@@ -20,4 +20,4 @@ object_words-requires-clause-found c =
     names-there c.args.core.now.positions c.args.branch.now.set (map signed_view c.as_slice-set.result.now)
     c.in_ok-found.found.automaton c.as_slice-set.ensures c.in_ok-found.ensures.names (cells_view c.in_ok-cells.cells)
     c.in_ok-cells.ensures.cells c.args.cell c.args.count c.len.result c.in_ok-most.most c.len.ensures l
-    c.in_ok-most.ensures m
+    c.in_ok-most.ensures.number m
