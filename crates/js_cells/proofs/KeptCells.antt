@@ -1,6 +1,6 @@
 -- The cells by an automaton whose rows tell what the literals say are cells of all names, and the numbers of words that
 -- are listed are exact.
-use Rattle.std.proofs.Common.{◌≡◌, ℕ, ◌*◌, ◌<◌, ◌≤◌, min, Bool, true, nat_eq, List, [], ◌++◌, take, length, get_or, refl, ap, sym, ◌∙◌, subst, arith}
+use Rattle.std.proofs.Common.{◌≡◌, ℕ, ◌*◌, ◌<◌, ◌≤◌, min, true, nat_eq, List, [], ◌++◌, take, length, get_or, refl, ap, sym, ◌∙◌, arith}
 use Rattle.std.specs.List.{list_all}
 use Rattle.std.proofs.lemmas.Bool.{and_from, and_parts, eqb-true}
 use Rattle.std.proofs.lemmas.List.{get_or-map, length-map, length-take-le}
@@ -8,7 +8,7 @@ use Rattle.std.proofs.lemmas.List.Folds.{list_all-append}
 use Rattle.documents.specs.Tests.{every}
 use Rattle.documents.specs.Tests as D
 use Rattle.patterns.specs.CharSet.{is_scalar}
-use Rattle.list_laws.specs.In.{IsIn, Distinct}
+use Rattle.list_laws.specs.In.{IsIn}
 use Rattle.list_laws.proofs.Lists.{in_get, in_take}
 use Rattle.list_laws.proofs.Tests.{from_filter}
 use Rattle.word_states.specs.Atom.{Atom}
@@ -20,7 +20,7 @@ use Rattle.positions.specs.Position.{Position}
 use Rattle.goals.specs.Signed.{Signed}
 use Rattle.cells.specs.Cells.{Cells, naming, vector, place, vectors_of, cell_of, cells}
 use Rattle.cells.specs.WordsInOrder.{shorter}
-use Rattle.cell_laws.specs.RightCells.{IsOf, AreCells}
+use Rattle.cell_laws.specs.RightCells.{AreCells}
 use Rattle.cell_laws.specs.RowTables.{IsRowOf}
 use Rattle.cell_laws.proofs.CellsOfRows.{cells_are}
 use Rattle.cell_laws.proofs.Characters as C

@@ -1,12 +1,12 @@
 -- Rows by the lengths of their words, as they are gone through in order.
-use Rattle.std.proofs.Common.{◌≡◌, ℕ, suc, ◌+◌, ◌<◌, ◌≤◌, max, inl, inr, List, [], length, get_or, refl, ap, sym, subst, arith}
+use Rattle.std.proofs.Common.{◌≡◌, ℕ, ◌+◌, ◌<◌, ◌≤◌, max, inl, inr, List, [], length, get_or, refl, ap, subst, arith}
 use Rattle.std.proofs.lemmas.Bool.{cases_lt}
 use Rattle.word_states.specs.Atom.{Atom}
 use Rattle.word_states.specs.Classes.{class_count}
 use Rattle.word_states.specs.Rows.{AreRows}
 use Rattle.cell_laws.proofs.Rows.{target_in, first_row}
 use Rattle.js_cells.specs.Lengths.{IsNamed}
-use Rattle.js_cells.proofs.RowLengths.{row_shortest, later_longer, target_longer, IsLed, led_to}
+use Rattle.js_cells.proofs.RowLengths.{row_shortest, later_longer, target_longer, led_to}
 
 -- the rows before this one were gone through: its word has n letters, the rows before `end` have words of no more, and
 -- those behind of more; the rows that were led to are before `named`, and their words have one letter more at most

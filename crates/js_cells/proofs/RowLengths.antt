@@ -1,6 +1,6 @@
 -- The lengths of the words of rows: rows stand by length, no word that leads to a row is shorter than the row's, and
 -- each row but the first is led to by a row whose word is shorter by one.
-use Rattle.std.proofs.Common.{◌≡◌, ℕ, zero, suc, ◌<◌, ◌≤◌, inl, inr, ⊎_elim, List, [], ◌∷◌, ◌++◌, map, true, length, get_or, refl, ap, sym, subst, length-append, arith}
+use Rattle.std.proofs.Common.{◌≡◌, ℕ, zero, suc, ◌<◌, ◌≤◌, inl, inr, ⊎_elim, List, [], ◌∷◌, ◌++◌, map, true, length, get_or, ap, sym, subst, length-append, arith}
 use Rattle.std.specs.List.{list_all}
 use Rattle.patterns.specs.CharSet.{is_scalar}
 use Rattle.list_laws.specs.In.{IsIn}

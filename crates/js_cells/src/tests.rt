@@ -110,7 +110,8 @@ fn answer(alloc: Global, core: &Core, positions: &[u32]) -> Result<String, Fail>
 fn by_hand(rt: HostRuntime) -> Result<(), Fail> {
     let core = table(rt.alloc())?;
     // The first set has rows of "", a, b, aa and ba; the second of "", a, b, c and d; the third of "", a, x, y and yy;
-    // the last of "", a, b and c. The third has one literal fewer that speaks of names than positions, the fourth none.
+    // the fourth of "" and a, since a state tells whether a word is empty; the last of "", a, b and c. The third has one
+    // literal fewer that speaks of names than positions, the fourth none.
     let cases = [
         (
             [0, 1, 3].as_slice(),
@@ -121,7 +122,7 @@ fn by_hand(rt: HostRuntime) -> Result<(), Fail> {
             "-+ 65537 0:  d e;++ 1 1: a;-- 65537 1: b c ac; 0 1 2 2 0",
         ),
         ([6, 7].as_slice(), "- 65537 0:  a b;+ 2 1: x yy; 0 0 1 0 1"),
-        ([7].as_slice(), " 65537 0:  a b; 0"),
+        ([7].as_slice(), " 65537 0:  a b; 0 0"),
         ([10].as_slice(), "- 65537 0:  c d;+ 2 1: a b; 0 1 1 0"),
     ];
     for (positions, wanted) in cases {

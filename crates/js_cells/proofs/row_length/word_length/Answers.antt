@@ -1,4 +1,4 @@
-use Rattle.std.proofs.Common.{◌+◌, ◌<◌, length, sym, subst, ap₂, ◌∙◌, arith}
+use Rattle.std.proofs.Common.{◌+◌, ◌<◌, length, sym, subst, arith}
 use Rattle.js_automaton.specs.AutomatonView.{atoms_of, rows_of}
 use Rattle.js_cells.proofs.Levels.{IsLevel, level_begins, level_stays, level_ends}
 use Rattle.js_cells.proofs.row_length.word_length.Goals.{then-before-end, else-before-end}

@@ -1,5 +1,4 @@
-use Rattle.std.proofs.Common.{◌≡◌, ◌<◌, [], map, length, get_or, sym, ◌∙◌, subst, arith}
-use Rattle.cells.specs.Cells.{cell_of}
+use Rattle.std.proofs.Common.{◌<◌, map, length, sym, ◌∙◌, subst, arith}
 use Rattle.js_algebra.specs.View.{signed_view}
 use Rattle.js_automaton.specs.AutomatonView.{atoms_of, rows_of}
 use Rattle.js_cells.specs.View.{cells_view}

@@ -1,4 +1,4 @@
-use Rattle.std.proofs.Common.{below_more, sym, ◌∙◌}
+use Rattle.std.proofs.Common.{below_more, ◌∙◌}
 use Rattle.js_cells.proofs.name_cells.Cells.first_row.Goals as goal
 
 pub loop-row-preserved : goal.loop-row-preserved

@@ -1,4 +1,4 @@
-use Rattle.std.proofs.Common.{[], ◌∷◌, map, length, sym, ap, ◌∙◌, arith}
+use Rattle.std.proofs.Common.{[], ◌∷◌, map, sym, ap, ◌∙◌, arith}
 use Rattle.cells.specs.Cells.{naming}
 use Rattle.js_algebra.specs.View.{signed_view}
 use Rattle.js_automaton.specs.AutomatonView.{atoms_of, rows_of}
