@@ -5,5 +5,6 @@ mod Shallow
 mod GoalCounts
 mod AllCounts
 mod Counts
+mod Crossing
 mod NoWords
 mod Truths

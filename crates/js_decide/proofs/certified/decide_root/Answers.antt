@@ -1,13 +1,19 @@
+use denote.Param.Send.{sendable}
 use Rattle.std.proofs.Common.{◌∙◌}
+use Rattle.std.proofs.Crossing.{crosses}
 use Rattle.alternatives.specs.Limit.{most_goals, most_total}
 use Rattle.search.specs.Explored.{explored}
 use Rattle.js_explore.specs.ExploredView.{found_view}
 use Rattle.js_expander.specs.Found.{goal_expansion, cells_at}
 use Rattle.js_rounds.specs.Slots.{words_by}
 use Rattle.js_decide.specs.View.{verdict_view}
+use Rattle.js_decide.proofs.Crossing.{Core-sync}
 use Rattle.js_decide.proofs.Told.{all_told}
 use Rattle.js_decide.proofs.Deciding.{taken_inside, certified_root}
 use Rattle.js_decide.proofs.certified.decide_root.Goals as goal
+
+pub search_root-requires-sync-E : goal.search_root-requires-sync-E
+search_root-requires-sync-E g c κs = search (sendable, crosses, Core-sync) depth 40
 
 pub certified-requires-clause-inside : goal.certified-requires-clause-inside
 certified-requires-clause-inside g c =
