@@ -13,12 +13,13 @@ use js_algebra::{Core, Signed};
 use js_arrays::{ArrayFrame, MOST_COUNTS};
 use js_bounds::Bounds;
 use js_doc::Memory;
+use js_expansion::Dead;
 use js_lines::CertLine;
-use js_plan_lines::{DeadGoals, PlanForm, add_plan_lines};
+use js_plan_lines::{PlanForm, add_plan_lines};
 use std::alloc::Global;
 
 /// Adds the lines of a set's plans at arrays.
-pub(crate) fn add_array_lines<D: DeadGoals>(
+pub(crate) fn add_array_lines<D: Dead>(
     alloc: Global,
     core: &Core,
     dead: &D,
@@ -27,7 +28,7 @@ pub(crate) fn add_array_lines<D: DeadGoals>(
 ) -> Result<(), Memory>
     requires { are_in_table core.now.positions (map signed_view set.now) ≡ true }
     ensures { OnOk result (map line_view lines.new.items ≡ map line_view lines.old.items
-        ++ L.Arrays ∷ plan_lines (D.number dead.now) Duties.OfArrays core.now.positions
+        ++ L.Arrays ∷ plan_lines (D.number_of dead.now) Duties.OfArrays core.now.positions
         (A.array_frame core.now.positions (map signed_view set.now))) }
 {
     let frame = frame_of(alloc, core, set)?;

@@ -8,8 +8,8 @@ ghost use Rattle.js_lines.specs.View.{line_view};
 use crate::tree::add_tree_lines;
 use js_algebra::{Core, Goal, JsonKind};
 use js_doc::Memory;
+use js_expansion::Dead;
 use js_lines::CertLine;
-use js_plan_lines::DeadGoals;
 use js_tableau::Tree;
 use std::alloc::Global;
 
@@ -17,7 +17,7 @@ use std::alloc::Global;
 ///
 /// Where a tree has too many ends, or what a saturated set asks of a document passes a limit, that is want of memory.
 /// None is passed where the goal was expanded without a limit.
-pub fn add_goal_lines<D: DeadGoals>(
+pub fn add_goal_lines<D: Dead>(
     alloc: Global,
     core: &Core,
     dead: &D,
@@ -26,7 +26,7 @@ pub fn add_goal_lines<D: DeadGoals>(
 ) -> Result<(), Memory>
     requires { are_in_table core.now.positions goal.now ≡ true }
     ensures { OnOk result (map line_view lines.new.items ≡ map line_view lines.old.items
-        ++ goal_lines (D.number dead.now) core.now.positions goal.now) }
+        ++ goal_lines (D.number_of dead.now) core.now.positions goal.now) }
 {
     for kind in JsonKind::ALL {
         add_kind_lines(alloc, core, dead, goal, kind, lines)?;
@@ -35,7 +35,7 @@ pub fn add_goal_lines<D: DeadGoals>(
 }
 
 /// Adds the line of a kind, and the lines of the goal's tree there.
-fn add_kind_lines<D: DeadGoals>(
+fn add_kind_lines<D: Dead>(
     alloc: Global,
     core: &Core,
     dead: &D,
@@ -45,7 +45,7 @@ fn add_kind_lines<D: DeadGoals>(
 ) -> Result<(), Memory>
     requires { are_in_table core.now.positions goal.now ≡ true }
     ensures { OnOk result (map line_view lines.new.items ≡ map line_view lines.old.items
-        ++ kind_lines (D.number dead.now) core.now.positions goal.now (kind_view kind)) }
+        ++ kind_lines (D.number_of dead.now) core.now.positions goal.now (kind_view kind)) }
 {
     lines.push(CertLine::At(kind))?;
     let tree = Tree::new(alloc, core, goal)?;

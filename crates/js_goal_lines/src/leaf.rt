@@ -12,14 +12,14 @@ use crate::objects::add_object_lines;
 use js_algebra::{Core, JsonKind, Signed};
 use js_bounds::crossed;
 use js_doc::Memory;
+use js_expansion::Dead;
 use js_lines::CertLine;
 use js_objects::KeptNames;
-use js_plan_lines::DeadGoals;
 use js_row_lines::add_string_lines;
 use std::alloc::Global;
 
 /// Adds the lines of a saturated set: that its bounds cross, or what shows that no document of the kind meets it.
-pub(crate) fn add_leaf_lines<D: DeadGoals>(
+pub(crate) fn add_leaf_lines<D: Dead>(
     alloc: Global,
     core: &Core,
     dead: &D,
@@ -30,7 +30,7 @@ pub(crate) fn add_leaf_lines<D: DeadGoals>(
 ) -> Result<(), Memory>
     requires { are_in_table core.now.positions (map signed_view set.now) ≡ true }
     ensures { OnOk result (map line_view lines.new.items ≡ map line_view lines.old.items
-        ++ leaf_lines (D.number dead.now) core.now.positions (kind_view kind) (map signed_view set.now)) }
+        ++ leaf_lines (D.number_of dead.now) core.now.positions (kind_view kind) (map signed_view set.now)) }
 {
     if is_crossed(core, kind, set) {
         lines.push(CertLine::Count)?;
@@ -53,7 +53,7 @@ fn is_crossed(core: &Core, kind: JsonKind, set: &[Signed]) -> bool
 }
 
 /// Adds the lines of a set whose bounds don't cross. At null it has none: null meets it.
-fn add_open_lines<D: DeadGoals>(
+fn add_open_lines<D: Dead>(
     alloc: Global,
     core: &Core,
     dead: &D,
@@ -64,7 +64,7 @@ fn add_open_lines<D: DeadGoals>(
 ) -> Result<(), Memory>
     requires { are_in_table core.now.positions (map signed_view set.now) ≡ true }
     ensures { OnOk result (map line_view lines.new.items ≡ map line_view lines.old.items
-        ++ open_lines (D.number dead.now) core.now.positions (kind_view kind) (map signed_view set.now)) }
+        ++ open_lines (D.number_of dead.now) core.now.positions (kind_view kind) (map signed_view set.now)) }
 {
     match kind {
         JsonKind::Null => Ok(()),

@@ -15,9 +15,10 @@ use js_algebra::{Core, Signed};
 use js_automaton::Automaton;
 use js_bounds::Bounds;
 use js_doc::Memory;
+use js_expansion::Dead;
 use js_lines::CertLine;
 use js_objects::{KeptNames, MOST_COUNTS, Names, ObjectFrame};
-use js_plan_lines::{DeadGoals, PlanForm, add_plan_lines};
+use js_plan_lines::{PlanForm, add_plan_lines};
 use js_plans::PlanFrame;
 use js_row_lines::{add_cap_lines, add_row_lines};
 use std::alloc::Global;
@@ -25,7 +26,7 @@ use std::alloc::Global;
 /// Adds the lines of a set's rows of names, of bounds of their cells, and of its plans at objects.
 ///
 /// What is kept of names serves a later set that says the same of them, and changes no line.
-pub(crate) fn add_object_lines<D: DeadGoals>(
+pub(crate) fn add_object_lines<D: Dead>(
     alloc: Global,
     core: &Core,
     dead: &D,
@@ -35,7 +36,7 @@ pub(crate) fn add_object_lines<D: DeadGoals>(
 ) -> Result<(), Memory>
     requires { are_in_table core.now.positions (map signed_view set.now) ≡ true }
     ensures { OnOk result (map line_view lines.new.items ≡ map line_view lines.old.items
-        ++ object_lines (D.number dead.now) core.now.positions (map signed_view set.now)) }
+        ++ object_lines (D.number_of dead.now) core.now.positions (map signed_view set.now)) }
 {
     match Names::of_set(alloc, core, set, kept.names.take()) {
         Ok(names) => {
@@ -48,7 +49,7 @@ pub(crate) fn add_object_lines<D: DeadGoals>(
 }
 
 /// Adds the lines of a set by the automaton of its names.
-fn add_lines_of<D: DeadGoals>(
+fn add_lines_of<D: Dead>(
     alloc: Global,
     core: &Core,
     dead: &D,
@@ -59,7 +60,7 @@ fn add_lines_of<D: DeadGoals>(
     requires in_table { are_in_table core.now.positions (map signed_view set.now) ≡ true }
     requires automaton { IsOfNames core.now.positions (map signed_view set.now) automaton.now }
     ensures { OnOk result (map line_view lines.new.items ≡ map line_view lines.old.items
-        ++ object_lines (D.number dead.now) core.now.positions (map signed_view set.now)) }
+        ++ object_lines (D.number_of dead.now) core.now.positions (map signed_view set.now)) }
 {
     let frame = frame_of(alloc, core, set, automaton)?;
     add_member_lines(alloc, dead, automaton, &frame, lines)
@@ -92,7 +93,7 @@ fn frame_of<'a>(
 }
 
 /// Adds the lines of the rows of an automaton, of the bounds of the frame's cells, and of its plans.
-fn add_member_lines<D: DeadGoals>(
+fn add_member_lines<D: Dead>(
     alloc: Global,
     dead: &D,
     automaton: &Automaton,
@@ -102,7 +103,7 @@ fn add_member_lines<D: DeadGoals>(
     requires table { frame.now.cells.core.now.positions ≡ frame.now.core.now.positions }
     requires rows { rows_of frame.now.cells.automaton.now ≡ rows_of automaton.now }
     ensures { OnOk result (map line_view lines.new.items ≡ map line_view lines.old.items
-        ++ member_lines (D.number dead.now) frame.now.core.now.positions (map signed_view frame.now.set.now)
+        ++ member_lines (D.number_of dead.now) frame.now.core.now.positions (map signed_view frame.now.set.now)
         (atoms_of automaton.now) (rows_of automaton.now) (cells_view frame.now.cells) (frame_view frame.now)) }
 {
     let capped = capped(alloc, frame)?;

@@ -11,14 +11,14 @@ ghost use Rattle.js_tableau.specs.Progress.{IsTree, AfterStep, left, told_set};
 use crate::leaf::add_leaf_lines;
 use js_algebra::{Core, JsonKind};
 use js_doc::Memory;
+use js_expansion::Dead;
 use js_lines::CertLine;
 use js_objects::KeptNames;
-use js_plan_lines::DeadGoals;
 use js_tableau::{Step, Tree};
 use std::alloc::Global;
 
 /// Adds the lines of the steps that a tree has left. What is kept of names serves its branches one after another.
-pub(crate) fn add_tree_lines<D: DeadGoals>(
+pub(crate) fn add_tree_lines<D: Dead>(
     alloc: Global,
     core: &Core,
     dead: &D,
@@ -28,7 +28,7 @@ pub(crate) fn add_tree_lines<D: DeadGoals>(
 ) -> Result<(), Memory>
     requires { IsTree core.now.positions (kind_view kind) tree }
     ensures { OnOk result (map line_view lines.new.items ≡ map line_view lines.old.items
-        ++ tree_lines (leaf_lines (D.number dead.now) core.now.positions (kind_view kind))
+        ++ tree_lines (leaf_lines (D.number_of dead.now) core.now.positions (kind_view kind))
         (left core.now.positions (kind_view kind) tree)) }
 {
     let mut kept = KeptNames::new();
@@ -51,7 +51,7 @@ fn next_step(core: &Core, kind: JsonKind, tree: &mut Tree) -> Result<Option<Step
 }
 
 /// Adds the lines of the step that was told last: one, or those of a saturated end.
-fn add_step_lines<D: DeadGoals>(
+fn add_step_lines<D: Dead>(
     alloc: Global,
     core: &Core,
     dead: &D,
@@ -63,7 +63,7 @@ fn add_step_lines<D: DeadGoals>(
 ) -> Result<(), Memory>
     requires { IsTree core.now.positions (kind_view kind) tree.now }
     ensures { OnOk result (map line_view lines.new.items ≡ map line_view lines.old.items
-        ++ step_lines (leaf_lines (D.number dead.now) core.now.positions (kind_view kind))
+        ++ step_lines (leaf_lines (D.number_of dead.now) core.now.positions (kind_view kind))
         (step_view core.now.positions (kind_view kind) (told_set tree.now) step)) }
 {
     match step {
@@ -82,7 +82,7 @@ fn add_line(line: CertLine, lines: &mut Vec<CertLine>) -> Result<(), Memory>
 }
 
 /// Adds the lines of the set that was told last.
-fn add_set_lines<D: DeadGoals>(
+fn add_set_lines<D: Dead>(
     alloc: Global,
     core: &Core,
     dead: &D,
@@ -93,7 +93,7 @@ fn add_set_lines<D: DeadGoals>(
 ) -> Result<(), Memory>
     requires { IsTree core.now.positions (kind_view kind) tree.now }
     ensures { OnOk result (map line_view lines.new.items ≡ map line_view lines.old.items
-        ++ leaf_lines (D.number dead.now) core.now.positions (kind_view kind) (told_set tree.now)) }
+        ++ leaf_lines (D.number_of dead.now) core.now.positions (kind_view kind) (told_set tree.now)) }
 {
     let set = tree.set(alloc)?;
     add_leaf_lines(alloc, core, dead, kind, set.as_slice(), kept, lines)

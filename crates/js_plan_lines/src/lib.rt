@@ -1,12 +1,12 @@
 //! The lines that show that nothing is arranged by the plans of a frame, as they are printed.
 //!
-//! A frame of arrays or of objects is a `PlanFrame`; which goals no document meets is told by `DeadGoals`. A plan is
-//! kept as what serves each of its demands so far; what is placed, and which demands that serves, is read off that.
+//! A frame of arrays or of objects is a `PlanFrame`. Which goals no document meets is told by `Dead`: a goal without
+//! number counts as met. A plan is kept as what serves each of its demands so far; what is placed, and which demands
+//! that serves, is read off that.
 #![tactic(auto)]
 
 mod before;
 mod choices;
-mod dead_goals;
 mod extent;
 mod form;
 mod lines;
@@ -14,6 +14,5 @@ mod path;
 mod placed;
 mod tree;
 
-pub use dead_goals::DeadGoals;
 pub use form::PlanForm;
 pub use tree::add_plan_lines;

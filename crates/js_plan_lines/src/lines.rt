@@ -10,12 +10,12 @@ ghost use Rattle.js_plan_lines.specs.Reach.{IsPath};
 ghost use Rattle.js_plan_lines.specs.Cited.{entry_in};
 
 use crate::choices::count;
-use crate::dead_goals::DeadGoals;
 use crate::extent::Placed;
 use crate::form::PlanForm;
 use crate::path;
 use crate::placed::{first_cited, goal_of};
 use js_doc::Memory;
+use js_expansion::Dead;
 use js_lines::{CertEnd, CertLine, ShortEntry, ShortEntryList};
 use js_plans::{Place, PlanFrame, Server};
 use std::alloc::Global;
@@ -94,14 +94,14 @@ fn kept_unless(number: Option<u32>) -> ShortEntry
 }
 
 /// The entry of a cell with such members.
-fn entry<F: PlanFrame, D: DeadGoals>(
+fn entry<F: PlanFrame, D: Dead>(
     alloc: Global,
     frame: &F,
     dead: &D,
     members: &[u32],
     cell: u32,
 ) -> Result<ShortEntry, Memory>
-    ensures { IfOk result (λ e. entry_view e ≡ entry_in (D.number dead.now) (F.table frame.now) (F.frame frame.now)
+    ensures { IfOk result (λ e. entry_view e ≡ entry_in (D.number_of dead.now) (F.table frame.now) (F.frame frame.now)
         members.now cell) }
 {
     if frame.room(cell, count(members, cell)) == 0 {
@@ -113,13 +113,13 @@ fn entry<F: PlanFrame, D: DeadGoals>(
     }
 }
 
-fn entries<F: PlanFrame, D: DeadGoals>(
+fn entries<F: PlanFrame, D: Dead>(
     alloc: Global,
     frame: &F,
     dead: &D,
     members: &[u32],
 ) -> Result<Vec<ShortEntry>, Memory>
-    ensures { IfOk result (λ v. map entry_view v.items ≡ map (entry_in (D.number dead.now) (F.table frame.now)
+    ensures { IfOk result (λ v. map entry_view v.items ≡ map (entry_in (D.number_of dead.now) (F.table frame.now)
         (F.frame frame.now) members.now) (F.frame frame.now).cells) }
 {
     let mut entries = Vec::new(alloc);
@@ -130,7 +130,7 @@ fn entries<F: PlanFrame, D: DeadGoals>(
 }
 
 /// Adds the line that tells which fillers a plan may have.
-fn add_short<F: PlanFrame, D: DeadGoals>(
+fn add_short<F: PlanFrame, D: Dead>(
     alloc: Global,
     frame: &F,
     dead: &D,
@@ -139,7 +139,7 @@ fn add_short<F: PlanFrame, D: DeadGoals>(
 ) -> Result<(), Memory>
     requires { length path.now ≤ length (F.frame frame.now).demands }
     ensures { OnOk result (map line_view lines.new.items ≡ map line_view lines.old.items
-        ++ L.Short (map (entry_at (D.number dead.now) (F.table frame.now) (F.frame frame.now)
+        ++ L.Short (map (entry_at (D.number_of dead.now) (F.table frame.now) (F.frame frame.now)
         (plan_after (F.frame frame.now) path.now)) (F.frame frame.now).cells) ∷ []) }
 {
     let members = path::cells(alloc, path)?;
@@ -149,7 +149,7 @@ fn add_short<F: PlanFrame, D: DeadGoals>(
 }
 
 /// Adds the line of a complete plan.
-pub(crate) fn add_complete<F: PlanFrame, D: DeadGoals>(
+pub(crate) fn add_complete<F: PlanFrame, D: Dead>(
     alloc: Global,
     frame: &F,
     form: PlanForm,
@@ -159,7 +159,7 @@ pub(crate) fn add_complete<F: PlanFrame, D: DeadGoals>(
 ) -> Result<(), Memory>
     requires { IsPath (F.frame frame.now) path.now }
     ensures { OnOk result (map line_view lines.new.items ≡ map line_view lines.old.items
-        ++ complete_line (D.number dead.now) (form_view form) (F.table frame.now) (F.frame frame.now)
+        ++ complete_line (D.number_of dead.now) (form_view form) (F.table frame.now) (F.frame frame.now)
         (plan_after (F.frame frame.now) path.now) ∷ []) }
 {
     match first_cited(alloc, frame, dead, path)? {

@@ -11,11 +11,11 @@ ghost use Rattle.js_plan_lines.specs.Kept.{WasClear, AreBefore};
 ghost use Rattle.js_plan_lines.specs.Cited.{cited_from};
 
 use crate::before::{Before, is_kept};
-use crate::dead_goals::DeadGoals;
 use crate::extent::Placed;
 use crate::path::{self, place_of};
 use js_algebra::{Goal, Signed, form};
 use js_doc::Memory;
+use js_expansion::Dead;
 use js_plans::{Place, PlanFrame, Server};
 use std::alloc::Global;
 
@@ -125,8 +125,8 @@ pub(crate) fn first_clash<F: PlanFrame>(
 }
 
 /// The number of the goal of a list, if the list forms one.
-fn number_of<D: DeadGoals>(dead: &D, goal: Option<Goal>) -> Option<u32>
-    ensures { result ≡ number_of (D.number dead.now) goal }
+fn number_of<D: Dead>(dead: &D, goal: Option<Goal>) -> Option<u32>
+    ensures { result ≡ number_of (D.number_of dead.now) goal }
 {
     match goal {
         Some(goal) => dead.number(&goal),
@@ -135,14 +135,14 @@ fn number_of<D: DeadGoals>(dead: &D, goal: Option<Goal>) -> Option<u32>
 }
 
 /// The number of the first that is placed and that no document meets, with the number of its goal.
-pub(crate) fn first_cited<F: PlanFrame, D: DeadGoals>(
+pub(crate) fn first_cited<F: PlanFrame, D: Dead>(
     alloc: Global,
     frame: &F,
     dead: &D,
     path: &[Server],
 ) -> Result<Option<(u64, u32)>, Memory>
     requires { IsPath (F.frame frame.now) path.now }
-    ensures { IfOk result (λ o. o ≡ cited_from (D.number dead.now) (F.table frame.now) (F.frame frame.now) 0
+    ensures { IfOk result (λ o. o ≡ cited_from (D.number_of dead.now) (F.table frame.now) (F.frame frame.now) 0
         (placed (F.frame frame.now) (plan_after (F.frame frame.now) path.now))) }
 {
     let placed = Placed::of(frame, path);

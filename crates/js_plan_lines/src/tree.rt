@@ -14,12 +14,12 @@ ghost use Rattle.js_plan_lines.specs.Kept.{WasClear};
 ghost use Rattle.js_plan_lines.specs.Left.{entry, Visits};
 
 use crate::choices::choices;
-use crate::dead_goals::DeadGoals;
 use crate::extent::is_over;
 use crate::form::PlanForm;
 use crate::lines::{add_at, add_complete};
 use crate::placed::first_clash;
 use js_doc::Memory;
+use js_expansion::Dead;
 use js_lines::{CertEnd, CertLine};
 use js_plans::{PlanFrame, Server};
 use std::alloc::Global;
@@ -33,7 +33,7 @@ struct Pending {
 
 /// Adds the lines that show that nothing is arranged by the plans of the frame, where goals with a number have no
 /// document. Where a number of what is placed needs more than 32 bits, that is want of memory.
-pub fn add_plan_lines<F: PlanFrame, D: DeadGoals>(
+pub fn add_plan_lines<F: PlanFrame, D: Dead>(
     alloc: Global,
     frame: &F,
     form: PlanForm,
@@ -41,7 +41,7 @@ pub fn add_plan_lines<F: PlanFrame, D: DeadGoals>(
     lines: &mut Vec<CertLine>,
 ) -> Result<(), Memory>
     ensures { OnOk result (map line_view lines.new.items ≡ map line_view lines.old.items
-        ++ plan_lines (D.number dead.now) (form_view form) (F.table frame.now) (F.frame frame.now)) }
+        ++ plan_lines (D.number_of dead.now) (form_view form) (F.table frame.now) (F.frame frame.now)) }
 {
     let mut path = Vec::new(alloc);
     let mut pending = Vec::new(alloc);
@@ -79,7 +79,7 @@ fn go_to(next: Pending, path: &mut Vec<Server>) -> Result<(), Memory>
 }
 
 /// Adds the line of the plan of the path. Its options are still to be visited.
-fn visit<F: PlanFrame, D: DeadGoals>(
+fn visit<F: PlanFrame, D: Dead>(
     alloc: Global,
     frame: &F,
     form: PlanForm,
@@ -90,8 +90,9 @@ fn visit<F: PlanFrame, D: DeadGoals>(
 ) -> Result<(), Memory>
     requires path { IsPath (F.frame frame.now) path.now }
     requires clear { WasClear (F.table frame.now) (F.frame frame.now) path.now }
-    ensures { OnOk result (Visits (D.number dead.now) (form_view form) (F.table frame.now) (F.frame frame.now) path.now
-        pending.old.items pending.new.items (map line_view lines.old.items) (map line_view lines.new.items)) }
+    ensures { OnOk result (Visits (D.number_of dead.now) (form_view form) (F.table frame.now) (F.frame frame.now)
+        path.now pending.old.items pending.new.items (map line_view lines.old.items)
+        (map line_view lines.new.items)) }
 {
     if is_over(frame, path) {
         lines.push(CertLine::Count)?;

@@ -16,13 +16,13 @@ use crate::unmet::Unmet;
 use indexmap::IndexSet;
 use js_algebra::{Core, Goal};
 use js_doc::Memory;
+use js_expansion::Dead;
 use js_goal_lines::add_goal_lines;
 use js_lines::{CertLine, append_line};
-use js_plan_lines::DeadGoals;
 use std::alloc::Global;
 
 /// Puts the entry of the goal at that place at the end, and lists what its lines cite.
-fn append_entry<D: DeadGoals>(
+fn append_entry<D: Dead>(
     alloc: Global,
     core: &Core,
     dead: &D,
@@ -33,9 +33,9 @@ fn append_entry<D: DeadGoals>(
 ) -> Result<(), Memory>
     requires { are_in_table core.now.positions goal.now ≡ true }
     ensures listed { OnOk result (listed.new.keys ≡ mention_all nat_eq listed.old.keys
-        (cited (goal_lines (D.number dead.now) core.now.positions goal.now))) }
+        (cited (goal_lines (D.number_of dead.now) core.now.positions goal.now))) }
     ensures text { OnOk result (string_bytes text.new ≡ string_bytes text.old ++ lines_text (L.Entry place
-        ∷ map (renamed (place_of listed.new.keys)) (goal_lines (D.number dead.now) core.now.positions goal.now))) }
+        ∷ map (renamed (place_of listed.new.keys)) (goal_lines (D.number_of dead.now) core.now.positions goal.now))) }
 {
     let mut lines = Vec::new(alloc);
     add_goal_lines(alloc, core, dead, goal, &mut lines)?;

@@ -3,8 +3,8 @@
 ghost use Rattle.std.specs.Prelude.{◌≡◌, true};
 
 use js_algebra::Goal;
+use js_expansion::Dead;
 use js_explore::Explored;
-use js_plan_lines::DeadGoals;
 use js_rounds::Rounds;
 
 /// Explored goals, and rounds of them that were run. Contracts see the goals, and the numbers of those that no round
@@ -26,10 +26,10 @@ impl<'a> Unmet<'a> {
     }
 }
 
-impl DeadGoals for Unmet<'_> {
-    ghost use Rattle.js_refute.specs.Unmet.{number_of};
+impl Dead for Unmet<'_> {
+    ghost use Rattle.js_refute.specs.Unmet as U;
 
-    ghost number = { number_of };
+    ghost number_of = { U.number_of };
 
     fn number(&self, goal: &Goal) -> Option<u32> {
         let number = self.explored.number(goal)?;

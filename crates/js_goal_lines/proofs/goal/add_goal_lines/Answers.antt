@@ -17,7 +17,7 @@ loop-kind-init g c = refl
 
 pub loop-kind-preserved : goal.loop-kind-preserved
 loop-kind-preserved g c =
-    let number = g.D.DeadGoals.number c.args.dead.now in
+    let number = g.D.Dead.number_of c.args.dead.now in
     let T = c.args.core.now.positions in
     let f = kind_lines number T c.args.goal.now in
     let i = c.loop-kind.kind-index in

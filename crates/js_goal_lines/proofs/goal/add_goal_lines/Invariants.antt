@@ -7,7 +7,7 @@ use Rattle.js_goal_lines.proofs.goal.add_goal_lines.Given as goal
 
 abbrev pub invariant-loop-kind : goal.invariant-loop-kind
 invariant-loop-kind g l =
-    let number = g.D.DeadGoals.number l.dead in
+    let number = g.D.Dead.number_of l.dead in
     let T = l.core.positions in
     map line_view l.lines.items
     ++ flat_map (kind_lines number T l.goal) (map kind_view (drop l.kind-index l.kind-items))

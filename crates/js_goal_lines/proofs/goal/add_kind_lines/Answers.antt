@@ -16,7 +16,7 @@ pub returns : goal.returns
 returns g c =
     let t = kind_view c.args.kind in
     let T = c.args.core.now.positions in
-    let leaf = leaf_lines (g.D.DeadGoals.number c.args.dead.now) T t in
+    let leaf = leaf_lines (g.D.Dead.number_of c.args.dead.now) T t in
     let before = map line_view c.args.lines.now.items in
     let now = map line_view c.push.new.self.items in
     on_ok _ _ c.add_tree_lines.result

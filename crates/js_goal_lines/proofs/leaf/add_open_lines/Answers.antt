@@ -10,7 +10,7 @@ pub returns-in-Text : goal.returns-in-Text
 returns-in-Text g c =
     same-piece c.add_string_lines.result (map line_view c.args.lines.now.items)
     (map line_view c.add_string_lines.new.lines.items) _ _
-    (ap (λ k. open_lines (g.D.DeadGoals.number c.args.dead.now) c.args.core.now.positions (kind_view k)
+    (ap (λ k. open_lines (g.D.Dead.number_of c.args.dead.now) c.args.core.now.positions (kind_view k)
     (map signed_view c.args.set.now)) (sym c.in-Text.is))
     c.add_string_lines.ensures
 
@@ -18,6 +18,6 @@ pub returns-in-Object : goal.returns-in-Object
 returns-in-Object g c =
     same-piece c.add_object_lines.result (map line_view c.args.lines.now.items)
     (map line_view c.add_object_lines.new.lines.items) _ _
-    (ap (λ k. open_lines (g.D.DeadGoals.number c.args.dead.now) c.args.core.now.positions (kind_view k)
+    (ap (λ k. open_lines (g.D.Dead.number_of c.args.dead.now) c.args.core.now.positions (kind_view k)
     (map signed_view c.args.set.now)) (sym c.in-Object.is))
     c.add_object_lines.ensures

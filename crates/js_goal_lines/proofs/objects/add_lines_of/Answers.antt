@@ -17,7 +17,7 @@ pub returns-in_err-frame : goal.returns-in_err-frame
 returns-in_err-frame g c =
     error_says c.from_residual.result
     (map line_view c.args.lines.now.items ≡ map line_view c.args.lines.now.items
-    ++ object_lines (g.D.DeadGoals.number c.args.dead.now) c.args.core.now.positions (map signed_view c.args.set.now))
+    ++ object_lines (g.D.Dead.number_of c.args.dead.now) c.args.core.now.positions (map signed_view c.args.set.now))
     c.in_err-frame.field-0.0 c.from_residual.ensures.1
 
 pub returns : goal.returns
@@ -25,7 +25,7 @@ returns g c =
     let f = c.in_ok-frame.frame in
     same-piece c.add_member_lines.result (map line_view c.args.lines.now.items)
     (map line_view c.add_member_lines.new.lines.items) _ _
-    (members-are (g.D.DeadGoals.number c.args.dead.now) c.args.core.now.positions (map signed_view c.args.set.now)
+    (members-are (g.D.Dead.number_of c.args.dead.now) c.args.core.now.positions (map signed_view c.args.set.now)
     c.args.automaton.now c.requires.automaton f.core.now.positions (map signed_view f.set.now) (cells_view f.cells)
     (frame_view f) c.in_ok-frame.ensures.table c.in_ok-frame.ensures.cells c.in_ok-frame.ensures.frame)
     c.add_member_lines.ensures

@@ -33,7 +33,7 @@ returns g c =
     let same = ap length c.in_ok-capped.ensures in
     let count : c.in-Ok.count ≡ length (capped (frame_view f)) = omega (arith, number, many, same) in
     on_ok _ _ c.add_plan_lines.result
-    (λ h. members-added (g.D.DeadGoals.number c.args.dead.now) f.core.now.positions x.core.now.positions
+    (λ h. members-added (g.D.Dead.number_of c.args.dead.now) f.core.now.positions x.core.now.positions
     (map signed_view f.set.now) (atoms_of c.args.automaton.now) (rows_of c.args.automaton.now)
     (rows_of x.automaton.now) (cells_view f.cells) (cells_view x) (frame_view f) c.as_slice.result.now
     (L.Objects c.rows.result c.in-Ok.count) (map line_view c.args.lines.now.items)

@@ -17,6 +17,6 @@ pub returns : goal.returns
 returns g c =
     same-piece c.add_leaf_lines.result (map line_view c.args.lines.now.items)
     (map line_view c.add_leaf_lines.new.lines.items) _ _
-    (ap (leaf_lines (g.D.DeadGoals.number c.args.dead.now) c.args.core.now.positions (kind_view c.args.kind))
+    (ap (leaf_lines (g.D.Dead.number_of c.args.dead.now) c.args.core.now.positions (kind_view c.args.kind))
     (c.as_slice.ensures ∙ c.in_ok-set.ensures))
     c.add_leaf_lines.ensures

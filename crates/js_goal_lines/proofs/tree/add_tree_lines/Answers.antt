@@ -12,7 +12,7 @@ pub loop-kept-preserved : goal.loop-kept-preserved
 loop-kept-preserved g c =
     let T = c.args.core.now.positions in
     let t = kind_view c.args.kind in
-    let leaf = leaf_lines (g.D.DeadGoals.number c.args.dead.now) T t in
+    let leaf = leaf_lines (g.D.Dead.number_of c.args.dead.now) T t in
     record {
       tree = c.in_ok-step.ensures.tree;
       lines = step-more T t leaf c.loop-kept.tree c.next_step.new.tree c.in_ok-step.field-0

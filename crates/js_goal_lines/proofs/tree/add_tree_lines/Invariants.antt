@@ -11,7 +11,7 @@ abbrev pub invariant-loop-kept : goal.invariant-loop-kept
 invariant-loop-kept g l =
     let T = l.core.positions in
     let t = kind_view l.kind in
-    let leaf = leaf_lines (g.D.DeadGoals.number l.dead) T t in
+    let leaf = leaf_lines (g.D.Dead.number_of l.dead) T t in
     record {
       tree : IsTree T t l.tree;
       lines : map line_view l.lines.items ++ tree_lines leaf (left T t l.tree)

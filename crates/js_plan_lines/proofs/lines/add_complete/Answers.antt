@@ -8,7 +8,7 @@ use Rattle.js_plan_lines.proofs.lines.add_complete.Goals as goal
 
 pub returns-in-Some : goal.returns-in-Some
 returns-in-Some g c =
-    let number = g.D.DeadGoals.number c.args.dead.now in
+    let number = g.D.Dead.number_of c.args.dead.now in
     let T = g.F.PlanFrame.table c.args.frame.now in
     let frame = g.F.PlanFrame.frame c.args.frame.now in
     subst
@@ -20,7 +20,7 @@ returns-in-Some g c =
 
 pub returns-in-None : goal.returns-in-None
 returns-in-None g c =
-    let number = g.D.DeadGoals.number c.args.dead.now in
+    let number = g.D.Dead.number_of c.args.dead.now in
     let T = g.F.PlanFrame.table c.args.frame.now in
     let frame = g.F.PlanFrame.frame c.args.frame.now in
     subst

@@ -9,7 +9,7 @@ use Rattle.js_plan_lines.proofs.lines.add_short.Goals as goal
 
 pub returns : goal.returns
 returns g c =
-    let number = g.D.DeadGoals.number c.args.dead.now in
+    let number = g.D.Dead.number_of c.args.dead.now in
     let T = g.F.PlanFrame.table c.args.frame.now in
     let frame = g.F.PlanFrame.frame c.args.frame.now in
     one_more c.args.lines.now.items c.push.new.self.items (V.Short c.from_vec.result) _ c.in_ok-push.ensures.items

@@ -6,7 +6,7 @@ use Rattle.js_plan_lines.proofs.lines.entries.Given as goal
 
 abbrev pub invariant-loop-cell : goal.invariant-loop-cell
 invariant-loop-cell g l =
-    let number = g.D.DeadGoals.number l.dead in
+    let number = g.D.Dead.number_of l.dead in
     let T = g.F.PlanFrame.table l.frame in
     let frame = g.F.PlanFrame.frame l.frame in
     map entry_view l.entries.items ++ map (entry_in number T frame l.members) (drop l.cell-index frame.cells)

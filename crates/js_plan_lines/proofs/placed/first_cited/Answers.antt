@@ -18,7 +18,7 @@ returns-in-Some g c =
     (c.in_ok-goal.ensures
     ∙ ap (λ s. goal_of (g.F.PlanFrame.table c.args.frame.now) frame (seen frame c.args.path.now s))
     c.server_at-server.ensures)
-    (g.D.DeadGoals.number c.args.dead.now) (Some c.in-Some.cited) (sym c.in-Some.is ∙ c.number_of.ensures))
+    (g.D.Dead.number_of c.args.dead.now) (Some c.in-Some.cited) (sym c.in-Some.is ∙ c.number_of.ensures))
     ∙ c.loop-number.invariant
 
 pub loop-number-preserved : goal.loop-number-preserved
@@ -32,6 +32,6 @@ loop-number-preserved g c =
     (c.in_ok-goal.ensures
     ∙ ap (λ s. goal_of (g.F.PlanFrame.table c.args.frame.now) frame (seen frame c.args.path.now s))
     c.server_at-server.ensures)
-    (g.D.DeadGoals.number c.args.dead.now) None
+    (g.D.Dead.number_of c.args.dead.now) None
     (sym (none_is c.number_of.result c.in_default.not-Some) ∙ c.number_of.ensures))
     ∙ c.loop-number.invariant

@@ -7,7 +7,7 @@ use Rattle.js_plan_lines.proofs.placed.first_cited.Given as goal
 
 abbrev pub invariant-loop-number : goal.invariant-loop-number
 invariant-loop-number g l =
-    let number = g.D.DeadGoals.number l.dead in
+    let number = g.D.Dead.number_of l.dead in
     let T = g.F.PlanFrame.table l.frame in
     let frame = g.F.PlanFrame.frame l.frame in
     cited_from number T frame l.number (drop l.number (placed frame (plan_after frame l.path)))

@@ -10,7 +10,7 @@ use Rattle.js_plan_lines.proofs.tree.add_plan_lines.Goals as goal
 
 pub loop-next-init : goal.loop-next-init
 loop-next-init g c =
-    let number = g.D.DeadGoals.number c.args.dead.now in
+    let number = g.D.Dead.number_of c.args.dead.now in
     let form = form_view c.args.form in
     let T = g.F.PlanFrame.table c.args.frame.now in
     let frame = g.F.PlanFrame.frame c.args.frame.now in
@@ -34,7 +34,7 @@ pub visit-requires-in-Some-clause-path : goal.visit-requires-in-Some-clause-path
 visit-requires-in-Some-clause-path g c =
     let frame = g.F.PlanFrame.frame c.args.frame.now in
     subst (IsPath frame) (sym c.as_slice-in-Some.ensures.value)
-    (next-path (g.D.DeadGoals.number c.args.dead.now) (form_view c.args.form) (g.F.PlanFrame.table c.args.frame.now)
+    (next-path (g.D.Dead.number_of c.args.dead.now) (form_view c.args.form) (g.F.PlanFrame.table c.args.frame.now)
     frame c.loop-next.path.items c.go_to.new.path.items c.pop.new.self.items c.loop-next.pending.items c.in-Some.next
     c.in-Some.ensures.items c.in_ok-go_to.ensures c.loop-next.invariant.fine c.loop-next.invariant.path)
 
@@ -43,13 +43,13 @@ visit-requires-in-Some-clause-clear g c =
     let T = g.F.PlanFrame.table c.args.frame.now in
     let frame = g.F.PlanFrame.frame c.args.frame.now in
     subst (WasClear T frame) (sym c.as_slice-in-Some.ensures.value)
-    (next-was (g.D.DeadGoals.number c.args.dead.now) (form_view c.args.form) T
+    (next-was (g.D.Dead.number_of c.args.dead.now) (form_view c.args.form) T
     frame c.loop-next.path.items c.go_to.new.path.items c.pop.new.self.items c.loop-next.pending.items c.in-Some.next
     c.in-Some.ensures.items c.in_ok-go_to.ensures c.loop-next.invariant.fine c.loop-next.invariant.clear)
 
 pub loop-next-smaller : goal.loop-next-smaller
 loop-next-smaller g c =
-    let number = g.D.DeadGoals.number c.args.dead.now in
+    let number = g.D.Dead.number_of c.args.dead.now in
     let form = form_view c.args.form in
     let T = g.F.PlanFrame.table c.args.frame.now in
     let frame = g.F.PlanFrame.frame c.args.frame.now in
@@ -65,7 +65,7 @@ loop-next-smaller g c =
 
 pub loop-next-preserved : goal.loop-next-preserved
 loop-next-preserved g c =
-    let number = g.D.DeadGoals.number c.args.dead.now in
+    let number = g.D.Dead.number_of c.args.dead.now in
     let form = form_view c.args.form in
     let T = g.F.PlanFrame.table c.args.frame.now in
     let frame = g.F.PlanFrame.frame c.args.frame.now in

@@ -9,7 +9,7 @@ use Rattle.js_plan_lines.proofs.tree.add_plan_lines.Given as goal
 
 abbrev pub invariant-loop-next : goal.invariant-loop-next
 invariant-loop-next g l =
-    let number = g.D.DeadGoals.number l.dead in
+    let number = g.D.Dead.number_of l.dead in
     let T = g.F.PlanFrame.table l.frame in
     let frame = g.F.PlanFrame.frame l.frame in
     record {
@@ -23,5 +23,5 @@ invariant-loop-next g l =
 
 abbrev pub decreases-loop-next : goal.decreases-loop-next
 decreases-loop-next g l =
-    length (lines_left (g.D.DeadGoals.number l.dead) (form_view l.form) (g.F.PlanFrame.table l.frame)
+    length (lines_left (g.D.Dead.number_of l.dead) (form_view l.form) (g.F.PlanFrame.table l.frame)
     (g.F.PlanFrame.frame l.frame) l.path.items (reverse l.pending.items))

@@ -12,7 +12,7 @@ use Rattle.js_plan_lines.proofs.tree.visit.Goals as goal
 
 pub returns-then-is_over : goal.returns-then-is_over
 returns-then-is_over g c =
-    visits-over (g.D.DeadGoals.number c.args.dead.now) (form_view c.args.form) (g.F.PlanFrame.table c.args.frame.now)
+    visits-over (g.D.Dead.number_of c.args.dead.now) (form_view c.args.form) (g.F.PlanFrame.table c.args.frame.now)
     (g.F.PlanFrame.frame c.args.frame.now) c.args.path.now c.args.pending.now.items
     (map line_view c.args.lines.now.items) (map line_view c.push.new.self.items)
     (one_more c.args.lines.now.items c.push.new.self.items V.Count L.Count c.in_ok-push.ensures.items refl)
@@ -21,7 +21,7 @@ returns-then-is_over g c =
 pub returns-in-Some : goal.returns-in-Some
 returns-in-Some g c =
     on_ok _ _ c.add_at.result
-    (λ h. visits-clash (g.D.DeadGoals.number c.args.dead.now) (form_view c.args.form)
+    (λ h. visits-clash (g.D.Dead.number_of c.args.dead.now) (form_view c.args.form)
     (g.F.PlanFrame.table c.args.frame.now) (g.F.PlanFrame.frame c.args.frame.now) c.args.path.now
     c.args.pending.now.items (map line_view c.args.lines.now.items) (map line_view c.add_at.new.lines.items)
     c.in-Some.number (sym c.is_over.ensures ∙ c.if-is_over.false) (sym c.in_ok-number.ensures ∙ c.in-Some.is) h)
@@ -37,7 +37,7 @@ returns-then-path-demands g c =
       length-map c.demands.result.now signed_view,
     ) in
     on_both _ _ _ c.split.result
-    (λ more added. visits-split (g.D.DeadGoals.number c.args.dead.now) (form_view c.args.form)
+    (λ more added. visits-split (g.D.Dead.number_of c.args.dead.now) (form_view c.args.form)
     (g.F.PlanFrame.table c.args.frame.now) frame c.args.path.now c.args.pending.now.items
     (map line_view c.args.lines.now.items) (map line_view c.split.new.lines.items) c.split.new.pending.items l
     (sym c.is_over.ensures ∙ c.if-is_over.false) (sym c.in_ok-number.ensures ∙ c.in_default.is) more added)
@@ -53,7 +53,7 @@ returns g c =
       length-map c.demands.result.now signed_view,
     ) in
     on_ok _ _ c.add_complete.result
-    (λ added. visits-complete (g.D.DeadGoals.number c.args.dead.now) (form_view c.args.form)
+    (λ added. visits-complete (g.D.Dead.number_of c.args.dead.now) (form_view c.args.form)
     (g.F.PlanFrame.table c.args.frame.now) frame c.args.path.now c.args.pending.now.items
     (map line_view c.args.lines.now.items) (map line_view c.add_complete.new.lines.items) l
     (sym c.is_over.ensures ∙ c.if-is_over.false) (sym c.in_ok-number.ensures ∙ c.in_default.is) added)
