@@ -6,3 +6,5 @@ pub mod Walking
 pub mod Members
 -- Cells of which a bound is stated.
 pub mod Capped
+-- The lines of a goal, and of a set, none of whose alternatives is met are dead.
+pub mod DeadLines

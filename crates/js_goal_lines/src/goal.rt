@@ -1,9 +1,10 @@
 //! The lines of a goal, kind by kind.
 
-ghost use Rattle.std.specs.Prelude.{◌≡◌, ◌++◌, map, true, OnOk};
+ghost use Rattle.std.specs.Prelude.{◌≡◌, ◌++◌, map, drop, length, true, OnOk};
 ghost use Rattle.refutations.specs.GoalLines.{kind_lines, goal_lines};
 ghost use Rattle.js_algebra.specs.View.{kind_view, are_in_table};
 ghost use Rattle.js_lines.specs.View.{line_view};
+ghost use Rattle.js_goal_lines.specs.Dead.{AreDead};
 
 use crate::tree::add_tree_lines;
 use js_algebra::{Core, Goal, JsonKind};
@@ -25,9 +26,15 @@ pub fn add_goal_lines<D: Dead>(
     lines: &mut Vec<CertLine>,
 ) -> Result<(), Memory>
     requires { are_in_table core.now.positions goal.now ≡ true }
-    ensures { OnOk result (map line_view lines.new.items ≡ map line_view lines.old.items
+    ensures lines { OnOk result (map line_view lines.new.items ≡ map line_view lines.old.items
         ++ goal_lines (D.number_of dead.now) core.now.positions goal.now) }
+
+    // Where no alternative of the goal is met, they show by the checker's rules that no document meets it.
+    ensures dead { OnOk result (AreDead (D.number_of dead.now) core.now.positions goal.now
+        (drop (length lines.old.items) (map line_view lines.new.items))) }
 {
+    // The length comes with the fact that the table is one, on which what the lines show rests.
+    let _length = core.len();
     for kind in JsonKind::ALL {
         add_kind_lines(alloc, core, dead, goal, kind, lines)?;
     }

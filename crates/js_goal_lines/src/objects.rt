@@ -1,6 +1,7 @@
 //! The lines of a set that no object meets.
 
-ghost use Rattle.std.specs.Prelude.{◌≡◌, ◌++◌, map, true, IfOk, OnOk};
+ghost use Rattle.std.specs.Prelude.{◌≡◌, ◌++◌, map, drop, length, true, IfOk, OnOk};
+ghost use Rattle.documents.specs.Kind as K;
 ghost use Rattle.frames.specs.ObjectFrame.{object_frame};
 ghost use Rattle.refutations.specs.ObjectLines as O;
 ghost use Rattle.refutations.specs.ObjectLines.{object_lines, member_lines};
@@ -10,6 +11,7 @@ ghost use Rattle.js_cells.specs.View.{cells_view};
 ghost use Rattle.js_lines.specs.View.{line_view};
 ghost use Rattle.js_objects.specs.FrameView.{frame_view};
 ghost use Rattle.js_objects.specs.Steps.{IsOfNames, cells_by};
+ghost use Rattle.js_goal_lines.specs.Dead.{AreDeadAt};
 
 use js_algebra::{Core, Signed};
 use js_automaton::Automaton;
@@ -35,8 +37,12 @@ pub(crate) fn add_object_lines<D: Dead>(
     lines: &mut Vec<CertLine>,
 ) -> Result<(), Memory>
     requires { are_in_table core.now.positions (map signed_view set.now) ≡ true }
-    ensures { OnOk result (map line_view lines.new.items ≡ map line_view lines.old.items
+    ensures lines { OnOk result (map line_view lines.new.items ≡ map line_view lines.old.items
         ++ object_lines (D.number_of dead.now) core.now.positions (map signed_view set.now)) }
+
+    // Where no alternative of the set is met, they show by the checker's rules that no object meets it.
+    ensures dead { OnOk result (AreDeadAt (D.number_of dead.now) core.now.positions K.Object
+        (map signed_view set.now) (drop (length lines.old.items) (map line_view lines.new.items))) }
 {
     match Names::of_set(alloc, core, set, kept.names.take()) {
         Ok(names) => {

@@ -6,3 +6,5 @@ pub mod RowLengths
 pub mod OwnRows
 -- Numbers of words that lead into a cell, row by row.
 pub mod CellLabels
+-- The lines of a set of which no word is found are dead.
+pub mod DeadLines

@@ -1,12 +1,13 @@
 //! The lines of a set that no string meets.
 
-ghost use Rattle.std.specs.Prelude.{◌≡◌, ◌++◌, map, true, OnOk};
+ghost use Rattle.std.specs.Prelude.{◌≡◌, ◌++◌, map, drop, length, true, OnOk};
 ghost use Rattle.refutations.specs.StatedRows as stated;
 ghost use Rattle.refutations.specs.StringLines.{length_lines, string_lines};
 ghost use Rattle.js_algebra.specs.View.{signed_view, are_in_table};
 ghost use Rattle.js_nfa.specs.AtomView.{atom_view};
 ghost use Rattle.js_automaton.specs.AutomatonView.{atoms_of, rows_of};
 ghost use Rattle.js_lines.specs.View.{line_view};
+ghost use Rattle.js_row_lines.specs.Dead.{AreDead};
 
 use crate::least::least_line;
 use crate::rows::add_row_lines;
@@ -30,8 +31,12 @@ pub fn add_string_lines(
     lines: &mut Vec<CertLine>,
 ) -> Result<(), Memory>
     requires { are_in_table core.now.positions (map signed_view set.now) ≡ true }
-    ensures { OnOk result (map line_view lines.new.items ≡ map line_view lines.old.items
+    ensures lines { OnOk result (map line_view lines.new.items ≡ map line_view lines.old.items
         ++ string_lines core.now.positions (map signed_view set.now)) }
+
+    // Where no word of the set is found, they show by the checker's rules that no string meets it.
+    ensures dead { OnOk result (AreDead core.now.positions (map signed_view set.now)
+        (drop (length lines.old.items) (map line_view lines.new.items))) }
 {
     let least = Bounds::of_strings(core, set).lower;
     let asked = Asked::of(alloc, core, set, least)?;

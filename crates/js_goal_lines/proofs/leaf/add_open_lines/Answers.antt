@@ -12,7 +12,7 @@ returns-in-Text g c =
     (map line_view c.add_string_lines.new.lines.items) _ _
     (ap (λ k. open_lines (g.D.Dead.number_of c.args.dead.now) c.args.core.now.positions (kind_view k)
     (map signed_view c.args.set.now)) (sym c.in-Text.is))
-    c.add_string_lines.ensures
+    c.add_string_lines.ensures.lines
 
 pub returns-in-Object : goal.returns-in-Object
 returns-in-Object g c =
@@ -20,4 +20,4 @@ returns-in-Object g c =
     (map line_view c.add_object_lines.new.lines.items) _ _
     (ap (λ k. open_lines (g.D.Dead.number_of c.args.dead.now) c.args.core.now.positions (kind_view k)
     (map signed_view c.args.set.now)) (sym c.in-Object.is))
-    c.add_object_lines.ensures
+    c.add_object_lines.ensures.lines
