@@ -1,6 +1,8 @@
 mod Finding
 mod SameAtoms
 mod Past
+mod Columns
+mod Framing
 mod LeafLaws
 mod Meaning
 mod TestNames

@@ -6,3 +6,5 @@ pub mod Steps
 pub mod FrameView
 -- The faults of automata and of plans as faults of objects.
 pub mod Faults
+-- Used inside: which tests the names of each cell pass, and which demands they may serve.
+pub mod Passing

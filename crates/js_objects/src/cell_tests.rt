@@ -1,14 +1,15 @@
 //! What literals say of the cells of names.
 
-ghost use Rattle.std.specs.Prelude.{◌≡◌, ◌<◌, ◌≤◌, ℕ, min, not, map, true, length, filter, get_or, IfOk};
+ghost use Rattle.std.specs.Prelude.{◌≡◌, ◌<◌, ◌≤◌, ℕ, min, not, map, flat_map, true, length, filter, get_or, IfOk};
 ghost use Rattle.std.specs.List.{range_with_len};
 ghost use Rattle.documents.specs.Tests.{some};
 ghost use Rattle.js_cells.specs.View.{cells_view};
-ghost use Rattle.js_name_tests.specs.NameTests.{says_at, passes, are_within};
+ghost use Rattle.js_name_tests.specs.NameTests.{says_at, passes, asks, are_within, values_within};
 
+use js_algebra::{Signed, SignedList};
 use js_cells::Cells;
 use js_doc::Memory;
-use js_name_tests::NameTest;
+use js_name_tests::{NameTest, ValueTest};
 use std::alloc::Global;
 
 /// What the literal of that number says of the names of a cell; false where there is no such cell.
@@ -58,4 +59,40 @@ pub(crate) fn counts(alloc: Global, cells: &Cells) -> Result<Vec<u32>, Memory>
         counts.push(cells.capacity(alloc, cell)?)?;
     }
     Ok(counts)
+}
+
+/// What is asked of the value of each name of a cell.
+fn asked_at(
+    alloc: Global,
+    cells: &Cells,
+    values: &[ValueTest],
+    cell: u32,
+) -> Result<SignedList, Memory>
+    requires { values_within (length (cells_view cells.now).names) values.now ≡ true }
+    ensures { IfOk result (λ l. l ≡ flat_map (asks (cells_view cells.now) cell) values.now) }
+{
+    let mut asked = Vec::new(alloc);
+    for test in values {
+        if says(cells, cell, test.literal) {
+            asked.push(Signed::plus(test.value))?;
+        }
+    }
+    Ok(SignedList::from_vec(asked))
+}
+
+/// What is asked of the values of the names of each cell. It costs a look for each value and cell.
+pub(crate) fn asked(
+    alloc: Global,
+    cells: &Cells,
+    values: &[ValueTest],
+) -> Result<Vec<SignedList>, Memory>
+    requires { values_within (length (cells_view cells.now).names) values.now ≡ true }
+    ensures { IfOk result (λ v. v.items ≡ map (λ c. flat_map (asks (cells_view cells.now) c) values.now)
+        (range_with_len 0 (length (cells_view cells.now).vectors))) }
+{
+    let mut asked = Vec::with_capacity(alloc, cells.len() as usize)?;
+    for cell in 0..cells.len() {
+        asked.push(asked_at(alloc, cells, values, cell)?)?;
+    }
+    Ok(asked)
 }

@@ -11,6 +11,7 @@ mod fault;
 mod leaf;
 mod names;
 mod object_frame;
+mod passing;
 mod words;
 
 pub use fault::ObjectFault;

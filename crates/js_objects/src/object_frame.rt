@@ -1,19 +1,20 @@
 //! The frame of a set at objects.
 
-ghost use Rattle.std.specs.Prelude.{◌≡◌, ℕ, map, filter, flat_map, length, get_or, true};
+ghost use Rattle.std.specs.Prelude.{◌≡◌, ℕ, [], map, filter, flat_map, length, get_or, true};
 ghost use Rattle.std.specs.List.{range_with_len};
 ghost use Rattle.frames.specs.Frame.{In};
 ghost use Rattle.frames.specs.ObjectFrame as O;
 ghost use Rattle.js_algebra.specs.View.{signed_view, are_in_table};
 ghost use Rattle.js_cells.specs.View.{cells_view};
-ghost use Rattle.js_name_tests.specs.NameTests.{passes, asks, are_within, values_within, values_in_table};
+ghost use Rattle.js_objects.specs.Passing.{AreServed};
 
-use crate::cell_tests::{allowed, counts, says};
-use js_algebra::{Core, Signed};
+use crate::cell_tests::{allowed, asked, counts};
+use crate::passing::Passing;
+use js_algebra::{Core, Signed, SignedList};
 use js_bounds::Bounds;
 use js_cells::Cells;
 use js_doc::Memory;
-use js_name_tests::{NameTest, ValueTest, asked_of_server, bars_of, demands_of, values_of};
+use js_name_tests::{asked_of_server, bars_of, demands_of, values_of};
 use js_plans::{Place, PlanFrame};
 use std::alloc::Global;
 
@@ -30,9 +31,10 @@ pub struct ObjectFrame<'a> {
     lower: u32,
     below: Option<u128>,
     demands: Vec<Signed>,
-    /// For each demand the names that may serve it.
-    servers: Vec<NameTest>,
-    values: Vec<ValueTest>,
+    /// For each demand the cells whose names may serve it.
+    inside: Passing,
+    /// What is asked of the value of each name of a cell, by cells.
+    asked: Vec<SignedList>,
     allowed: Vec<u32>,
     /// How many names each cell has.
     counts: Vec<u32>,
@@ -42,14 +44,11 @@ pub struct ObjectFrame<'a> {
         ≡ filter (O.is_demand core.now.positions) (map signed_view set.now) },
     ghost demands_in_table: { are_in_table core.now.positions
         (filter (O.is_demand core.now.positions) (map signed_view set.now)) ≡ true },
-    ghost servers_are: { (c : ℕ) → map (passes (cells_view cells) c) servers.items
-        ≡ map (λ x. O.inside core.now.positions (cells_view cells) x c)
-        (filter (O.is_demand core.now.positions) (map signed_view set.now)) },
-    ghost servers_within: { are_within (length (cells_view cells).names) servers.items ≡ true },
-    ghost values_are: { (c : ℕ) → flat_map (asks (cells_view cells) c) values.items
+    ghost inside_are: { AreServed core.now.positions (cells_view cells)
+        (filter (O.is_demand core.now.positions) (map signed_view set.now)) inside },
+    ghost asked_are: { (c : ℕ) → get_or asked.items c []
         ≡ flat_map (O.each core.now.positions (cells_view cells) (In c)) (map signed_view set.now) },
-    ghost values_within: { values_within (length (cells_view cells).names) values.items ≡ true },
-    ghost values_in_table: { values_in_table core.now.positions values.items ≡ true },
+    ghost asked_in_table: { (c : ℕ) → are_in_table core.now.positions (get_or asked.items c []) ≡ true },
     ghost allowed_are: { allowed.items
         ≡ filter (O.is_allowed core.now.positions (cells_view cells) (map signed_view set.now))
         (range_with_len 0 (length (cells_view cells).vectors)) },
@@ -57,13 +56,13 @@ pub struct ObjectFrame<'a> {
 }
 
 impl<'a> ObjectFrame<'a> {
-    ghost use Rattle.std.specs.Prelude.{◌≡◌, ◌≤◌, ℕ, [], ◌++◌, map, flat_map, length, true, IfOk, OnOk};
+    ghost use Rattle.std.specs.Prelude.{◌≡◌, ◌≤◌, ℕ, [], map, flat_map, length, true, IfOk};
     ghost use Rattle.cells.specs.Cells.{naming};
+    ghost use Rattle.frames.specs.Frame.{In};
     ghost use Rattle.frames.specs.ObjectFrame as O;
     ghost use Rattle.js_algebra.specs.View.{signed_view, are_in_table};
     ghost use Rattle.js_cells.specs.View.{cells_view};
     ghost use Rattle.js_objects.specs.FrameView.{frame_view};
-    ghost use Rattle.js_name_tests.specs.NameTests.{asks};
 
     /// The frame of a set, which asks for so many members, by the cells of its names.
     pub(crate) fn new(
@@ -90,6 +89,8 @@ impl<'a> ObjectFrame<'a> {
         let values = values_of(alloc, core, names)?;
         let allowed = allowed(alloc, &cells, &bars)?;
         let counts = counts(alloc, &cells)?;
+        let inside = Passing::new(alloc, &cells, &demands.tests)?;
+        let asked = asked(alloc, &cells, &values)?;
         Ok(ObjectFrame {
             core,
             set,
@@ -97,8 +98,8 @@ impl<'a> ObjectFrame<'a> {
             lower: bounds.lower as u32,
             below: bounds.below,
             demands: demands.literals,
-            servers: demands.tests,
-            values,
+            inside,
+            asked,
             allowed,
             counts,
         })
@@ -121,19 +122,16 @@ impl<'a> ObjectFrame<'a> {
         }
     }
 
-    /// Adds what is asked of the value of each name of a cell.
-    fn add_values(&self, cell: u32, list: &mut Vec<Signed>) -> Result<(), Memory>
-        ensures added { OnOk result (map signed_view list.new.items ≡ map signed_view list.old.items
-            ++ flat_map (asks (cells_view self.now.cells) cell) self.now.values.items) }
-        ensures in_table { OnOk result (are_in_table self.now.core.now.positions (map signed_view list.old.items) ≡ true
-            → are_in_table self.now.core.now.positions (map signed_view list.new.items) ≡ true) }
+    /// What is asked of the value of each name of a cell.
+    fn asked(&self, cell: u32) -> &[Signed]
+        ensures asked { map signed_view result.now ≡ flat_map
+            (O.each self.now.core.now.positions (cells_view self.now.cells) (In cell)) (map signed_view self.now.set.now) }
+        ensures in_table { are_in_table self.now.core.now.positions (map signed_view result.now) ≡ true }
     {
-        for test in &self.values {
-            if says(&self.cells, cell, test.literal) {
-                list.push(Signed::plus(test.value))?;
-            }
+        match self.asked.get(cell as usize) {
+            Some(list) => list.as_slice(),
+            None => &[],
         }
-        Ok(())
     }
 }
 
@@ -174,8 +172,7 @@ impl PlanFrame for ObjectFrame<'_> {
     }
 
     fn is_inside(&self, demand: usize, cell: u32) -> bool {
-        let server = self.servers[demand];
-        says(&self.cells, cell, server.literal) == server.truth
+        self.inside.is_passed(demand, cell)
     }
 
     fn cap(&self, cell: u32) -> Option<u32> {
@@ -194,7 +191,7 @@ impl PlanFrame for ObjectFrame<'_> {
     fn add_each(&self, place: Place, list: &mut Vec<Signed>) -> Result<(), Memory> {
         match place {
             Place::Head(_) => Ok(()),
-            Place::In(cell) => self.add_values(cell, list),
+            Place::In(cell) => Ok(list.extend_from_slice(self.asked(cell))?),
         }
     }
 
