@@ -6,8 +6,8 @@ use Rattle.js_decide.proofs.Deciding.{root_taken, answer_decided, answer_certifi
 use Rattle.js_decide.proofs.Counts.{answer_small, answer_shallow, answer_counted}
 use Rattle.js_decide.proofs.pair.decide.Goals as goal
 
-pub decide_root-requires : goal.decide_root-requires
-decide_root-requires g c =
+pub decide_root-requires-after_bounds : goal.decide_root-requires-after_bounds
+decide_root-requires-after_bounds g c κs within =
     root_taken c.args.core.now.positions c.args.core.now.ranks c.len-length.ensures.table c.args.a.0 c.args.b.0
     c.requires.a_in c.requires.b_in c.in-Some.root
     (sym c.in-Some.is ∙ c.in_ok-root.ensures.goal
