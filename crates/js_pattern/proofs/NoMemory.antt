@@ -5,7 +5,7 @@ use Rattle.patterns.specs.Tree.{Tree, one_of}
 use Rattle.js_pattern.specs.declared.fault.PatternFault.{PatternFault}
 use Rattle.js_pattern.specs.declared.fault.PatternFault.TheVariants.{Syntax, Unsupported, Memory}
 use Rattle.js_pattern.specs.declared.fault.PatternForm.{PatternForm}
-use Rattle.js_pattern.specs.declared.fault.PatternForm.TheVariants.{Lookaround, NamedGroup, Octal, Surrogate}
+use Rattle.js_pattern.specs.declared.fault.PatternForm.TheVariants.{Lookaround, NamedGroup, Octal, Surrogate, Nesting}
 use Rattle.js_pattern.specs.declared.escape.Escape.{Escape}
 use Rattle.js_pattern.specs.declared.escape.Escape.TheVariants.{Character, Class}
 use Rattle.js_pattern.specs.declared.escape.ClassEscape.{ClassEscape}
@@ -14,7 +14,7 @@ use Rattle.js_pattern.specs.Reading.{Reading, and_then, after, ◌∈◌, stands
 use Rattle.js_pattern.specs.Escapes.{numbered, byte_of, hexadecimal, unicode_of, in_braces, low_surrogate, is_high_surrogate, letter_of, letter_escape, escape_of, class_escape, unsupported_escape, escape}
 use Rattle.js_pattern.specs.Classes.{class_atom, span, range_to, range_from, item_of, item, items_at, items, class}
 use Rattle.js_pattern.specs.Quantifiers.{widest_repeat, judged_by, judged, repeated_by, quantified_by, quantifier, quantified}
-use Rattle.js_pattern.specs.Grammar.{Body, empty_body, tree_of, add_term, add_alternative, dot_set, set_of_escape, atom, term, opening, Sign, closes, divides, opens, begins_term, sign_of, term_and_more, group_end, group_of, body_at, alternatives, whole, pattern}
+use Rattle.js_pattern.specs.Grammar.{Body, empty_body, tree_of, add_term, add_alternative, dot_set, set_of_escape, atom, term, opening, most_nested, nested, Sign, closes, divides, opens, begins_term, sign_of, term_and_more, group_end, group_of, body_at, alternatives, whole, pattern}
 
 -- the reading has no such fault
 abbrev NoMemory : {A : Type 0} → Result A PatternFault → Type 0
@@ -161,7 +161,11 @@ opening_no at t =
     (syntax_no at))))
     (ok_no 0)
 
-module _ (more : ℕ → Reading Body) (h : (n : ℕ) → NoMemory (more n)) where
+nested_no : (depth at : ℕ) (r : Result ℕ PatternFault) → NoMemory r → NoMemory (nested depth at r)
+nested_no depth at (Ok taken) k = if_no (nat_lt depth most_nested) _ _ (ok_no taken) (unsupported_no at Nesting)
+nested_no depth at (Err fault) k = λ e. k (let same : fault ≡ Memory = cc in ap Err same)
+
+module _ (inner more : ℕ → Reading Body) (i : (n : ℕ) → NoMemory (inner n)) (h : (n : ℕ) → NoMemory (more n)) where
   term_and_more_no : (tree : Tree) (n : ℕ) → NoMemory (term_and_more more tree n)
   term_and_more_no tree n = after_no (suc n) (add_term tree) (more n) (h n)
 
@@ -171,23 +175,26 @@ module _ (more : ℕ → Reading Body) (h : (n : ℕ) → NoMemory (more n)) whe
       then_no (quantified (tree_of body) (at + 1) t) _ (quantified_no (tree_of body) (at + 1) t)
       (λ tree n. term_and_more_no tree (taken + 1 + n))
 
-  group_of_no : (at : ℕ) (t : List ℕ) (r : Result ℕ PatternFault) → NoMemory r → NoMemory (group_of more at t r)
+  group_of_no : (at : ℕ) (t : List ℕ) (r : Result ℕ PatternFault) → NoMemory r
+      → NoMemory (group_of inner more at t r)
   group_of_no at t (Ok taken) k =
-      then_no (more taken) _ (h taken)
+      then_no (inner taken) _ (i taken)
       (λ body n. group_end_no body (taken + n) (at + 1 + (taken + n)) (drop (taken + n) t))
   group_of_no at t (Err fault) k = λ e. k (let same : fault ≡ Memory = cc in ap Err same)
 
-  body_at_no : (sign : Sign) (at c : ℕ) (t : List ℕ) → NoMemory (body_at sign at c t more)
-  body_at_no closes at c t = ok_no (empty_body, 0)
-  body_at_no divides at c t = after_no 1 add_alternative (more 0) (h 0)
-  body_at_no opens at c t = group_of_no at t (opening at t) (opening_no at t)
-  body_at_no begins_term at c t = then_no (term at c t) _ (term_no at c t) term_and_more_no
+  body_at_no : (sign : Sign) (depth at c : ℕ) (t : List ℕ) → NoMemory (body_at sign depth at c t inner more)
+  body_at_no closes depth at c t = ok_no (empty_body, 0)
+  body_at_no divides depth at c t = after_no 1 add_alternative (more 0) (h 0)
+  body_at_no opens depth at c t =
+      group_of_no at t (nested depth at (opening at t)) (nested_no depth at (opening at t) (opening_no at t))
+  body_at_no begins_term depth at c t = then_no (term at c t) _ (term_no at c t) term_and_more_no
 
-alternatives_no : (skip at : ℕ) (t : List ℕ) → NoMemory (alternatives skip at t)
-alternatives_no skip at [] = ok_no (empty_body, 0)
-alternatives_no (suc skip) at (c ∷ t) = alternatives_no skip (suc at) t
-alternatives_no zero at (c ∷ t) =
-    body_at_no (λ n. alternatives n (suc at) t) (λ n. alternatives_no n (suc at) t) (sign_of c) at c t
+alternatives_no : (depth skip at : ℕ) (t : List ℕ) → NoMemory (alternatives depth skip at t)
+alternatives_no depth skip at [] = ok_no (empty_body, 0)
+alternatives_no depth (suc skip) at (c ∷ t) = alternatives_no depth skip (suc at) t
+alternatives_no depth zero at (c ∷ t) =
+    body_at_no (λ n. alternatives (suc depth) n (suc at) t) (λ n. alternatives depth n (suc at) t)
+    (λ n. alternatives_no (suc depth) n (suc at) t) (λ n. alternatives_no depth n (suc at) t) (sign_of c) depth at c t
 
 whole_no : (t : List ℕ) (r : Reading Body) → NoMemory r → NoMemory (whole t r)
 whole_no t (Ok p) h = if_no (nat_lt p.1 (length t)) _ _ (syntax_no p.1) (ok_no (tree_of p.0))
@@ -195,4 +202,4 @@ whole_no t (Err fault) h = λ e. h (let same : fault ≡ Memory = cc in ap Err s
 
 pub pattern_no_memory : (t : List ℕ) → pattern t ≢ Err Memory
 unfolding pattern
-pattern_no_memory t = whole_no t (alternatives 0 0 t) (alternatives_no 0 0 t)
+pattern_no_memory t = whole_no t (alternatives 0 0 0 t) (alternatives_no 0 0 0 t)

@@ -1,24 +1,26 @@
 -- What comes of a text stays the same as the reader goes on: a term, a `|`, a `(` or a `)` later.
-use Rattle.std.proofs.Common.{◌≡◌, ℕ, zero, suc, ◌+◌, ◌-◌, ◌<◌, inl, inr, Bool, if◌then◌else◌, nat_lt, List, [], ◌∷◌, ◌++◌, map, reverse, length, drop, Result, Ok, Err, refl, ap, sym, ◌∙◌, append_assoc, append-nil, add-zero, length-drop, arith}
+use Rattle.std.proofs.Common.{◌≡◌, ℕ, zero, suc, ◌+◌, ◌-◌, ◌<◌, ◌≤◌, inl, inr, Bool, if◌then◌else◌, nat_lt, List, [], ◌∷◌, ◌++◌, map, reverse, length, drop, Result, Ok, Err, refl, ap, sym, ◌∙◌, append_assoc, append-nil, add-zero, length-drop, arith}
 use Rattle.std.proofs.lemmas.List.{drop-drop, map-append, reverse-append, length-reverse, length-map}
 use Rattle.std.proofs.lemmas.Bool.{cases_lt, lt-ltb, le-ltb}
 use Rattle.patterns.specs.Tree.{Tree}
 use Rattle.js_pattern.specs.declared.fault.PatternFault.{PatternFault}
-use Rattle.js_pattern.specs.declared.fault.PatternFault.TheVariants.{Syntax}
+use Rattle.js_pattern.specs.declared.fault.PatternFault.TheVariants.{Syntax, Unsupported}
+use Rattle.js_pattern.specs.declared.fault.PatternForm.TheVariants.{Nesting}
 use Rattle.js_pattern.specs.Reading.{Reading, and_then, after}
 use Rattle.js_pattern.specs.Quantifiers.{quantified}
-use Rattle.js_pattern.specs.Grammar.{Body, empty_body, add_term, add_alternative, alternation_of, sequence_of, tree_of, closes, divides, opens, begins_term, sign_of, opening, term, term_and_more, group_end, group_of, body_at, alternatives, whole, pattern}
+use Rattle.js_pattern.specs.Grammar.{Body, empty_body, Sign, add_term, add_alternative, alternation_of, sequence_of, tree_of, closes, divides, opens, begins_term, sign_of, opening, term, term_and_more, most_nested, nested, group_end, group_of, body_at, alternatives, whole, pattern}
 use Rattle.js_pattern.specs.declared.level.Level.{Level}
 use Rattle.js_pattern.specs.View.{IsFault}
 use Rattle.js_pattern.specs.Progress.{Part, make_part, part, parts, with_term, divided, finished, ended, Next, go_on, close_at, closed, outcome}
 
 -- reading n characters later is reading what is left then
-pub alternatives_skip : (n at : ℕ) (t : List ℕ) → alternatives n at t ≡ alternatives 0 (at + n) (drop n t)
-alternatives_skip zero at t = ap (λ a. alternatives 0 a t) (sym (add-zero at))
-alternatives_skip (suc n) at [] = refl
-alternatives_skip (suc n) at (c ∷ t) =
-    alternatives_skip n (suc at) t
-    ∙ (let e : suc at + n ≡ at + suc n = omega arith in ap (λ a. alternatives 0 a (drop n t)) e)
+pub alternatives_skip : (depth n at : ℕ) (t : List ℕ)
+    → alternatives depth n at t ≡ alternatives depth 0 (at + n) (drop n t)
+alternatives_skip depth zero at t = ap (λ a. alternatives depth 0 a t) (sym (add-zero at))
+alternatives_skip depth (suc n) at [] = refl
+alternatives_skip depth (suc n) at (c ∷ t) =
+    alternatives_skip depth n (suc at) t
+    ∙ (let e : suc at + n ≡ at + suc n = omega arith in ap (λ a. alternatives depth 0 a (drop n t)) e)
 
 -- where reading goes on k characters later with another part, the outcome stays
 module _ (p q : Part) (at k : ℕ) (s : List ℕ) (f : Body → Body)
@@ -52,12 +54,14 @@ module _ (p q : Part) (at k : ℕ) (s : List ℕ) (f : Body → Body)
       ≡ at + k + n = omega arith in ap (λ a. close_at next (finished q body) a (drop (k + n) s)) e)
       ∙ ap (close_at next (finished q body) (at + k + n)) (sym (drop-drop n k s))
 
-  pub outcome_on : (outers : List Part) → alternatives 0 at s ≡ after k f (alternatives 0 (at + k) (drop k s))
+  pub outcome_on : (outers : List Part)
+      → alternatives (length outers) 0 at s ≡ after k f (alternatives (length outers) 0 (at + k) (drop k s))
       → outcome outers p at s ≡ outcome outers q (at + k) (drop k s)
-  outcome_on [] e = ap (ended p at s) e ∙ ended_on (alternatives 0 (at + k) (drop k s))
+  outcome_on [] e = ap (ended p at s) e ∙ ended_on (alternatives 0 0 (at + k) (drop k s))
   outcome_on (outer ∷ outers) e =
       ap (closed (λ tree. outcome outers (with_term outer tree)) p at s) e
-      ∙ closed_on (λ tree. outcome outers (with_term outer tree)) (alternatives 0 (at + k) (drop k s))
+      ∙ closed_on (λ tree. outcome outers (with_term outer tree))
+      (alternatives (suc (length outers)) 0 (at + k) (drop k s))
 
 -- what one more term, or the end of an alternative, makes of the tree
 finished-add_term : (p : Part) (tree : Tree) (body : Body)
@@ -76,71 +80,95 @@ finished-add_alternative p body =
 
 -- a fault of what stands here is what comes of the text
 pub outcome_fault : (outers : List Part) (p : Part) (at : ℕ) (s : List ℕ) (fault : PatternFault)
-    → alternatives 0 at s ≡ Err fault → outcome outers p at s ≡ Err fault
+    → alternatives (length outers) 0 at s ≡ Err fault → outcome outers p at s ≡ Err fault
 outcome_fault [] p at s fault e = ap (ended p at s) e
 outcome_fault (outer ∷ outers) p at s fault e =
     ap (closed (λ tree. outcome outers (with_term outer tree)) p at s) e
 
+-- the opening of a group that stands inside few others, or inside too many
+pub nested_within : (depth at n : ℕ) (r : Result ℕ PatternFault) → r ≡ Ok n → depth < most_nested
+    → nested depth at r ≡ Ok n
+nested_within depth at n r e few =
+    ap (nested depth at) e
+    ∙ ap (λ b. if b then Ok n else Err (Unsupported at Nesting)) (lt-ltb depth most_nested few)
+
+pub nested_beyond : (depth at n : ℕ) (r : Result ℕ PatternFault) → r ≡ Ok n → most_nested ≤ depth
+    → nested depth at r ≡ Err (Unsupported at Nesting)
+nested_beyond depth at n r e many =
+    ap (nested depth at) e
+    ∙ ap (λ b. if b then Ok n else Err (Unsupported at Nesting)) (le-ltb depth most_nested many)
+
 module _ (outers : List Part) (p : Part) (at c : ℕ) (t : List ℕ) where
+  -- what is read inside as many groups, and inside one more
+  here_on : ℕ → Reading Body
+  here_on k = alternatives (length outers) k (suc at) t
+
+  inner_on : ℕ → Reading Body
+  inner_on k = alternatives (suc (length outers)) k (suc at) t
+
   from_here : (k : ℕ) (f : Body → Body)
-      → alternatives 0 at (c ∷ t) ≡ after (suc k) f (alternatives k (suc at) t)
-      → alternatives 0 at (c ∷ t) ≡ after (suc k) f (alternatives 0 (at + suc k) (drop (suc k) (c ∷ t)))
+      → alternatives (length outers) 0 at (c ∷ t) ≡ after (suc k) f (here_on k)
+      → alternatives (length outers) 0 at (c ∷ t)
+      ≡ after (suc k) f (alternatives (length outers) 0 (at + suc k) (drop (suc k) (c ∷ t)))
+  unfolding here_on
   from_here k f e =
-      e ∙ ap (after (suc k) f) (alternatives_skip k (suc at) t
-      ∙ (let place : suc at + k ≡ at + suc k = omega arith in ap (λ a. alternatives 0 a (drop k t)) place))
+      e ∙ ap (after (suc k) f) (alternatives_skip (length outers) k (suc at) t
+      ∙ (let place : suc at + k ≡ at + suc k = omega arith in
+      ap (λ a. alternatives (length outers) 0 a (drop k t)) place))
 
   moved : (k : ℕ) (q : Part)
       → outcome outers q (at + suc k) (drop (suc k) (c ∷ t)) ≡ outcome outers q (at + 1 + k) (drop k t)
   moved k q = let place : at + suc k ≡ at + 1 + k = omega arith in ap (λ a. outcome outers q a (drop k t)) place
 
+  -- what stands here, by what its character means
+  by_sign : (x : Sign) → sign_of c ≡ x
+      → alternatives (length outers) 0 at (c ∷ t) ≡ body_at x (length outers) at c t inner_on here_on
+  unfolding here_on inner_on
+  by_sign x sign = ap (λ y. body_at y (length outers) at c t inner_on here_on) sign
+
   -- a term
   pub after_term : (tree : Tree) (n : ℕ) → sign_of c ≡ begins_term → term at c t ≡ Ok (tree, n)
       → outcome outers p at (c ∷ t) ≡ outcome outers (with_term p tree) (at + 1 + n) (drop n t)
   after_term tree n sign e =
-      let more : ℕ → Reading Body = λ k. alternatives k (suc at) t in
       outcome_on p (with_term p tree) at (suc n) (c ∷ t) (add_term tree) (finished-add_term p tree) outers
       (from_here n (add_term tree)
-      (ap (λ x. body_at x at c t more) sign ∙ ap (λ r. and_then r (term_and_more more)) e))
+      (by_sign begins_term sign ∙ ap (λ r. and_then r (term_and_more here_on)) e))
       ∙ moved n (with_term p tree)
 
   -- the end of an alternative
   pub after_bar : sign_of c ≡ divides
       → outcome outers p at (c ∷ t) ≡ outcome outers (divided p) (at + 1 + 0) (drop 0 t)
   after_bar sign =
-      let more : ℕ → Reading Body = λ k. alternatives k (suc at) t in
       outcome_on p (divided p) at 1 (c ∷ t) add_alternative (finished-add_alternative p) outers
-      (from_here 0 add_alternative (ap (λ x. body_at x at c t more) sign))
+      (from_here 0 add_alternative (by_sign divides sign))
       ∙ moved 0 (divided p)
 
   -- the beginning of a group, of which n characters follow the `(`
-  module _ (n : ℕ) (sign : sign_of c ≡ opens) (opened : opening at t ≡ Ok n) where
-    more : ℕ → Reading Body
-    more k = alternatives k (suc at) t
-
+  module _ (n : ℕ) (sign : sign_of c ≡ opens) (opened : nested (length outers) at (opening at t) ≡ Ok n) where
     next : Next
     next tree = outcome outers (with_term p tree)
 
     -- the whole from the `(` on, by what the body of the group is
     by_body : Reading Body → Reading Body
-    by_body r = and_then r (λ body m. group_end more body (n + m) (at + 1 + (n + m)) (drop (n + m) t))
+    by_body r = and_then r (λ body m. group_end here_on body (n + m) (at + 1 + (n + m)) (drop (n + m) t))
 
-    here : alternatives 0 at (c ∷ t) ≡ by_body (more n)
-    unfolding by_body more
-    here =
-        ap (λ x. body_at x at c t (λ k. alternatives k (suc at) t)) sign
-        ∙ ap (group_of (λ k. alternatives k (suc at) t) at t) opened
+    here : alternatives (length outers) 0 at (c ∷ t) ≡ by_body (inner_on n)
+    unfolding by_body
+    here = by_sign opens sign ∙ ap (group_of inner_on here_on at t) opened
 
-    inside : more n ≡ alternatives 0 (at + 1 + n) (drop n t)
-    unfolding more
+    inside : inner_on n ≡ alternatives (suc (length outers)) 0 (at + 1 + n) (drop n t)
+    unfolding inner_on
     inside =
-        alternatives_skip n (suc at) t
-        ∙ (let place : suc at + n ≡ at + 1 + n = omega arith in ap (λ a. alternatives 0 a (drop n t)) place)
+        alternatives_skip (suc (length outers)) n (suc at) t
+        ∙ (let place : suc at + n ≡ at + 1 + n = omega arith in
+        ap (λ a. alternatives (suc (length outers)) 0 a (drop n t)) place)
 
     -- after the quantifier of the group
     by_quantifier : (body : Body) (k : ℕ) (u : List ℕ) (c' : ℕ) → drop k t ≡ c' ∷ u → (q : Reading Tree)
-        → (alternatives 0 at (c ∷ t) ≡ and_then q (λ tree m. term_and_more more tree (k + 1 + m)))
+        → (alternatives (length outers) 0 at (c ∷ t)
+        ≡ and_then q (λ tree m. term_and_more here_on tree (k + 1 + m)))
         → outcome outers p at (c ∷ t) ≡ go_on next (at + 1 + k + 1) u q
-    unfolding next more
+    unfolding next
     by_quantifier body k u c' left (Ok (tree, m)) e =
         outcome_on p (with_term p tree) at (suc (k + 1 + m)) (c ∷ t) (add_term tree)
         (finished-add_term p tree) outers
@@ -153,13 +181,13 @@ module _ (outers : List Part) (p : Part) (at c : ℕ) (t : List ℕ) where
     by_quantifier body k u c' left (Err fault) e = outcome_fault outers p at (c ∷ t) fault e
 
     by_end : (body : Body) (k : ℕ) (u : List ℕ) → drop k t ≡ u
-        → alternatives 0 at (c ∷ t) ≡ group_end more body k (at + 1 + k) u
+        → alternatives (length outers) 0 at (c ∷ t) ≡ group_end here_on body k (at + 1 + k) u
         → outcome outers p at (c ∷ t) ≡ close_at next (tree_of body) (at + 1 + k) u
     by_end body k [] left e = outcome_fault outers p at (c ∷ t) (Syntax (at + 1 + k)) e
     by_end body k (c' ∷ u) left e =
         by_quantifier body k u c' left (quantified (tree_of body) (at + 1 + k + 1) u) e
 
-    by_inside : (r : Reading Body) → alternatives 0 at (c ∷ t) ≡ by_body r
+    by_inside : (r : Reading Body) → alternatives (length outers) 0 at (c ∷ t) ≡ by_body r
         → outcome outers p at (c ∷ t) ≡ closed next (make_part [] []) (at + 1 + n) (drop n t) r
     unfolding by_body
     by_inside (Ok (body, m)) e =
@@ -172,12 +200,14 @@ module _ (outers : List Part) (p : Part) (at c : ℕ) (t : List ℕ) where
     pub after_opening : outcome outers p at (c ∷ t)
         ≡ outcome (p ∷ outers) (make_part [] []) (at + 1 + n) (drop n t)
     unfolding next
-    after_opening = by_inside (alternatives 0 (at + 1 + n) (drop n t)) (here ∙ ap by_body inside)
+    after_opening =
+        by_inside (alternatives (suc (length outers)) 0 (at + 1 + n) (drop n t)) (here ∙ ap by_body inside)
 
   -- the `)` of the whole text
   pub after_last : sign_of c ≡ closes → outcome [] p at (c ∷ t) ≡ Err (Syntax at)
   after_last sign =
-      ap (ended p at (c ∷ t)) (ap (λ x. body_at x at c t (λ k. alternatives k (suc at) t)) sign)
+      ap (ended p at (c ∷ t))
+      (ap (λ x. body_at x 0 at c t (λ k. alternatives 1 k (suc at) t) (λ k. alternatives 0 k (suc at) t)) sign)
       ∙ ap (λ b. if b then Err (Syntax (at + 0)) else Ok (finished p empty_body))
       (lt-ltb 0 (suc (length t)) (omega arith))
       ∙ (let place : at + 0 ≡ at = omega arith in ap (λ a. Err (Syntax a)) place)
@@ -189,7 +219,8 @@ module _ (outers : List Part) (p : Part) (at c : ℕ) (t : List ℕ) where
       (quantified (finished p empty_body) (at + 1) t)
   after_close outer sign =
       ap (closed (λ tree. outcome outers (with_term outer tree)) p at (c ∷ t))
-      (ap (λ x. body_at x at c t (λ k. alternatives k (suc at) t)) sign)
+      (ap (λ x. body_at x (suc (length outers)) at c t (λ k. alternatives (suc (suc (length outers))) k (suc at) t)
+      (λ k. alternatives (suc (length outers)) k (suc at) t)) sign)
       ∙ (let place : at + 0 ≡ at = omega arith in
       ap (λ a. go_on (λ tree. outcome outers (with_term outer tree)) (a + 1) t
       (quantified (finished p empty_body) (a + 1) t)) place)
@@ -199,15 +230,13 @@ module _ (outers : List Part) (p : Part) (at c : ℕ) (t : List ℕ) where
       → IsFault fault (outcome outers p at (c ∷ t))
   term_fault fault sign h no_memory =
       outcome_fault outers p at (c ∷ t) fault
-      (ap (λ x. body_at x at c t (λ k. alternatives k (suc at) t)) sign
-      ∙ ap (λ r. and_then r (term_and_more (λ k. alternatives k (suc at) t))) (h no_memory))
+      (by_sign begins_term sign ∙ ap (λ r. and_then r (term_and_more here_on)) (h no_memory))
 
-  pub opening_fault : (fault : PatternFault) → sign_of c ≡ opens → opening at t ≡ Err fault
+  pub opening_fault : (fault : PatternFault) → sign_of c ≡ opens
+      → nested (length outers) at (opening at t) ≡ Err fault
       → IsFault fault (outcome outers p at (c ∷ t))
   opening_fault fault sign e no_memory =
-      outcome_fault outers p at (c ∷ t) fault
-      (ap (λ x. body_at x at c t (λ k. alternatives k (suc at) t)) sign
-      ∙ ap (group_of (λ k. alternatives k (suc at) t) at t) e)
+      outcome_fault outers p at (c ∷ t) fault (by_sign opens sign ∙ ap (group_of inner_on here_on at t) e)
 
   pub close_fault : (outer : Part) (fault : PatternFault) → sign_of c ≡ closes
       → IsFault fault (quantified (finished p empty_body) (at + 1) t)
@@ -227,7 +256,7 @@ at_open outer outers p at = let place : at + 0 ≡ at = omega arith in ap (λ a.
 -- what comes of the whole text
 pub whole_text : (t : List ℕ) → pattern t ≡ outcome [] (make_part [] []) 0 t
 unfolding pattern
-whole_text t = by (alternatives 0 0 t) where
+whole_text t = by (alternatives 0 0 0 t) where
   by : (r : Reading Body) → whole t r ≡ ended (make_part [] []) 0 t r
   by (Ok (body, n)) =
       let e : n ≡ 0 + n = omega arith in ap
@@ -238,6 +267,9 @@ whole_text t = by (alternatives 0 0 t) where
 pub parts_push : (ls : List Level) (l : Level) → parts (ls ++ l ∷ []) ≡ part l ∷ parts ls
 parts_push ls l = ap reverse (map-append part ls (l ∷ [])) ∙ reverse-append (map part ls) (part l ∷ [])
 
+pub parts_length : (ls : List Level) → length (parts ls) ≡ length ls
+parts_length ls = length-reverse (map part ls) ∙ length-map ls part
+
 open_at_end : (os : List Part) (p : Part) (at : ℕ) → 0 < length os → outcome os p at [] ≡ Err (Syntax at)
 open_at_end [] p at h = absurd (omega arith)
 open_at_end (o ∷ os) p at h = at_open o os p at
@@ -247,4 +279,4 @@ pub levels_open : (ls : List Level) (p : Part) (at : ℕ) → 0 < length ls
     → outcome (parts ls) p at [] ≡ Err (Syntax at)
 levels_open ls p at h =
     open_at_end (parts ls) p at
-    (let e : length (parts ls) ≡ length ls = length-reverse (map part ls) ∙ length-map ls part in omega arith)
+    (let e : length (parts ls) ≡ length ls = parts_length ls in omega arith)

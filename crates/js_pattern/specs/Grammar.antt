@@ -4,7 +4,7 @@ use Rattle.patterns.specs.CharSet.{complement_of}
 use Rattle.patterns.specs.Tree.{Tree, empty, one_of, at_start, at_end, in_turn, either, trees_of}
 use Rattle.js_pattern.specs.declared.fault.PatternFault.{PatternFault}
 use Rattle.js_pattern.specs.declared.fault.PatternFault.TheVariants.{Syntax, Unsupported}
-use Rattle.js_pattern.specs.declared.fault.PatternForm.TheVariants.{Lookaround, NamedGroup}
+use Rattle.js_pattern.specs.declared.fault.PatternForm.TheVariants.{Lookaround, NamedGroup, Nesting}
 use Rattle.js_pattern.specs.declared.escape.Escape.{Escape}
 use Rattle.js_pattern.specs.declared.escape.Escape.TheVariants.{Character, Class}
 use Rattle.js_pattern.specs.Reading.{Reading, and_then, after, ◌∈◌, stands_at}
@@ -83,6 +83,15 @@ opening at t =
     else Err (Syntax at))
     else Ok 0
 
+-- a group may stand inside so many others
+abbrev pub most_nested : ℕ
+most_nested = 1000
+
+-- the opening of a group inside so many others
+abbrev pub nested : ℕ → ℕ → Result ℕ PatternFault → Result ℕ PatternFault
+nested depth at (Ok taken) = if nat_lt depth most_nested then Ok taken else Err (Unsupported at Nesting)
+nested depth at (Err fault) = Err fault
+
 -- what a character means for the alternatives
 pub data Sign : Type 0 where
   closes : Sign
@@ -104,29 +113,32 @@ group_end more body taken at [] = Err (Syntax at)
 group_end more body taken at (c ∷ t) =
     and_then (quantified (tree_of body) (at + 1) t) (λ tree n. term_and_more more tree (taken + 1 + n))
 
--- a group whose `(` stands at the place `at`, and the text follows it. Its body begins `taken` characters later
-abbrev pub group : (ℕ → Reading Body) → ℕ → List ℕ → ℕ → Reading Body
-group more at t taken =
-    and_then (more taken)
+-- a group whose `(` stands at the place `at`, and the text follows it. Its body begins `taken` characters later;
+-- `inner n` reads n characters on inside the group, and `more n` behind it
+abbrev pub group : (ℕ → Reading Body) → (ℕ → Reading Body) → ℕ → List ℕ → ℕ → Reading Body
+group inner more at t taken =
+    and_then (inner taken)
     (λ body n. group_end more body (taken + n) (at + 1 + (taken + n)) (drop (taken + n) t))
 
-abbrev pub group_of : (ℕ → Reading Body) → ℕ → List ℕ → Result ℕ PatternFault → Reading Body
-group_of more at t (Ok taken) = group more at t taken
-group_of more at t (Err fault) = Err fault
+abbrev pub group_of : (ℕ → Reading Body) → (ℕ → Reading Body) → ℕ → List ℕ → Result ℕ PatternFault → Reading Body
+group_of inner more at t (Ok taken) = group inner more at t taken
+group_of inner more at t (Err fault) = Err fault
 
--- what a character begins: c stands at the place `at`, the text follows it, and `more n` reads n characters on
-abbrev pub body_at : Sign → ℕ → ℕ → List ℕ → (ℕ → Reading Body) → Reading Body
-body_at closes at c t more = Ok (empty_body, 0)
-body_at divides at c t more = after 1 add_alternative (more 0)
-body_at opens at c t more = group_of more at t (opening at t)
-body_at begins_term at c t more = and_then (term at c t) (term_and_more more)
+-- what a character begins inside so many groups: c stands at the place `at`, and the text follows it
+abbrev pub body_at : Sign → ℕ → ℕ → ℕ → List ℕ → (ℕ → Reading Body) → (ℕ → Reading Body) → Reading Body
+body_at closes depth at c t inner more = Ok (empty_body, 0)
+body_at divides depth at c t inner more = after 1 add_alternative (more 0)
+body_at opens depth at c t inner more = group_of inner more at t (nested depth at (opening at t))
+body_at begins_term depth at c t inner more = and_then (term at c t) (term_and_more more)
 
--- the alternatives up to the end of the text, or to a `)` that ends their group. The text begins at the place `at`,
--- and what is read there begins `skip` characters later
-abbrev pub alternatives : ℕ → ℕ → List ℕ → Reading Body
-alternatives skip at [] = Ok (empty_body, 0)
-alternatives (suc skip) at (c ∷ t) = alternatives skip (suc at) t
-alternatives zero at (c ∷ t) = body_at (sign_of c) at c t (λ n. alternatives n (suc at) t)
+-- the alternatives up to the end of the text, or to a `)` that ends their group, inside so many groups. The text begins
+-- at the place `at`, and what is read there begins `skip` characters later
+abbrev pub alternatives : ℕ → ℕ → ℕ → List ℕ → Reading Body
+alternatives depth skip at [] = Ok (empty_body, 0)
+alternatives depth (suc skip) at (c ∷ t) = alternatives depth skip (suc at) t
+alternatives depth zero at (c ∷ t) =
+    body_at (sign_of c) depth at c t (λ n. alternatives (suc depth) n (suc at) t)
+    (λ n. alternatives depth n (suc at) t)
 
 -- the whole text is read, or a `)` is left that ends no group
 abbrev pub whole : List ℕ → Reading Body → Result Tree PatternFault
@@ -135,4 +147,4 @@ whole t (Err fault) = Err fault
 
 -- the tree of a pattern, or its first fault
 unfoldable pub pattern : List ℕ → Result Tree PatternFault
-pattern t = whole t (alternatives 0 0 t)
+pattern t = whole t (alternatives 0 0 0 t)

@@ -1,7 +1,7 @@
 -- What reports print.
 use Rattle.std.specs.Prelude.{ℕ, List, codes}
 use Rattle.js_pattern.specs.declared.fault.PatternForm.{PatternForm}
-use Rattle.js_pattern.specs.declared.fault.PatternForm.TheVariants.{Lookaround, NamedGroup, Backreference, Octal, Boundary, Property, Control, Surrogate}
+use Rattle.js_pattern.specs.declared.fault.PatternForm.TheVariants.{Lookaround, NamedGroup, Backreference, Octal, Boundary, Property, Control, Surrogate, Nesting}
 
 abbrev pub form_name : PatternForm → List ℕ
 form_name Lookaround = codes "lookaround"
@@ -12,3 +12,4 @@ form_name Boundary = codes "boundary"
 form_name Property = codes "property"
 form_name Control = codes "control"
 form_name Surrogate = codes "surrogate"
+form_name Nesting = codes "nesting"

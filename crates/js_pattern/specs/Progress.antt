@@ -1,5 +1,5 @@
 -- What comes of a text from a place on, where groups are open. The reader keeps this the same.
-use Rattle.std.specs.Prelude.{◌≡◌, ℕ, ◌+◌, nat_lt, List, [], ◌∷◌, ◌++◌, map, reverse, length, drop, Result, Ok, Err, if◌then◌else◌}
+use Rattle.std.specs.Prelude.{◌≡◌, ℕ, suc, ◌+◌, nat_lt, List, [], ◌∷◌, ◌++◌, map, reverse, length, drop, Result, Ok, Err, if◌then◌else◌}
 use Rattle.patterns.specs.Tree.{Tree}
 use Rattle.js_pattern.specs.declared.fault.PatternFault.{PatternFault}
 use Rattle.js_pattern.specs.declared.fault.PatternFault.TheVariants.{Syntax}
@@ -59,9 +59,9 @@ closed next p at t (Err fault) = Err fault
 
 -- what comes of the text that begins at a place, inside these groups
 abbrev pub outcome : List Part → Part → ℕ → List ℕ → Result Tree PatternFault
-outcome [] p at t = ended p at t (alternatives 0 at t)
+outcome [] p at t = ended p at t (alternatives 0 0 at t)
 outcome (outer ∷ outers) p at t =
-    closed (λ tree. outcome outers (with_term outer tree)) p at t (alternatives 0 at t)
+    closed (λ tree. outcome outers (with_term outer tree)) p at t (alternatives (suc (length outers)) 0 at t)
 
 -- what comes of the text that begins at a place, given what the reader holds
 abbrev pub comes_of : Reader → ℕ → List ℕ → Result Tree PatternFault

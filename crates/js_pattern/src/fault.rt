@@ -41,6 +41,8 @@ pub enum PatternForm {
     Control,
     /// an escape of a surrogate that forms no character
     Surrogate,
+    /// a group inside 1,000 others: what goes over a tree recurs as deep as its groups nest
+    Nesting,
 }
 
 impl PatternForm {
@@ -57,6 +59,7 @@ impl PatternForm {
             PatternForm::Property => "property",
             PatternForm::Control => "control",
             PatternForm::Surrogate => "surrogate",
+            PatternForm::Nesting => "nesting",
         }
     }
 }

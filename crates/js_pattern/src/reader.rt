@@ -1,8 +1,8 @@
 //! A pattern as a whole.
 //!
-//! The reader goes over the text once, from the left, and keeps the open groups on a stack of its own: a text of a
-//! million `(` takes memory and no depth of calls. What comes of the whole text, given the open groups and what is left
-//! of the text, stays the same with each step.
+//! The reader goes over the text once, from the left, and keeps the open groups on a stack of its own. What comes of
+//! the whole text, given the open groups and what is left of the text, stays the same with each step. Whatever goes over
+//! the tree later recurs as deep as the groups nest, so they nest only as far as any thread's stack bears.
 
 ghost use Rattle.std.specs.Prelude.{◌≡◌, ◌≢◌, ◌+◌, ◌<◌, ◌≤◌, ◌^◌, [], ◌∷◌, length, chars, Ok};
 ghost use Rattle.std.specs.Result.{IfOk, IfErr, OnOk};
@@ -10,7 +10,7 @@ ghost use Rattle.js_pattern.specs.Correct.{HasTree, HasFirstFault, NeverBoth, Ha
 ghost use Rattle.js_pattern.specs.Grammar.{pattern};
 ghost use Rattle.js_pattern.specs.View.{view, IsFault};
 
-use crate::fault::PatternFault;
+use crate::fault::{PatternFault, PatternForm};
 use crate::level::Level;
 use crate::quantifier::quantify;
 use crate::re::Re;
@@ -18,6 +18,9 @@ use crate::scan::skip;
 use crate::term::{opening, read_term};
 use std::alloc::{AllocError, Global};
 use std::mem;
+
+/// A group may stand inside so many others.
+const MOST_NESTED: usize = 1_000;
 
 /// The groups that are open, the innermost last, and what is read of the innermost one.
 #[derive(Drop)]
@@ -66,6 +69,9 @@ impl Reader {
         ensures within { IfOk result (λ n. n ≤ length rest.now) }
     {
         let taken = opening(rest, at)?;
+        if self.outers.len() >= MOST_NESTED {
+            return Err(PatternFault::Unsupported(at, PatternForm::Nesting));
+        }
         self.open(alloc)?;
         Ok(taken)
     }
