@@ -1,7 +1,7 @@
 -- The rows of a cell are those of its names: a name is in the cell of the row to which it leads.
 use Rattle.std.proofs.Common.{◌≡◌, ℕ, ◌<◌, Bool, true, false, min, nat_eq, List, [], ◌∷◌, ◌++◌, map, length, get_or, ap, sym, ◌∙◌, subst, arith}
 use Rattle.std.specs.List.{list_all}
-use Rattle.std.proofs.lemmas.List.{get_or-map, length-map}
+use Rattle.std.proofs.lemmas.List.{get_or-map, length-map, map-id}
 use Rattle.std.proofs.lemmas.List.Folds.{list_all-append}
 use Rattle.std.proofs.lemmas.Bool.{and_from}
 use Rattle.patterns.specs.CharSet.{is_scalar}
@@ -91,23 +91,15 @@ module _ (T : List Position) (xs : List Signed) (rows : List (List ℕ)) (c : �
       ap (λ v. get_or v i false) e ∙ sym (told_at T xs w i m) ∙ ap (λ v. told xs v (get_or xs i (G.Plus 0))) (sym e)
 
 -- a kept vector is the one of its number
-pub kept_vector : {V : Type 0} (items : V → List Bool) (ks new : List V) (c : ℕ) (v : V) (vs : List (List Bool))
-    → new ≡ ks → map items ks ≡ vs → v ≡ get_or new c v → c < length vs → items v ≡ vector_at vs c
-kept_vector items ks new c v vs e g i l =
-    let n = length-map ks items in
-    let m = ap length g in
-    ap items (i ∙ ap (λ z. get_or z c v) e)
-    ∙ sym (kept_at items ks c v (omega (arith, l, n, m)))
-    ∙ ap (λ z. vector_at z c) g
+pub kept_vector : (ks new : List (List Bool)) (c : ℕ) (v : List Bool) (vs : List (List Bool)) → new ≡ ks → ks ≡ vs
+    → v ≡ get_or new c v → c < length vs → v ≡ vector_at vs c
+kept_vector ks new c v vs e g i l =
+    i ∙ ap (λ z. get_or z c v) (e ∙ g) ∙ sym (kept_at (λ u. u) vs c v l) ∙ ap (λ z. vector_at z c) (map-id vs)
 
 -- what stands at a place doesn't depend on what is told where there is none
 pub at_default : {A : Type 0} (x : A) (i : ℕ) (xs : List A) (d : A) → i < length xs → x ≡ get_or xs i x
     → x ≡ get_or xs i d
 at_default x i xs d l e = e ∙ sym (get_or-map (λ y. y) xs i x x l) ∙ get_or-map (λ y. y) xs i d x l
-
-pub other_default : (x : Bool) (i : ℕ) (xs ys : List Bool) → xs ≡ ys → i < length ys → x ≡ get_or xs i x
-    → x ≡ get_or ys i false
-other_default x i xs ys e l h = at_default x i ys false l (h ∙ ap (λ z. get_or z i x) e)
 
 -- the first row is that of the empty word
 pub first_is_empty : (atoms : List Atom) (rows : List (List ℕ)) → AreRows atoms rows → get_or rows 0 [] ≡ []

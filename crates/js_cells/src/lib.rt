@@ -5,11 +5,14 @@
 //! words of which the same is said, so a cell is some of its rows.
 #![tactic(auto)]
 
+mod flags;
 mod grouping;
 mod name_cells;
 mod row_length;
 mod telling;
 #[cfg(test)]
 mod tests;
+mod truths;
+mod walk;
 
 pub use name_cells::Cells;

@@ -5,10 +5,11 @@ ghost use Rattle.cells.specs.Cells.{naming};
 ghost use Rattle.js_algebra.specs.View.{signed_view};
 ghost use Rattle.js_automaton.specs.AutomatonView.{atoms_of, rows_of};
 ghost use Rattle.js_row_words.specs.CounterView as counted;
-ghost use Rattle.js_said.specs.Vectors.{vectors_in, row_vectors, row_places};
+ghost use Rattle.js_said.specs.Vectors.{row_vectors, row_places};
 ghost use Rattle.js_cells.specs.Groups.{ShareVectors};
 ghost use Rattle.js_said.specs.AtomCode.{same_atoms-prop};
 
+use crate::flags::Flags;
 use crate::grouping::group;
 use crate::row_length::word_length;
 use indexmap::IndexSet;
@@ -30,12 +31,12 @@ pub struct Cells<'a> {
     automaton: &'a Automaton,
     counter: WordCounter<'a>,
     names: Vec<Signed>,
-    vectors: IndexSet<Vec<bool>>,
+    vectors: IndexSet<Flags>,
     places: Vec<u32>,
     ghost atoms: { counted.atoms_of counter ≡ atoms_of automaton.now } by { same_atoms-prop _ _ },
     ghost rows: { counted.rows_of counter ≡ rows_of automaton.now },
     ghost named: { map signed_view names.items ≡ naming core.now.positions (map signed_view set.now) },
-    ghost grouped: { vectors_in vectors.keys
+    ghost grouped: { vectors.keys
         ≡ row_vectors core.now.positions (map signed_view set.now) (rows_of automaton.now) },
     ghost placed: { places.items ≡ row_places core.now.positions (map signed_view set.now) (rows_of automaton.now) },
     ghost same: { ShareVectors core.now.positions (map signed_view set.now) (atoms_of automaton.now) },
@@ -58,8 +59,9 @@ impl<'a> Cells<'a> {
     ghost use Rattle.js_cells.specs.View.{cells_view};
     ghost use Rattle.js_cells.specs.Counting.{IsCount};
 
-    /// The cells of the names of a set, by the automaton of its atoms. It costs for each row what the literals say of
-    /// it, and memory for each row and for each cell and literal.
+    /// The cells of the names of a set, by the automaton of its atoms. It costs a walk for each listed word, a look at
+    /// each row for each pattern and each length, for each literal the rows of its atoms, and a bit of memory for each
+    /// row and literal.
     pub fn new(
         alloc: Global,
         core: &'a Core,
@@ -74,7 +76,8 @@ impl<'a> Cells<'a> {
         ensures rows { IfOk result (λ c. rows_of c.automaton.now ≡ rows_of automaton.now) }
     {
         let taken = Taken::of(alloc, core, set)?;
-        let grouped = group(alloc, core, automaton, taken.said.as_slice())?;
+        let atoms = taken.atoms.as_slice();
+        let grouped = group(alloc, core, automaton, atoms, taken.said.as_slice())?;
         Ok(Cells {
             core,
             set,
@@ -120,7 +123,7 @@ impl<'a> Cells<'a> {
         ensures { result ≡ truth (cells_view self.now) cell
             (get_or (cells_view self.now).names literal (G.Plus 0)) }
     {
-        self.vectors.as_slice()[cell as usize][literal]
+        self.vectors.as_slice()[cell as usize].get(literal)
     }
 
     /// For each row, how many words lead from it into a cell, cut at 65,537.

@@ -1,22 +1,37 @@
-use Rattle.std.proofs.Common.{arith}
+use Rattle.std.proofs.Common.{◌≡◌, ◌<◌, [], map, length, ap, ◌∙◌, arith}
+use Rattle.std.proofs.lemmas.List.{length-map}
+use Rattle.std.proofs.lemmas.Result.{IfOk-weaker}
+use Rattle.std.proofs.lemmas.Simd.{map-map}
+use Rattle.word_states.specs.Mention.{mention_all}
+use Rattle.cells.specs.Cells.{same_vector, place}
 use Rattle.js_automaton.specs.AutomatonView.{atoms_of, rows_of}
 use Rattle.js_said.specs.Saying.{told_of}
-use Rattle.js_said.proofs.Vectors.{grouped_next, grouped_few}
 use Rattle.js_cells.proofs.grouping.group.Goals as goal
 
-pub add-requires : goal.add-requires
-add-requires c =
-    let few = grouped_few (λ v. v.items) (told_of c.args.core.now.positions (atoms_of c.args.automaton.now)
-    c.args.said.now) (rows_of c.args.automaton.now) c.loop-row.row c.loop-row.grouped.vectors.keys
-    c.loop-row.grouped.cells.items c.loop-row.invariant.within c.loop-row.invariant.grouped in
-    omega (arith, few, c.loop-row.invariant.within, c.rows-row-end.ensures.count, c.rows-row-end.ensures.limit)
+pub number-requires : goal.number-requires
+number-requires c =
+    let a = c.args.automaton.now in
+    let told = ap length c.in_ok-told.ensures in
+    let long = length-map (rows_of a) (told_of c.args.core.now.positions (atoms_of a) c.args.said.now) in
+    let few = a.found.1.1 in omega (arith, told, long, few)
 
-pub loop-row-preserved : goal.loop-row-preserved
-loop-row-preserved c = record {
-  within = omega (arith, c.loop-row-test.true, c.rows-row-end.ensures.count);
-  grouped = grouped_next (λ v. v.items) (told_of c.args.core.now.positions (atoms_of c.args.automaton.now)
-      c.args.said.now) (rows_of c.args.automaton.now) c.loop-row.row c.in_ok-vector.vector.items
-      c.loop-row.grouped.vectors.keys c.add.new.self.vectors.keys c.loop-row.grouped.cells.items
-      c.add.new.self.cells.items (omega (arith, c.loop-row-test.true, c.rows-row-end.ensures.count))
-      c.in_ok-vector.ensures c.in_ok-add.ensures.vectors c.in_ok-add.ensures.cells c.loop-row.invariant.grouped;
-}
+pub returns-clause-vectors : goal.returns-clause-vectors
+returns-clause-vectors c =
+    let a = c.args.automaton.now in
+    let f = told_of c.args.core.now.positions (atoms_of a) c.args.said.now in
+    IfOk-weaker c.number.result
+    (λ g. g.vectors.keys ≡ mention_all same_vector [] c.in_ok-told.told.items)
+    (λ g. g.vectors.keys ≡ mention_all same_vector [] (map f (rows_of a)))
+    (λ g h. h ∙ ap (mention_all same_vector []) c.in_ok-told.ensures)
+    c.number.ensures.vectors
+
+pub returns-clause-cells : goal.returns-clause-cells
+returns-clause-cells c =
+    let a = c.args.automaton.now in
+    let f = told_of c.args.core.now.positions (atoms_of a) c.args.said.now in
+    IfOk-weaker c.number.result
+    (λ g. g.cells.items ≡ map (λ v. place v g.vectors.keys) c.in_ok-told.told.items)
+    (λ g. g.cells.items ≡ map (λ w. place (f w) g.vectors.keys) (rows_of a))
+    (λ g h. h ∙ ap (map (λ v. place v g.vectors.keys)) c.in_ok-told.ensures
+    ∙ map-map (λ v. place v g.vectors.keys) f (rows_of a))
+    c.number.ensures.cells

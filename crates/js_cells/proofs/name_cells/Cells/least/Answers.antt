@@ -9,7 +9,8 @@ pub returns-in-None : goal.returns-in-None
 returns-in-None c =
     let x = c.args.self.now in
     let T = x.core.now.positions in
-    let (r, l, e) = cell_row T (naming T (map signed_view x.set.now)) (rows_of x.automaton.now) c.args.cell c.requires in
+    let xs = naming T (map signed_view x.set.now) in
+    let (r, l, e) = cell_row T xs (rows_of x.automaton.now) c.args.cell c.requires in
     absurd (c.in-None.ensures r l e)
 
 pub returns-in-Some-clause-first : goal.returns-in-Some-clause-first

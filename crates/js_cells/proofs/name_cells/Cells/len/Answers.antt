@@ -1,5 +1,4 @@
 use Rattle.std.proofs.Common.{map, length, ap, arith}
-use Rattle.std.proofs.lemmas.List.{length-map}
 use Rattle.cells.specs.Cells.{naming}
 use Rattle.js_algebra.specs.View.{signed_view}
 use Rattle.js_automaton.specs.AutomatonView.{rows_of}
@@ -15,7 +14,6 @@ overflow_cast-result c =
       arith,
       few,
       ap length c.args.self.now.grouped,
-      length-map c.args.self.now.vectors.keys (λ v. v.items),
       c.len.ensures.len,
       c.args.self.now.automaton.now.found.1.1,
     )

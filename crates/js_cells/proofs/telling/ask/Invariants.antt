@@ -2,12 +2,12 @@
 use Rattle.std.proofs.Common.{◌≡◌, ◌++◌, [], map, drop, get_or, true}
 use Rattle.js_automaton.specs.AutomatonView.{atoms_of, rows_of}
 use Rattle.js_said.specs.AtomNumbers.{is_true_at, are_below}
-use Rattle.js_cells.proofs.telling.tell.Given as goal
+use Rattle.js_cells.proofs.telling.ask.Given as goal
 
 abbrev pub invariant-loop-number : goal.invariant-loop-number
 invariant-loop-number l = record {
   below : are_below (atoms_of l.automaton) (drop l.number-index l.numbers) ≡ true;
-  truths : l.truths.items ++ map (is_true_at (atoms_of l.automaton) (get_or (rows_of l.automaton) l.row []))
+  truths : l.asked.items ++ map (is_true_at (atoms_of l.automaton) (get_or (rows_of l.automaton) l.row []))
       (drop l.number-index l.numbers)
       ≡ map (is_true_at (atoms_of l.automaton) (get_or (rows_of l.automaton) l.row [])) l.numbers;
 }
