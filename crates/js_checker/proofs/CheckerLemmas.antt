@@ -1,5 +1,5 @@
 -- For which lines a checker stands, and what it tells of them.
-use Rattle.std.proofs.Common.{◌≡◌, ℕ, suc, ◌+◌, List, [], ◌∷◌, ◌++◌, Bool, true, false, Option, Some, None, Ok, Err, refl, ap, sym, ◌∙◌, subst, arith}
+use Rattle.std.proofs.Common.{◌≡◌, ℕ, suc, ◌+◌, List, [], ◌∷◌, ◌++◌, length, Bool, true, false, Option, Some, None, Ok, Err, refl, ap, sym, ◌∙◌, subst, arith}
 use Rattle.documents.specs.Document.{Document, is_document}
 use Rattle.positions.specs.Position.{Position}
 use Rattle.positions.specs.Holds.{holds, IsTable}
@@ -12,12 +12,12 @@ use Rattle.js_rules.specs.Told.{Breaks}
 use Rattle.js_rules.specs.RuleView.{rule_view}
 use Rattle.js_rules.specs.declared.fault.RuleFault.{RuleFault}
 use Rattle.js_rules.specs.declared.fault.RuleFault.TheVariants as R
-use Rattle.js_checker.specs.Standing.{LeadTo, Stands}
+use Rattle.js_checker.specs.Standing.{LeadTo, LeadsOver, Stands}
 use Rattle.js_checker.specs.Faults.{Tells, fault_at}
 use Rattle.js_checker.specs.CheckerView.{standing}
 use Rattle.js_checker.specs.declared.fault.CheckFault.{CheckFault}
 use Rattle.js_checker.specs.declared.fault.CheckFault.TheVariants as F
-use Rattle.js_checker.proofs.StandingLemmas.{no_lines_lead, line_leads, line_breaks, rejected_whole, led_whole, at_end-before, at_part-before}
+use Rattle.js_checker.proofs.StandingLemmas.{no_lines_lead, line_leads, lines_lead, line_breaks, all_rejected, rejected_whole, led_whole, at_end-before, at_part-before}
 
 module _ (T : List Position) (a b : ℕ) where
   abbrev StandsBy : Option CheckFault → Stage → ℕ → List Line → Type 0
@@ -37,6 +37,30 @@ module _ (T : List Position) (a b : ℕ) where
     next_stands o ls none h =
         subst (λ p. StandsBy p u (n + 1) (ls ++ l ∷ [])) (sym none)
         (line_leads T a b ls l s n (subst (λ p. StandsBy p s n ls) none h) u (n + 1) refl taken)
+
+  -- lines that lead over to another stage
+  module _ (xs : List Line) (s u : Stage) (n m : ℕ) (count : m ≡ n + length xs) (over : LeadsOver T a b s xs u) where
+    pub lines_reached : (((ls : List Line) → LeadTo T a b ls s n → ⊥) → ⊥)
+        → ((ls : List Line) → LeadTo T a b ls u m → ⊥) → ⊥
+    lines_reached reached h = reached (λ ls led. h (ls ++ xs) (lines_lead T a b ls xs s u n m count over led))
+
+    pub lines_stand : (o : Option CheckFault) (ls : List Line) → o ≡ None → StandsBy o s n ls
+        → StandsBy o u m (ls ++ xs)
+    lines_stand o ls none h =
+        subst (λ p. StandsBy p u m (ls ++ xs)) (sym none)
+        (lines_lead T a b ls xs s u n m count over (subst (λ p. StandsBy p s n ls) none h))
+
+  -- after a fault, whatever comes
+  fault_stands : (fault : CheckFault) (s : Stage) (n : ℕ) (ls xs : List Line) → StandsBy (Some fault) s n ls
+      → StandsBy (Some fault) s n (ls ++ xs)
+  fault_stands (F.Rejected k r) s n ls xs h = all_rejected T a b ls xs k r h
+  fault_stands F.Memory s n ls xs h = tt
+
+  pub stopped_stands : (o : Option CheckFault) (fault : CheckFault) (s : Stage) (n : ℕ) (ls xs : List Line)
+      → o ≡ Some fault → StandsBy o s n ls → StandsBy o s n (ls ++ xs)
+  stopped_stands o fault s n ls xs e h =
+      subst (λ p. StandsBy p s n (ls ++ xs)) (sym e)
+      (fault_stands fault s n ls xs (subst (λ p. StandsBy p s n ls) e h))
 
   -- a line that breaks a rule
   broken_by : (l : Line) (s u : Stage) (n m : ℕ) (ls : List Line) (fault : RuleFault)

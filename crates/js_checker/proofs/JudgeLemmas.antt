@@ -51,6 +51,10 @@ busy [] (Some K.Object) g e = refl
 pub busy_duties : (e : EntryCheck) (g : List Signed) → is_busy e ≡ true → any_left (goal_duties g e) ≡ true
 busy_duties e g h = busy (tree_duties e.tree) e.kind g h
 
+-- nothing is left of it
+pub idle_duties : (e : EntryCheck) (g : List Signed) → is_busy e ≡ false → goal_duties g e ≡ []
+idle_duties e g h = idle (tree_duties e.tree) e.kind g h
+
 -- between goals
 pub idle_stage : (j : Judge) → j.progress ≡ P.Showing → is_busy j.entry ≡ false
     → stage_of j ≡ Showing j.goals.items (entry_duties j.entered (drop j.entered j.goals.items))

@@ -6,3 +6,7 @@ pub mod ShowingLemmas
 pub mod JudgeLemmas
 pub mod StandingLemmas
 pub mod CheckerLemmas
+pub mod EntryLemmas
+pub mod PassingLemmas
+pub mod TakingLemmas
+pub mod CutLemmas

@@ -7,7 +7,7 @@ use Rattle.positions.specs.Position.{Position}
 use Rattle.certificate_lines.specs.Line.{Line}
 use Rattle.verdicts.specs.Rules.{no_end, out_of_place}
 use Rattle.verdicts.specs.Verdict.{Stage, Start, Counting, Listing, Showing, Ended, Verdict, Accepted, Rejected, step, go_on, judged, at_end, at_part, verdict}
-use Rattle.js_checker.specs.Standing.{LeadTo, AreRejected}
+use Rattle.js_checker.specs.Standing.{LeadTo, LeadsOver, AreRejected}
 
 module _ (T : List Position) (a b : ℕ) where
   abbrev judge : (Stage → ℕ → Verdict) → Stage → ℕ → List Line → Verdict
@@ -42,6 +42,21 @@ module _ (T : List Position) (a b : ℕ) where
       → AreRejected T a b (ls ++ l ∷ []) k r
   more_rejected ls l k r h finish more =
       ap (judge finish Start 1) (append_assoc ls (l ∷ []) more) ∙ h finish (l ∷ more)
+
+  pub all_rejected : (ls xs : List Line) (k r : ℕ) → AreRejected T a b ls k r → AreRejected T a b (ls ++ xs) k r
+  all_rejected ls xs k r h finish more =
+      ap (judge finish Start 1) (append_assoc ls xs more) ∙ h finish (xs ++ more)
+
+  -- lines later
+  pub lines_lead : (ls xs : List Line) (s u : Stage) (n m : ℕ) → m ≡ n + length xs → LeadsOver T a b s xs u
+      → LeadTo T a b ls s n → LeadTo T a b (ls ++ xs) u m
+  lines_lead ls xs s u n m count over led = record {
+    count = length-append ls xs ∙ omega (arith, led.count, count);
+    judged_on = λ finish more.
+        let next : suc n + length xs ≡ suc m = omega (arith, count) in
+        ap (judge finish Start 1) (append_assoc ls xs more) ∙ led.judged_on finish (xs ++ more)
+        ∙ over finish (suc n) more ∙ ap (λ k. judge finish u k more) next;
+  }
 
   -- whatever comes after a line that is rejected
   pub rejected_there : (ls more : List Line) (l : Line) (k r : ℕ) → AreRejected T a b (ls ++ l ∷ []) k r

@@ -19,6 +19,12 @@ premise_of c = c.question.premise.0
 abbrev pub conclusion_of : Checker → ℕ
 conclusion_of c = c.question.conclusion.0
 
+-- the table and both positions are the same
+pub record IsSameQuestion (old new : Checker) : Type 0 where
+  pub table : table_of new ≡ table_of old
+  pub premise : premise_of new ≡ premise_of old
+  pub conclusion : conclusion_of new ≡ conclusion_of old
+
 -- how many lines were taken
 abbrev pub lines_of : Checker → ℕ
 lines_of c = c.lines

@@ -1,5 +1,5 @@
 -- The stage that lines lead to.
-use Rattle.std.specs.Prelude.{◌≡◌, ℕ, suc, ◌-◌, ◌<◌, ◌≤◌, List, [], ◌++◌, length, get_or, drop, Bool, true, false, Result}
+use Rattle.std.specs.Prelude.{◌≡◌, ℕ, suc, ◌-◌, ◌<◌, ◌≤◌, List, [], ◌++◌, length, get_or, drop, Bool, true, false, not, ◌&&◌, Result}
 use Rattle.documents.specs.Tests.{every}
 use Rattle.positions.specs.Position.{Position}
 use Rattle.goals.specs.Signed.{Signed}
@@ -35,6 +35,15 @@ abbrev pub is_early : Progress → Bool
 is_early P.Showing = false
 is_early P.Ended = false
 is_early _ = true
+
+-- goals were listed, and are shown
+abbrev pub is_showing : Progress → Bool
+is_showing P.Showing = true
+is_showing _ = false
+
+-- an entry may come next: nothing is left of the last one
+abbrev pub is_between : Judge → Bool
+is_between j = is_showing j.progress && not (is_busy j.entry)
 
 -- no goal was listed
 abbrev pub is_head : Progress → Bool

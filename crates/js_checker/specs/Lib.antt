@@ -6,6 +6,7 @@ pub mod Duties
 pub mod LeafView
 pub mod TreeView
 pub mod EntryView
+pub mod Entries
 pub mod JudgeView
 pub mod Props
 pub mod CheckerView

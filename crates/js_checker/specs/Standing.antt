@@ -1,5 +1,5 @@
 -- What has become of the lines that were taken.
-use Rattle.std.specs.Prelude.{◌≡◌, ℕ, suc, List, ◌++◌, length, ⊤}
+use Rattle.std.specs.Prelude.{◌≡◌, ℕ, suc, ◌+◌, List, ◌++◌, length, ⊤}
 use Rattle.positions.specs.Position.{Position}
 use Rattle.certificate_lines.specs.Line.{Line}
 use Rattle.verdicts.specs.Verdict.{Stage, Start, Verdict, Rejected, judged}
@@ -17,6 +17,11 @@ pub record LeadTo (T : List Position) (a b : ℕ) (ls : List Line) (s : Stage) (
   pub count : length ls ≡ n
   pub judged_on : (finish : Stage → ℕ → Verdict) (more : List Line)
       → judged T a b finish Start 1 (ls ++ more) ≡ judged T a b finish s (suc n) more
+
+-- the lines lead from a stage to another one, whatever comes after them
+abbrev pub LeadsOver : List Position → ℕ → ℕ → Stage → List Line → Stage → Type 0
+LeadsOver T a b s ls u = (finish : Stage → ℕ → Verdict) (k : ℕ) (more : List Line)
+    → judged T a b finish s k (ls ++ more) ≡ judged T a b finish u (k + length ls) more
 
 -- whatever comes after the lines, they are rejected
 abbrev pub AreRejected : List Position → ℕ → ℕ → List Line → ℕ → ℕ → Type 0

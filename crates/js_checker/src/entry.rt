@@ -11,6 +11,7 @@ ghost use Rattle.js_checker.specs.EntryView.{kinds_from, kind_duties};
 
 use crate::tree::TreeCheck;
 use js_algebra::{Core, Goal, JsonKind};
+use js_doc::Memory;
 use js_lines::CertLine;
 use js_rules::{Rule, RuleFault};
 use std::alloc::Global;
@@ -24,7 +25,7 @@ pub(crate) struct EntryCheck<'a> {
 }
 
 impl<'a> EntryCheck<'a> {
-    ghost use Rattle.std.specs.Prelude.{◌≡◌, List, map, true, false, not, OnOk, IfErr};
+    ghost use Rattle.std.specs.Prelude.{◌≡◌, List, map, true, false, not, OnOk, IfOk, IfErr};
     ghost use Rattle.documents.specs.Kind.{all_kinds};
     ghost use Rattle.goals.specs.Signed.{Signed};
     ghost use Rattle.verdicts.specs.Duties.{AtKind};
@@ -34,6 +35,7 @@ impl<'a> EntryCheck<'a> {
     ghost use Rattle.js_checker.specs.Duties.{any_left, Leaves, Faults};
     ghost use Rattle.js_checker.specs.TreeView.{tree_duties, IsOver, IsSteady};
     ghost use Rattle.js_checker.specs.EntryView.{goal_duties, is_busy};
+    ghost use Rattle.js_checker.specs.Entries.{do_all};
 
     /// Nothing is to be shown.
     pub(crate) fn new(alloc: Global, core: &'a Core) -> EntryCheck<'a>
@@ -87,6 +89,31 @@ impl<'a> EntryCheck<'a> {
         } else {
             self.tree.take(alloc, core, goals, line)
         }
+    }
+
+    /// Whether the lines show what is left, and are no more than that takes.
+    pub(crate) fn take_all(
+        &mut self,
+        alloc: Global,
+        core: &'a Core,
+        goals: &[Goal],
+        goal: &Goal,
+        lines: &[CertLine],
+    ) -> Result<bool, Memory>
+        requires goal { are_in_table core.now.positions goal.now ≡ true }
+        requires over { IsOver core.now.positions self.old.tree }
+        requires steady { IsSteady self.old.tree }
+        ensures { IfOk result (λ b. b ≡ do_all core.now.positions goals.now (goal_duties goal.now self.old)
+            (map line_view lines.now)) }
+    {
+        for line in lines {
+            match self.take(alloc, core, goals, goal, line) {
+                Ok(()) => {}
+                Err(RuleFault::Breaks(_)) => return Ok(false),
+                Err(RuleFault::Memory) => return Err(Memory),
+            }
+        }
+        Ok(self.is_done())
     }
 
     /// The line of the next kind.

@@ -32,13 +32,14 @@ pub(crate) struct Judge<'a> {
 }
 
 impl<'a> Judge<'a> {
-    ghost use Rattle.std.specs.Prelude.{◌≡◌, ◌↔◌, true, false, Ok, OnOk, IfErr, IsTrue};
+    ghost use Rattle.std.specs.Prelude.{◌≡◌, ◌+◌, ◌<◌, ◌↔◌, length, true, false, Ok, OnOk, IfErr, IsTrue};
     ghost use Rattle.certificate_lines.specs.Line as L;
     ghost use Rattle.verdicts.specs.Verdict.{Start, Ended};
     ghost use Rattle.js_lines.specs.View.{line_view};
     ghost use Rattle.js_rules.specs.Told.{Breaks};
+    ghost use Rattle.js_checker.specs.TreeView.{IsSteady};
     ghost use Rattle.js_checker.specs.EntryView.{is_busy};
-    ghost use Rattle.js_checker.specs.JudgeView.{stage_of, after_line, after_goals, is_early, IsWell};
+    ghost use Rattle.js_checker.specs.JudgeView.{stage_of, after_line, after_goals, is_early, is_between, IsWell};
     ghost use Rattle.js_checker.specs.declared.judge.Progress.TheVariants as P;
 
     pub(crate) fn new(alloc: Global, core: &'a Core) -> Judge<'a>
@@ -60,6 +61,25 @@ impl<'a> Judge<'a> {
             Progress::Ended => true,
             _ => false,
         }
+    }
+
+    /// Whether an entry may come next.
+    pub(crate) fn is_between(&self) -> bool
+        requires { IsSteady self.now.entry.tree }
+        ensures { result ≡ is_between self.now }
+    {
+        match self.progress {
+            Progress::Showing => self.entry.is_done(),
+            _ => false,
+        }
+    }
+
+    /// The next entry was checked by itself.
+    pub(crate) fn pass_entry(&mut self)
+        requires { self.old.entered < length self.old.goals.items }
+        ensures { self.new ≡ record self.old { entered = self.old.entered + 1 } }
+    {
+        self.entered += 1;
     }
 
     pub(crate) fn take(

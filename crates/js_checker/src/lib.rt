@@ -5,11 +5,13 @@
 #![tactic(auto)]
 
 mod checker;
+mod entries;
 mod entry;
 mod fault;
 mod judge;
 mod leaf;
 mod listing;
+mod piece;
 mod question;
 mod tree;
 
