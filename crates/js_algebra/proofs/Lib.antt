@@ -14,4 +14,4 @@ pub mod Ended
 pub mod Choosing
 -- Tables that tests make.
 pub mod Chains
-mod Crossing
+pub mod Crossing

@@ -30,6 +30,3 @@ pub use rules::rule_choices;
 pub use signed::Signed;
 pub use signed_set::SignedSet;
 pub use table::Core;
-
-#[cfg(test)]
-mod tests;

@@ -1,5 +1,5 @@
 -- What files come to, from what each was read as.
-use Rattle.std.proofs.Common.{◌≡◌, ℕ, List, false, Option, Some, None, encode_utf8_all, refl, ap, ap₂, sym, ◌∙◌, subst}
+use Rattle.std.proofs.Common.{◌≡◌, ℕ, List, false, Option, Some, None, encode_utf8_all, refl, ap, ap₂, sym, ◌∙◌, subst, arith}
 use Rattle.documents.specs.Json.{Json, boolean}
 use Rattle.schemas.specs.Entry.{Entry}
 use Rattle.js_outside.specs.Told.{Files}
@@ -110,6 +110,7 @@ module _ (a b : Json) (es fs : List Entry) (x : IsReadAs a es) (y : IsReadAs b f
       record {
         accepted = ap₂ (λ p q. judgement p q bytes.items) same_entries same_entries'
             ∙ ap (judgement es fs) has ∙ tells.accepted;
+        fits = let (same, within) = bytes.ok in let small = bytes.small in omega (arith, same, within, small);
         included = tells.included;
       }
   values-tell (V.Limit k g) has tells =

@@ -15,3 +15,6 @@ pub mod NormTableLemmas
 pub mod NormOutcomeLemmas
 -- `gen`: from what the values of a family are read as to what they come to.
 pub mod GenOutcomeLemmas
+-- What the callers of this crate cite of the crate below.
+pub use Rattle.js_inclusion.proofs.MeaningLaws
+pub use Rattle.js_inclusion.proofs.NothingLaws

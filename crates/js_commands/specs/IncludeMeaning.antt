@@ -1,5 +1,5 @@
 -- What an outcome means for the values of the two schemas.
-use Rattle.std.specs.Prelude.{◌≡◌, ℕ, List, false, Option, Some, None}
+use Rattle.std.specs.Prelude.{◌≡◌, ◌≤◌, ℕ, List, length, false, Option, Some, None}
 use Rattle.documents.specs.Json.{Json, boolean}
 use Rattle.draft06.specs.Validity.{Included}
 use Rattle.verdicts.specs.Verdict.{Accepted}
@@ -7,6 +7,7 @@ use Rattle.js_keywords.specs.Reading.{rules}
 use Rattle.js_outside.specs.Told.{Files}
 use Rattle.js_input.specs.FileReading.{IsSchemaFile, IsSchemaRefusal}
 use Rattle.js_input.specs.ToldTwice.{AreFiles}
+use Rattle.js_certificate.specs.FileVerdicts.{longest_file}
 use Rattle.js_inclusion.specs.Meaning.{AreSeparating, StopsSearch}
 use Rattle.js_commands.specs.ReadEntries.{entries_read}
 use Rattle.js_commands.specs.CheckOutcome.{judgement_of}
@@ -30,9 +31,11 @@ pub record AreSchemas (told : Option Files) (first : List ℕ) (second : Option 
 abbrev pub answer_of : Json → Json → Answer
 answer_of a b = answer (entries_read a) (entries_read b)
 
--- bytes that `check` accepts, and every document that is valid for the first value is valid for the second
+-- bytes that `check` accepts, of which there are no more than a file may have; and every document that is valid for the
+-- first value is valid for the second
 pub record IsCertificate (a b : Json) (bytes : List ℕ) : Type 0 where
   pub accepted : judgement_of a b bytes ≡ Accepted
+  pub fits : length bytes ≤ longest_file
   pub included : Included rules a b
 
 -- what an answer means for two values

@@ -9,6 +9,10 @@ pub mod CheckMeaning
 pub mod NormOutcome
 pub mod GenOutcome
 pub mod GenMeaning
+-- What the callers of this crate cite of the crates below: how schemas compare, and verdicts on files.
+pub use Rattle.js_inclusion.specs.Comparison
+pub use Rattle.js_inclusion.specs.Meaning
+pub use Rattle.js_certificate.specs.FileVerdicts
 -- What the calls answer.
 pub mod IncludeSaying
 pub mod ValidSaying

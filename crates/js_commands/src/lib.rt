@@ -16,5 +16,6 @@ mod valid;
 pub use check::{Checking, check_files};
 pub use family::{FamilyInclusion, compare_family};
 pub use include::{Inclusion, compare_files};
+pub use js_decide::{Decided, Verdict};
 pub use norm::{Listing, list_table};
 pub use valid::{Validation, validate};

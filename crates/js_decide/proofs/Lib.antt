@@ -5,6 +5,3 @@ mod Shallow
 mod GoalCounts
 mod AllCounts
 mod Counts
-mod Crossing
-mod NoWords
-mod Truths

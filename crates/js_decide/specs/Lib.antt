@@ -4,5 +4,3 @@ pub mod View
 pub mod Certified
 pub mod Shallow
 pub mod Counted
--- Internal: the expander that the tests have.
-pub mod Rows

@@ -15,6 +15,3 @@ pub use outcome::{Outcome, Searched};
 pub use pair::decide;
 pub use root::search_root;
 pub use verdict::{Decided, Verdict};
-
-#[cfg(test)]
-mod tests;

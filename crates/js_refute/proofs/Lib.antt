@@ -2,3 +2,4 @@ pub mod Citing
 pub mod Growing
 pub mod Writing
 pub mod Numbers
+pub mod GoodBytes

@@ -10,6 +10,7 @@ ghost use Rattle.std.specs.Prelude.{
   ◌∷◌,
   ◌++◌,
   true,
+  None,
   get_or,
   length,
   map,
@@ -18,9 +19,11 @@ ghost use Rattle.std.specs.Prelude.{
   string_bytes,
 };
 ghost use Rattle.documents.specs.Tests.{every};
+ghost use Rattle.positions.specs.Position.{Position};
 ghost use Rattle.goals.specs.Signed.{Signed};
 ghost use Rattle.list_laws.specs.In.{IsIn};
 ghost use Rattle.alternatives.specs.Expansion as X;
+ghost use Rattle.decisions.specs.Decision.{root_of};
 ghost use Rattle.certificate_lines.specs.Line as L;
 ghost use Rattle.certificate_lines.specs.Text.{line_text, lines_text};
 ghost use Rattle.refutations.specs.Listing.{certificate};
@@ -29,6 +32,7 @@ ghost use Rattle.js_algebra.specs.View.{are_in_table};
 ghost use Rattle.js_explore.specs.ExploredView.{explored_view};
 ghost use Rattle.js_explore.specs.Exploration.{Explores};
 ghost use Rattle.js_rounds.specs.State.{AreRounds};
+ghost use Rattle.js_refute.specs.Good.{IsGood, FoundNone};
 ghost use Rattle.js_refute.specs.Unmet.{goals_of, lines_of};
 
 use crate::entries::entries;
@@ -98,18 +102,27 @@ pub fn refute(
 ) -> Result<Vec<u8>, Memory>
     requires has_run { rounds.now.has_run ≡ true }
     requires inside { every (are_in_table core.now.positions) (explored_view explored.now).found.goals ≡ true }
-    ensures { IfOk result (λ text. (expansion : List Signed → X.Expansion)
+    ensures text { IfOk result (λ text. (expansion : List Signed → X.Expansion)
         → Explores expansion (explored_view explored.now)
         → AreRounds expansion (explored_view explored.now).found rounds.now
         → text.items
         ≡ lines_text (found_refutation expansion (explored_view explored.now).found core.now.positions)) }
+
+    // Where the rounds show that no document meets the goal of two positions, they are in the grammar and accepted.
+    ensures good { IfOk result (λ text. (a b : ℕ)
+        → FoundNone core.now.positions a b (explored_view explored.now) rounds.now
+        → IsGood core.now.positions a b text.items) }
 {
+    // The length comes with the facts that the table is one, and that its numbers have 32 bits.
+    let _length = core.len();
     certificate(alloc, core, &Unmet::new(explored, rounds))
 }
 
 /// The certificate that no document meets a root that clashes.
 pub fn no_goal(alloc: Global) -> Result<Vec<u8>, Memory>
-    ensures { IfOk result (λ text. text.items ≡ lines_text empty_certificate) }
+    ensures text { IfOk result (λ text. text.items ≡ lines_text empty_certificate) }
+    ensures good { IfOk result (λ text. (T : List Position) (a b : ℕ) → root_of T a b ≡ None
+        → IsGood T a b text.items) }
 {
     let mut text = String::new(alloc);
     append_head(0, &mut text)?;

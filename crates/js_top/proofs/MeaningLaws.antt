@@ -4,9 +4,9 @@ use Rattle.documents.specs.Json.{Json, boolean}
 use Rattle.shared_documents.specs.Unshared.{unshared}
 use Rattle.draft06.specs.Validity.{valid, Included}
 use Rattle.js_keywords.specs.Reading.{rules}
-use Rattle.js_inclusion.specs.Comparison.{certificate_text}
-use Rattle.js_inclusion.proofs.MeaningLaws.{comparison-stopped}
-use Rattle.js_inclusion.proofs.NothingLaws.{valid-false}
+use Rattle.js_commands.specs.Comparison.{certificate_text}
+use Rattle.js_commands.proofs.MeaningLaws.{comparison-stopped}
+use Rattle.js_commands.proofs.NothingLaws.{valid-false}
 use Rattle.js_commands.specs.ReadEntries.{entries_read}
 use Rattle.js_commands.specs.IncludeOutcome as A
 use Rattle.js_commands.specs.IncludeOutcome.{Answer, of_decision}

@@ -7,7 +7,7 @@ use Rattle.verdicts.specs.Verdict.{Verdict, Accepted, Rejected}
 use Rattle.js_keywords.specs.Reading.{rules}
 use Rattle.js_outside.specs.Told.{Files}
 use Rattle.js_input.specs.ToldTwice.{AreFiles}
-use Rattle.js_certificate.specs.FileVerdicts.{longest_file}
+use Rattle.js_commands.specs.FileVerdicts.{longest_file}
 use Rattle.js_commands.specs.CheckOutcome.{judgement_of}
 use Rattle.js_commands.specs.CheckMeaning.{AreChecked, IsRefusedAfterFirst}
 use Rattle.js_top.specs.Names.{check_names}

@@ -10,7 +10,7 @@ use Rattle.js_outside.specs.Told.{Files}
 use Rattle.js_keywords.specs.Reading.{rules}
 use Rattle.js_input.specs.FileReading.{IsSchemaFile}
 use Rattle.js_input.specs.ToldTwice.{AreFiles}
-use Rattle.js_inclusion.specs.Meaning.{StopsSearch}
+use Rattle.js_commands.specs.Meaning.{StopsSearch}
 use Rattle.js_commands.specs.ReadEntries.{entries_read}
 use Rattle.js_commands.specs.CheckOutcome.{judgement_of}
 use Rattle.js_commands.specs.IncludeMeaning.{AreSchemas, IsFirstRefusal, IsSecondRefusal}

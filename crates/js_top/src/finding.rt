@@ -7,7 +7,7 @@ ghost use Rattle.js_top.specs.Preparing.{IsPrintable};
 
 use crate::status::Status;
 use crate::text::limit_line;
-use js_decide::Verdict;
+use js_commands::Verdict;
 use js_doc::Memory;
 use js_text::found_text;
 use std::alloc::Global;

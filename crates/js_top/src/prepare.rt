@@ -46,10 +46,9 @@ use crate::finding::answer_text;
 use crate::status::Status;
 use crate::summary::summary_text;
 use js_commands::{
-    Checking, FamilyInclusion, Inclusion, Listing, Validation, check_files, compare_family,
-    compare_files, list_table, validate,
+    Checking, FamilyInclusion, Inclusion, Listing, Validation, Verdict, check_files,
+    compare_family, compare_files, list_table, validate,
 };
-use js_decide::Verdict;
 use js_doc::{Memory, Str};
 use js_gen::GenKind;
 use js_outside::Shelf;

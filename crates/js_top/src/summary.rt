@@ -11,7 +11,7 @@ ghost use Rattle.js_top.specs.Preparing.{IsPrintable};
 
 use crate::finding::Finding;
 use crate::text::limit_line;
-use js_decide::{Decided, Verdict};
+use js_commands::{Decided, Verdict};
 use js_doc::{Memory, PartId, Parts};
 use js_gen::GenKind;
 use js_text::Measures;

@@ -7,7 +7,7 @@ use Rattle.js_explore.specs.ExploredView.{found_view}
 use Rattle.js_expander.specs.Found.{goal_expansion, cells_at}
 use Rattle.js_rounds.specs.Slots.{words_by}
 use Rattle.js_decide.specs.View.{verdict_view}
-use Rattle.js_decide.proofs.Crossing.{Core-sync}
+use Rattle.js_algebra.proofs.Crossing.{Core-sync}
 use Rattle.js_decide.proofs.Told.{all_told}
 use Rattle.js_decide.proofs.Deciding.{taken_inside, certified_root}
 use Rattle.js_decide.proofs.certified.decide_root.Goals as goal
