@@ -158,7 +158,7 @@ function makeWords(pick) {
 // how the forms look that `pattern_table` refuses by name
 const FORMS = {
   lookaround: /\(\?/, boundary: /\\[bB]/, property: /\\[pP]/, control: /\\c/, backreference: /\\[1-9]/, octal: /\\0\d/,
-  namedgroup: /\\k|\(\?</, surrogate: /\\u/, repeattoowide: /\d{5}/,
+  namedgroup: /\\k|\(\?</, surrogate: /\\u/, repeattoowide: /\d{5}/, nesting: /\(/,
 };
 
 // whether the pattern has the form that the answer names

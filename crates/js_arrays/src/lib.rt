@@ -11,6 +11,3 @@ mod leaf;
 pub use array_frame::ArrayFrame;
 pub use fault::ArrayFault;
 pub use leaf::{MOST_COUNTS, array_alternatives};
-
-#[cfg(test)]
-mod tests;

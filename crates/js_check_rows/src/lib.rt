@@ -16,6 +16,3 @@ mod widths;
 pub use fault::RowFault;
 pub use rows::Rows;
 pub use rules::rule_of;
-
-#[cfg(test)]
-mod tests;

@@ -13,8 +13,6 @@ mod lists;
 mod numbers;
 mod parts;
 mod rising;
-#[cfg(test)]
-mod tests;
 mod text;
 mod unsharing;
 mod word;

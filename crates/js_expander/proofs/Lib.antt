@@ -4,6 +4,3 @@ mod Walked
 -- The words of strings, and the names of objects.
 mod Words
 mod Texts
--- Lists of a table, for tests.
-mod TestGoals
-mod TestWords

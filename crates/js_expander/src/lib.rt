@@ -9,7 +9,5 @@ mod branches;
 mod core_expander;
 mod kept;
 mod leaves;
-#[cfg(test)]
-mod tests;
 
 pub use core_expander::CoreExpander;

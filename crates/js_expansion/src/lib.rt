@@ -17,6 +17,3 @@ pub use dead::Dead;
 pub use expander::Expander;
 pub use expansion::{Expansion, Leaf, LimitKind};
 pub use lists::{AlternativeList, FillerList, PlacedList};
-
-#[cfg(test)]
-mod tests;

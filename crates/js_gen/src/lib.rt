@@ -10,8 +10,6 @@ mod members;
 mod parts;
 mod patterns;
 mod schemas;
-#[cfg(test)]
-mod tests;
 mod tree;
 mod wide;
 mod words;

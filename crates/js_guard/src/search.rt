@@ -2,6 +2,7 @@
 //!
 //! Entries are open from when they are met until all that they lead to is done. Open entries stand in groups: those of
 //! one group lead to each other, so where a group has two entries, or an edge leads back into it, they lie on cycles.
+//! These are the strong components of the edges, found along a path with two stacks (H. N. Gabow, 2000).
 //! Nothing recurses from entry to entry: `path` holds the entries whose edges are being followed. Each edge is looked
 //! at twice at most.
 

@@ -14,8 +14,6 @@ mod place;
 mod pointer;
 mod read;
 mod reference;
-#[cfg(test)]
-mod tests;
 
 pub use document::to_doc;
 pub use fault::{JsonFault, RefFault};

@@ -10,8 +10,6 @@ mod fault;
 mod keyword;
 mod member;
 mod shapes;
-#[cfg(test)]
-mod tests;
 mod type_name;
 mod value_place;
 mod whole;

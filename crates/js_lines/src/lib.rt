@@ -21,6 +21,3 @@ pub use lines::{CertEnd, CertLine, ShortEntry, Version};
 pub use lists::{Cert, CertLines, NumberList, ShortEntryList};
 pub use reader::LineReader;
 pub use text::{append_line, cert_text, write_line};
-
-#[cfg(test)]
-mod tests;

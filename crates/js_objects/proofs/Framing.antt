@@ -22,10 +22,10 @@ use Rattle.js_objects.specs.declared.passing.Passing.{Passing}
 
 module _ (T : List Position) (C : Cells) where
   -- tests of which the demands are told
-  pub served-passed : (ts : List NameTest) (ds : List Signed)
+  pub ArePassed-AreServed : (ts : List NameTest) (ds : List Signed)
       → ((c : ℕ) → map (passes C c) ts ≡ map (λ x. O.inside T C x c) ds) → (p : Passing) → ArePassed C ts p
       → AreServed T C ds p
-  served-passed ts ds same p passed =
+  ArePassed-AreServed ts ds same p passed =
       let many = told-many (passes C 0) (λ x. O.inside T C x 0) ts ds (same 0) in
       let first : NameTest = record { literal = 0; truth = false } in
       record {
@@ -54,9 +54,9 @@ module _ (T : List Position) (C : Cells) where
         (let past : length C.vectors ≤ k = omega (arith, e, l) in inside-past x k past ∙ sym (inside-past x c l))
   ]
 
-  pub served-at : (ds : List Signed) (p : Passing) → AreServed T C ds p → (d c : ℕ) → d < length ds
+  pub is_passed_at-inside : (ds : List Signed) (p : Passing) → AreServed T C ds p → (d c : ℕ) → d < length ds
       → is_passed_at p d (min c (p.width - 1)) ≡ O.inside T C (get_or ds d (Plus 0)) c
-  served-at ds p served d c l =
+  is_passed_at-inside ds p served d c l =
       let w = served.wide in
       let k = min c (p.width - 1) in
       let within : k < p.width = omega (arith, w) in
@@ -74,10 +74,10 @@ module _ (C : Cells) where
       ∙ asks-past c l vs
 
   -- the lists of all cells, and of those that aren't there
-  pub asked-all : (vs : List ValueTest) (lists : List (List Signed))
+  pub get_or-asks : (vs : List ValueTest) (lists : List (List Signed))
       → lists ≡ map (λ c. flat_map (asks C c) vs) (range_with_len 0 (length C.vectors)) → (c : ℕ)
       → get_or lists c [] ≡ flat_map (asks C c) vs
-  asked-all vs lists e c =
+  get_or-asks vs lists e c =
       let n = length C.vectors in
       let f = λ (k : ℕ). flat_map (asks C k) vs in
       elim (cases_lt c n) [

@@ -124,8 +124,9 @@ impl<'a> ObjectFrame<'a> {
 
     /// What is asked of the value of each name of a cell.
     fn asked(&self, cell: u32) -> &[Signed]
-        ensures asked { map signed_view result.now ≡ flat_map
-            (O.each self.now.core.now.positions (cells_view self.now.cells) (In cell)) (map signed_view self.now.set.now) }
+        ensures asked { map signed_view result.now
+            ≡ flat_map (O.each self.now.core.now.positions (cells_view self.now.cells) (In cell))
+            (map signed_view self.now.set.now) }
         ensures in_table { are_in_table self.now.core.now.positions (map signed_view result.now) ≡ true }
     {
         match self.asked.get(cell as usize) {

@@ -1,7 +1,7 @@
 //! Which tests the names of each cell pass.
 //!
-//! A walk through plans asks all cells about one test, and then about another one, and there are many walks and few tests:
-//! so what the cells say is read off once, cell by cell, and kept test by test.
+//! A walk through plans asks all cells about one test, and then about another one, and there are many walks and few
+//! tests: so what the cells say is read off once, cell by cell, and kept test by test.
 
 ghost use Rattle.std.specs.Prelude.{◌≡◌, ◌≢◌, ◌+◌, ◌-◌, ◌*◌, ◌<◌, ◌≤◌, ℕ, length, get_or, min, true, IfOk};
 ghost use Rattle.js_cells.specs.View.{cells_view};

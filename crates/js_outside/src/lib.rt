@@ -14,8 +14,6 @@ mod memory_sink;
 mod real;
 mod shelf;
 mod sink;
-#[cfg(test)]
-mod tests;
 
 pub use begun::BegunNames;
 pub use calls::CallList;

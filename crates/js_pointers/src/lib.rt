@@ -11,8 +11,6 @@ mod blocks;
 mod places;
 mod pointers;
 mod steps;
-#[cfg(test)]
-mod tests;
 mod tokens;
 
 pub use pointers::Pointers;

@@ -11,8 +11,6 @@ mod fault;
 mod line;
 mod place;
 mod reading;
-#[cfg(test)]
-mod tests;
 mod writing;
 
 pub use cycle::cycle_words;

@@ -12,4 +12,3 @@ mod Members
 mod InOrder
 mod Chosen
 mod Witnessing
-mod SmallWords

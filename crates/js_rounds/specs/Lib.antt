@@ -3,9 +3,8 @@
 -- a document is built.
 pub mod State
 pub mod Slots
--- Internal: a round on the way, what answers say of a round, what runs stand for, and the expander that the tests have.
+-- Internal: a round on the way, what answers say of a round, and what runs stand for.
 pub mod Sorted
 pub mod Waking
 pub mod Seen
 pub mod Spread
-pub mod Small

@@ -6,16 +6,12 @@ mod choose;
 mod count;
 mod endless;
 mod first;
-#[cfg(test)]
-mod first_tests;
 mod numbers;
 mod reached;
 mod row_steps;
 mod runs;
 mod sources;
 mod spelling;
-#[cfg(test)]
-mod tests;
 mod words;
 
 pub use count::{MOST_WORDS, WordCounter};

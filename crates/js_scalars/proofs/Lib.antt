@@ -1,4 +1,2 @@
 mod Read
 pub mod Found
--- Sets that tests make.
-mod TestSets

@@ -15,6 +15,3 @@ pub use fault::NumberFault;
 pub use numbers::number_alternatives;
 pub use scalar::null_alternatives;
 pub use truths::truth_alternatives;
-
-#[cfg(test)]
-mod tests;

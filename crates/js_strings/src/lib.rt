@@ -7,7 +7,5 @@
 
 mod rows;
 mod strings;
-#[cfg(test)]
-mod tests;
 
 pub use strings::{string_alternatives, string_words};

@@ -21,6 +21,3 @@ pub use found::found_text;
 pub use measures::{Measure, Measures};
 pub use table::parts_text;
 pub use table_reader::{PartsLineFault, parts_read};
-
-#[cfg(test)]
-mod tests;

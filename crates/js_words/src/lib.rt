@@ -9,8 +9,6 @@ mod command_line;
 mod kind;
 mod matched;
 mod numbers;
-#[cfg(test)]
-mod tests;
 mod words;
 
 pub use words::{Command, WordsFault, read_words};

@@ -5,7 +5,7 @@ use Rattle.js_algebra.specs.View.{signed_view, are_in_table}
 use Rattle.js_cells.specs.View.{cells_view}
 use Rattle.js_name_tests.specs.NameTests.{numbered_value, values_in_table}
 use Rattle.js_name_tests.proofs.Framing.{names-in-table, demands-are, bars-within, servers-within, servers-are, values-are-within, values-are, allowed-are}
-use Rattle.js_objects.proofs.Framing.{served-passed, asked-all, asks-in-table}
+use Rattle.js_objects.proofs.Framing.{ArePassed-AreServed, get_or-asks, asks-in-table}
 use Rattle.js_objects.proofs.Past.{counts-all}
 use Rattle.js_objects.proofs.object_frame.ObjectFrame.new.Goals as goal
 
@@ -60,15 +60,15 @@ invariant_of-result c =
       below_is = c.requires.below;
       demands_are = demands;
       demands_in_table = subst (λ z. are_in_table T z ≡ true) demands c.in_ok-demands.ensures.in_table;
-      inside_are = served-passed T C tests (filter (O.is_demand T) S)
+      inside_are = ArePassed-AreServed T C tests (filter (O.is_demand T) S)
           (servers-are T C S named X listed tests (c.deref-2.ensures.value ∙ c.in_ok-demands.ensures.tests))
           c.in_ok-inside.inside c.in_ok-inside.ensures;
       asked_are = λ k.
-          asked-all C values lists c.in_ok-asked.ensures k
+          get_or-asks C values lists c.in_ok-asked.ensures k
           ∙ values-are T C S named X listed values
           (ap (map numbered_value) c.deref-3.ensures.value ∙ c.in_ok-values.ensures.value) k;
       asked_in_table = λ k.
-          ap (are_in_table T) (asked-all C values lists c.in_ok-asked.ensures k)
+          ap (are_in_table T) (get_or-asks C values lists c.in_ok-asked.ensures k)
           ∙ asks-in-table C T k values
           (ap (values_in_table T) c.deref-3.ensures.value ∙ c.in_ok-values.ensures.in_table);
       allowed_are = allowed-are T C S named X listed c.deref.result.now

@@ -7,7 +7,7 @@ use Rattle.std.proofs.lemmas.Nat.{row_fits}
 use Rattle.js_name_tests.specs.declared.literals.NameTest.{NameTest}
 use Rattle.js_name_tests.specs.NameTests.{passes}
 use Rattle.js_cells.specs.View.{cells_view}
-use Rattle.js_objects.proofs.Columns.{column-more, written-beside}
+use Rattle.js_objects.proofs.Columns.{get_or-set_column, get_or-set_beside}
 use Rattle.js_objects.proofs.passing.Passing.read.Goals as goal
 
 pub loop-row-preserved : goal.loop-row-preserved
@@ -30,9 +30,9 @@ loop-row-preserved c =
       long = length-set p.truths.items (r * p.width + k) v ∙ old.long;
       within = grind (arith, common_steps);
       told = λ d t h.
-          column-more p.truths.items p.width r k v wide (omega (arith, rows, old.long, c.requires.long, same))
+          get_or-set_column p.truths.items p.width r k v wide (omega (arith, rows, old.long, c.requires.long, same))
           (λ d. passes C k (get_or ts d t)) (λ d l. old.told d t l)
           (here ∙ ap (passes C k) (get_or_default ts r first t below)) d h;
       others = λ d j l o.
-          written-beside p.truths.items p.width r k v wide d j l o ∙ old.others d j l o;
+          get_or-set_beside p.truths.items p.width r k v wide d j l o ∙ old.others d j l o;
     }

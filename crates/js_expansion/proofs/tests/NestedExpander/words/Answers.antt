@@ -1,9 +1,0 @@
-use Rattle.std.proofs.Common.{[], ◌∷◌, ◌++◌, ap₂, ◌∙◌}
-use Rattle.js_expansion.proofs.OneWord.{one_word}
-use Rattle.js_expansion.proofs.tests.NestedExpander.words.Goals as goal
-
-pub returns : goal.returns
-returns c =
-    c.from_vec-2.ensures ∙ c.in_ok-push.ensures.items
-    ∙ ap₂ (λ xs x. xs ++ x ∷ []) c.new-words.ensures.items c.in_ok-from_text.ensures
-    ∙ one_word c.args.cell c.args.count c.requires.cell c.requires.count c.if-count-eq0.false

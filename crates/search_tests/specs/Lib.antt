@@ -1,0 +1,3 @@
+-- The expanders that tests have.
+pub mod Rows
+pub mod Small

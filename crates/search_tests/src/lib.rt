@@ -1,0 +1,20 @@
+//! Tests of the leaves of the search, of expansions, rounds and decisions, with small expanders of their own.
+//!
+//! They stand beside the crates that they test, as only what is public is tested: so no crate is proved once more for
+//! its tests.
+#![tactic(auto)]
+
+#[cfg(test)]
+mod arrays;
+#[cfg(test)]
+mod decide;
+#[cfg(test)]
+mod expander;
+#[cfg(test)]
+mod expansion;
+#[cfg(test)]
+mod rounds;
+#[cfg(test)]
+mod scalars;
+#[cfg(test)]
+mod strings;
