@@ -1,11 +1,15 @@
 /* Refuses one request for memory of a program that is started with this library before all others (LD_PRELOAD).
 
    FAIL_REQUEST is the number of that request, counted from 1; with 0 none is refused. COUNT_FILE names a file that gets
-   the number of all requests when the program ends. The names that begin with __libc are those of glibc. */
+   the number of all requests when the program ends, by _exit or otherwise. The names that begin with __libc are those of
+   glibc. */
 #include <errno.h>
+#include <fcntl.h>
 #include <stddef.h>
 #include <stdio.h>
 #include <stdlib.h>
+#include <sys/syscall.h>
+#include <unistd.h>
 
 extern void *__libc_malloc(size_t size);
 extern void *__libc_calloc(size_t count, size_t size);
@@ -20,13 +24,21 @@ __attribute__((constructor)) static void begin(void) {
     count = 0;
 }
 
-__attribute__((destructor)) static void end(void) {
+static void tell(void) {
     const char *name = getenv("COUNT_FILE");
-    FILE *file = name ? fopen(name, "w") : NULL;
-    if (file) {
-        fprintf(file, "%lu\n", count);
-        fclose(file);
+    int file = name ? open(name, O_WRONLY | O_CREAT | O_TRUNC, 0600) : -1;
+    if (file >= 0) {
+        dprintf(file, "%lu\n", count);
+        close(file);
     }
+}
+
+__attribute__((destructor)) static void end(void) { tell(); }
+
+void _exit(int status) {
+    tell();
+    syscall(SYS_exit_group, status);
+    __builtin_unreachable();
 }
 
 static int is_refused(void) {
