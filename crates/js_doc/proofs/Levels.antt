@@ -22,7 +22,7 @@ pub json_entries-members_of : (ms : List (List ℕ × J.Json)) → J.entries (J.
 json_entries-members_of [] = refl
 json_entries-members_of (m ∷ ms) = ap (λ xs. m ∷ xs) (json_entries-members_of ms)
 
--- the same for a container whose view is made of the list
+-- of a container whose view is made of the list
 pub elements-of : (ds : List D.Document) (l : D.Items) → D.items_of ds ≡ l → D.elements l ≡ ds
 elements-of ds l e = ap D.elements (sym e) ∙ elements-items_of ds
 

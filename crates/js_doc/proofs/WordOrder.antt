@@ -216,7 +216,7 @@ comes_before-encodes (c ∷ cs) (d ∷ ds) e = elim (cases_order c d) [
       cc
 ]
 
--- the same of texts
+-- texts in the order of their bytes are words in the order of their scalar values
 pub comes_before-chars : (a b : List ℕ) → IsUtf8 a → IsUtf8 b → order a b ≡ Less
     → comes_before (chars a) (chars b) ≡ true
 comes_before-chars a b u v e =

@@ -1,5 +1,6 @@
--- What a reader must believe: the document, the JSON value or the part that a program's value stands for, and which names
--- rise. Then the words of its lists. `formers` says how a value that holds itself is held by `Rising`, for proofs alone.
+-- What a reader must believe: the document, the JSON value or the part that a program's value stands for, and which
+-- names rise. Then the words of its lists. `formers` says how a value that holds itself is held by `Rising`, for proofs
+-- alone.
 pub mod Names
 pub mod View
 pub mod JsonView

@@ -1,4 +1,4 @@
--- What is asked of a list of whole numbers.
+-- Membership and ranks in a list of whole numbers.
 use Rattle.std.specs.Prelude.{◌≡◌, ℕ, List, Bool, Option, Some, None, ℤ, int_lt, if◌then◌else◌}
 use Rattle.std.specs.List.{list_any, count_by}
 use Rattle.std.specs.List.Sorted.{IsSorted}

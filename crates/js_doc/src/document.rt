@@ -40,6 +40,7 @@ impl DocList {
     ghost use Rattle.js_doc.specs.declared.document.DocList.{out-DocList};
     ghost use Rattle.js_doc.specs.View.{view, list_view};
 
+    /// Takes the vector over, without a copy.
     pub fn from_vec(items: Vec<Doc>) -> DocList
         ensures { list_view result ≡ items_of (map view items.items) }
     {
@@ -54,12 +55,14 @@ impl DocList {
         self.items.as_slice()
     }
 
+    /// How many elements there are, in constant time.
     pub fn len(&self) -> usize
         ensures { result ≡ length (elements (list_view self.now)) }
     {
         self.as_slice().len()
     }
 
+    /// The element at index `i`, counted from 0, in constant time.
     pub fn at(&self, i: usize) -> &Doc
         requires { i < length (elements (list_view self.now)) }
         ensures { view result.now ≡ get_or (elements (list_view self.now)) i (view result.now) }
@@ -71,6 +74,7 @@ impl DocList {
 impl Named<Doc> {
     ghost use Rattle.js_doc.specs.View.{view, member_view};
 
+    /// A member with that name and value, both taken over without a copy.
     pub fn new(name: Str, value: Doc) -> Member
         ensures { member_view result ≡ (name, view value) }
     {
@@ -80,12 +84,14 @@ impl Named<Doc> {
         }
     }
 
+    /// The name as the text that it stands for, without quotes and escapes.
     pub fn name(&self) -> &Str
         ensures view { result.now ≡ (member_view self.now).0 }
     {
         self.name.as_str()
     }
 
+    /// The value. The clause `held` is for proofs that a recursion over it ends.
     pub fn value(&self) -> &Doc
         ensures view { view result.now ≡ (member_view self.now).1 }
         ensures held { result.now ≡ self.now.value }
@@ -116,12 +122,14 @@ impl DocMap {
         self.members.as_slice()
     }
 
+    /// How many members there are, in constant time.
     pub fn len(&self) -> usize
         ensures { result ≡ length (entries (map_view self.now)) }
     {
         self.as_slice().len()
     }
 
+    /// The member at index `i`, counted from 0 in ascending order of names, in constant time.
     pub fn at(&self, i: usize) -> &Member
         requires { i < length (entries (map_view self.now)) }
         ensures { member_view result.now ≡ get_or (entries (map_view self.now)) i (member_view result.now) }

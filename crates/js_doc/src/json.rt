@@ -42,6 +42,7 @@ impl JsonList {
     ghost use Rattle.js_doc.specs.declared.json.JsonList.{out-JsonList};
     ghost use Rattle.js_doc.specs.JsonView.{view, list_view};
 
+    /// Takes the vector over, without a copy.
     pub fn from_vec(items: Vec<Json>) -> JsonList
         ensures { list_view result ≡ items_of (map view items.items) }
     {
@@ -56,12 +57,14 @@ impl JsonList {
         self.items.as_slice()
     }
 
+    /// How many elements there are, in constant time.
     pub fn len(&self) -> usize
         ensures { result ≡ length (elements (list_view self.now)) }
     {
         self.as_slice().len()
     }
 
+    /// The element at index `i`, counted from 0, in constant time.
     pub fn at(&self, i: usize) -> &Json
         requires { i < length (elements (list_view self.now)) }
         ensures { view result.now ≡ get_or (elements (list_view self.now)) i (view result.now) }
@@ -73,6 +76,7 @@ impl JsonList {
 impl Named<Json> {
     ghost use Rattle.js_doc.specs.JsonView.{view, member_view};
 
+    /// A member with that name and value, both taken over without a copy.
     pub fn new(name: Str, value: Json) -> JsonMember
         ensures { member_view result ≡ (name, view value) }
     {
@@ -82,12 +86,14 @@ impl Named<Json> {
         }
     }
 
+    /// The name as the text that it stands for, without quotes and escapes.
     pub fn name(&self) -> &Str
         ensures view { result.now ≡ (member_view self.now).0 }
     {
         self.name.as_str()
     }
 
+    /// The value. The clause `held` is for proofs that a recursion over it ends.
     pub fn value(&self) -> &Json
         ensures view { view result.now ≡ (member_view self.now).1 }
         ensures held { result.now ≡ self.now.value }
@@ -118,12 +124,14 @@ impl JsonMap {
         self.members.as_slice()
     }
 
+    /// How many members there are, in constant time.
     pub fn len(&self) -> usize
         ensures { result ≡ length (entries (map_view self.now)) }
     {
         self.as_slice().len()
     }
 
+    /// The member at index `i`, counted from 0 in ascending order of names, in constant time.
     pub fn at(&self, i: usize) -> &JsonMember
         requires { i < length (entries (map_view self.now)) }
         ensures { member_view result.now ≡ get_or (entries (map_view self.now)) i (member_view result.now) }

@@ -25,12 +25,14 @@ impl Model for StrList {
 }
 
 impl StrList {
+    /// Takes the vector over, without a copy.
     pub fn from_vec(items: Vec<Str>) -> StrList
         ensures { result ≡ items.items }
     {
         StrList { items }
     }
 
+    /// Gives the vector back, without a copy.
     pub fn into_vec(self) -> Vec<Str>
         ensures { result.items ≡ self }
     {
@@ -49,6 +51,7 @@ impl StrList {
         Ok(StrList { items })
     }
 
+    /// The elements in order, lent without a copy.
     pub fn as_slice(&self) -> &[Str]
         ensures { result.now ≡ self.now }
     {

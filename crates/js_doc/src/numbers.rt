@@ -40,6 +40,7 @@ impl NumList {
         Ok(NumList { items, sorted })
     }
 
+    /// Gives the vector of values back, in their written order. The sorted copy is dropped.
     pub fn into_vec(self) -> Vec<i128>
         ensures { result.items ≡ self }
     {
@@ -57,6 +58,7 @@ impl NumList {
         })
     }
 
+    /// The values in their written order, lent without a copy.
     pub fn as_slice(&self) -> &[i128]
         ensures { result.now ≡ self.now }
     {

@@ -20,6 +20,7 @@ use std::marker::Model;
 pub struct PartId(pub u32);
 
 impl PartId {
+    /// The number as an index into `Parts::as_slice`.
     pub fn index(self) -> usize
         ensures { result ≡ self.0 }
     {
@@ -57,12 +58,14 @@ impl Model for PartIds {
 impl PartIds {
     ghost use Rattle.js_doc.specs.PartMembers.{number_of};
 
+    /// Takes the vector over, without a copy.
     pub fn from_vec(items: Vec<PartId>) -> PartIds
         ensures { result ≡ map number_of items.items }
     {
         PartIds { items }
     }
 
+    /// Gives the vector back, without a copy.
     pub fn into_vec(self) -> Vec<PartId>
         ensures { map number_of result.items ≡ self }
     {
@@ -70,6 +73,7 @@ impl PartIds {
         items
     }
 
+    /// The elements in order, lent without a copy.
     pub fn as_slice(&self) -> &[PartId]
         ensures { map number_of result.now ≡ self.now }
     {
@@ -127,6 +131,7 @@ impl PartMap {
         PartMap { members }
     }
 
+    /// The members in ascending order of their names, lent without a copy.
     pub fn as_slice(&self) -> &[PartMember]
         ensures list { map member_view result.now ≡ self.now }
         ensures rising { members_rise self.now ≡ true }
@@ -210,6 +215,7 @@ impl Parts {
         }
     }
 
+    /// How many parts there are, in constant time. It is the number that the next part gets.
     pub fn len(&self) -> u32
         ensures value { result ≡ length self.now }
         ensures table { is_table self.now ≡ true }
@@ -217,6 +223,7 @@ impl Parts {
         self.parts.len() as u32
     }
 
+    /// The part of that number, lent in constant time.
     pub fn get(&self, id: PartId) -> &Part
         requires { id.0 < length self.now }
         ensures value { part_view result.now ≡ part_at self.now id.0 }
@@ -234,7 +241,7 @@ impl Parts {
         self.parts.as_slice()
     }
 
-    /// Takes the part as the last one, and gives its number. `ForwardPart` tells the first number, in the part's order,
+    /// Takes the part as the last one, and gives its number. `ForwardPart` names the first number, in the part's order,
     /// that isn't below the part's own. After a fault the table is as before.
     pub fn push(&mut self, part: Part) -> Result<PartId, PartsFault>
         requires { length self.old < 4294967295 }

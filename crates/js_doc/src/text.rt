@@ -9,7 +9,7 @@ use std::alloc::{AllocError, AllocFailed, Global};
 use std::hash::{Hash, Hasher};
 use std::marker::Model;
 
-/// Memory was asked for and refused. No call says when: every other answer has a cause of its own.
+/// Memory was requested and refused. No call says when: every other answer has a cause of its own.
 #[derive(Clone, Copy, PartialEq, Eq, Debug)]
 pub struct Memory;
 
@@ -56,6 +56,7 @@ impl Str {
         Str { text }
     }
 
+    /// The text as UTF-8, lent without a copy.
     pub fn as_text(&self) -> &str
         ensures bytes { result.now ≡ encode_utf8_all self.now }
         ensures text { chars result.now ≡ self.now }

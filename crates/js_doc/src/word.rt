@@ -15,20 +15,23 @@ pub struct Word {
 }
 
 impl Word {
+    /// Takes the text over. Nothing is tested at run time: every `Str` consists of scalar values.
     pub fn new(text: Str) -> Word
         ensures { result.text ≡ text }
     {
-        // A `Str` tells what it is as a `str`.
+        // The clauses of `as_text` say that the text is made of scalar values.
         let _ = text.as_text();
         Word { text }
     }
 
+    /// The text as a contract sees texts, lent without a copy.
     pub fn as_str(&self) -> &Str
         ensures { result.now ≡ self.now.text }
     {
         &self.text
     }
 
+    /// The text as UTF-8, lent without a copy.
     pub fn as_text(&self) -> &str
         ensures bytes { result.now ≡ encode_utf8_all self.now.text }
         ensures text { chars result.now ≡ self.now.text }

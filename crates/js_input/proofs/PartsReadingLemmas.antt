@@ -1,11 +1,12 @@
 -- The bytes of a file have one reading as a document, whether they hold JSON text or parts; and what calls that read
 -- one of the two say of a file.
-use Rattle.std.proofs.Common.{◌≡◌, ℕ, ◌≤◌, ◌<◌, List, length, Bool, true, false, nat_lt, refl, ap, sym, ◌∙◌, subst, codes}
+use Rattle.std.proofs.Common.{◌≡◌, ℕ, ◌≤◌, ◌<◌, List, length, Bool, true, false, nat_lt, cond, refl, ap, sym, ◌∙◌, subst, codes}
 use Rattle.std.proofs.lemmas.Bool.{lt-ltb, le-ltb}
 use Rattle.document_text_laws.proofs.ReadLaws.{read-same, fault-same}
+use Rattle.js_json.specs.Value.{value_of}
 use Rattle.js_report.specs.WholeFile.{longest_file}
-use Rattle.js_input.specs.DocumentReading.{DocumentReading, RefusedDocument, ReadDocument, document_reading, begins_parts, parts_words, last_document, IsPartsReading, IsReadingOfParts, IsReadingBegun, IsDocumentReading}
-use Rattle.js_input.specs.Saying.{DocumentSays, TextSays, PartsSay}
+use Rattle.js_input.specs.DocumentReading.{DocumentReading, RefusedDocument, ReadDocument, json_text, of_value, document_reading, begins_parts, parts_words, last_document, IsPartsReading, IsReadingOfParts, IsReadingBegun, IsDocumentReading}
+use Rattle.js_input.specs.Saying.{DocumentSays, TextSays, DocumentValueSays, PartsSay}
 use Rattle.js_input.specs.declared.document.DocumentInput.{DocumentInput}
 use Rattle.js_input.specs.declared.document.DocumentInput.TheVariants as D
 
@@ -58,6 +59,20 @@ IsDocumentReading-parts bytes r begins short is =
     (subst (λ t. IsReadingOfParts t bytes r) (sym (le-ltb longest_file (length bytes) short)) is)
 
 -- ---- what calls say
+
+-- of a file that isn't too long, as of the value of its text
+reading-value : (bytes text : List ℕ) → length bytes ≤ longest_file → text ≡ json_text bytes
+    → document_reading bytes ≡ of_value (value_of text)
+reading-value bytes text short is =
+    ap (λ b. cond b (RefusedDocument (codes "toolong")) (of_value (value_of (json_text bytes))))
+    (le-ltb longest_file (length bytes) short)
+    ∙ ap (λ t. of_value (value_of t)) (sym is)
+
+pub TextSays-value : (bytes text : List ℕ) (input : DocumentInput) → length bytes ≤ longest_file
+    → text ≡ json_text bytes → DocumentValueSays (value_of text) input → TextSays bytes input
+TextSays-value bytes text (D.Read d) short is (read, well) = (reading-value bytes text short is ∙ read, well)
+TextSays-value bytes text (D.Parts ps) short is says = absurd says
+TextSays-value bytes text (D.Refused words) short is read = reading-value bytes text short is ∙ read
 
 pub DocumentSays-text : (bytes : List ℕ) (input : DocumentInput) → begins_parts bytes ≡ false → TextSays bytes input
     → DocumentSays bytes input

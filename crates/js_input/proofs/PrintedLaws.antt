@@ -8,33 +8,14 @@ use Rattle.document_texts.specs.DocumentText.{document_text}
 use Rattle.document_texts.specs.Measured.{has_short_numbers}
 use Rattle.document_texts.specs.PartsRead.{IsRead}
 use Rattle.document_texts.specs.PartsText.{parts_text}
-use Rattle.js_json.specs.Documents.{json_of_document, json_of_items, json_of_members, unwhole_places, places_in_items, places_in_members}
+use Rattle.js_json.specs.Documents.{json_of_document}
+use Rattle.js_json.proofs.DocumentsLemmas.{unwhole_places-json_of}
 use Rattle.js_json.specs.Value.{value_of}
 use Rattle.js_report.specs.WholeFile.{longest_file}
 use Rattle.text_laws.proofs.TextLaws.{value_of-line}
 use Rattle.js_input.specs.DocumentReading.{DocumentReading, ReadDocument, RefusedDocument, of_value, document_reading, begins_parts, last_document, IsDocumentReading}
 use Rattle.js_input.proofs.DocumentReadingLemmas.{of_unwhole-whole}
 use Rattle.js_input.proofs.PartsReadingLemmas.{IsDocumentReading-one, IsDocumentReading-text, IsDocumentReading-parts}
-
--- a document's numbers are whole
-mutual
-  pub unwhole_places-json_of : (d : Document) → unwhole_places (json_of_document d) ≡ []
-  unwhole_places-json_of D.null = refl
-  unwhole_places-json_of (D.boolean b) = refl
-  unwhole_places-json_of (D.number n) = refl
-  unwhole_places-json_of (D.string s) = refl
-  unwhole_places-json_of (D.array ds) = places_in_items-json_of 0 ds
-  unwhole_places-json_of (D.object ms) = places_in_members-json_of ms
-
-  places_in_items-json_of : (i : ℕ) (ds : D.Items) → places_in_items i (json_of_items ds) ≡ []
-  places_in_items-json_of i D.no_items = refl
-  places_in_items-json_of i (D.item d ds) =
-      rw (unwhole_places-json_of d, places_in_items-json_of (i + 1) ds) refl
-
-  places_in_members-json_of : (ms : D.Members) → places_in_members (json_of_members ms) ≡ []
-  places_in_members-json_of D.no_members = refl
-  places_in_members-json_of (D.member k d ms) =
-      rw (unwhole_places-json_of d, places_in_members-json_of ms) refl
 
 -- the lines of a document that is printed plain
 abbrev pub plain_lines : Document → List ℕ

@@ -7,7 +7,6 @@ use Rattle.document_texts.specs.PartsRead.{IsRead, IsFault}
 use Rattle.schemas.specs.Entry.{Entry}
 use Rattle.schemas.specs.Entries.{read}
 use Rattle.js_doc.specs.View.{view}
-use Rattle.js_json.specs.Documents.{unwhole_places}
 use Rattle.js_outside.specs.Counts.{Rose}
 use Rattle.js_outside.specs.Told.{Files}
 use Rattle.js_report.specs.WholeFile.{HasBytes}
@@ -15,7 +14,7 @@ use Rattle.js_keywords.specs.Reading.{rules}
 use Rattle.js_guard.specs.declared.ranked.RankedSchema.{RankedSchema}
 use Rattle.js_guard.specs.RankedView.{entries_of}
 use Rattle.js_input.specs.SchemaReading.{Refused, Read, IsReadingOfEntries, IsReadingOfResult, IsSchemaReading}
-use Rattle.js_input.specs.DocumentReading.{RefusedDocument, ReadDocument, of_unwhole, document_reading, parts_words, last_document, IsDocumentReading}
+use Rattle.js_input.specs.DocumentReading.{RefusedDocument, ReadDocument, of_value, document_reading, parts_words, last_document, IsDocumentReading}
 use Rattle.js_input.specs.declared.schema.SchemaInput.{SchemaInput}
 use Rattle.js_input.specs.declared.schema.SchemaInput.TheVariants as S
 use Rattle.js_input.specs.declared.document.DocumentInput.{DocumentInput}
@@ -53,12 +52,11 @@ TextSays bytes (D.Read d) = (document_reading bytes ≡ ReadDocument (view d)) �
 TextSays bytes (D.Parts ps) = ⊥
 TextSays bytes (D.Refused words) = document_reading bytes ≡ RefusedDocument (string_bytes words)
 
--- of a value
-abbrev pub DocumentValueSays : Json → DocumentInput → Type 0
-DocumentValueSays j (D.Read d) =
-    (of_unwhole j (unwhole_places j) ≡ ReadDocument (view d)) × (is_document (view d) ≡ true)
-DocumentValueSays j (D.Parts ps) = ⊥
-DocumentValueSays j (D.Refused words) = of_unwhole j (unwhole_places j) ≡ RefusedDocument (string_bytes words)
+-- of the value of the text, where it has one
+abbrev pub DocumentValueSays : Option Json → DocumentInput → Type 0
+DocumentValueSays o (D.Read d) = (of_value o ≡ ReadDocument (view d)) × (is_document (view d) ≡ true)
+DocumentValueSays o (D.Parts ps) = ⊥
+DocumentValueSays o (D.Refused words) = of_value o ≡ RefusedDocument (string_bytes words)
 
 -- and of bytes that begin as a table's text does
 abbrev pub PartsSay : List ℕ → DocumentInput → Type 0

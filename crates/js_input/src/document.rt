@@ -1,16 +1,17 @@
 //! Documents from bytes.
 //!
 //! The length comes first. Bytes that begin with the word `parts` are then read as a table of parts. Others may have
-//! the line `document`, then the JSON text after it is read, and then the first number that isn't whole is told.
+//! the line `document`; then the JSON text after it is read, as a document at once, or its first number that isn't
+//! whole is told.
 
 ghost use Rattle.std.specs.Prelude.{◌≡◌, ◌≤◌, length, IfOk};
-ghost use Rattle.js_doc.specs.JsonView.{view};
+ghost use Rattle.js_json.specs.Value.{value_of};
 ghost use Rattle.js_report.specs.WholeFile.{longest_file};
 ghost use Rattle.js_input.specs.DocumentReading.{json_text};
 ghost use Rattle.js_input.specs.Saying.{DocumentSays, TextSays, DocumentValueSays, PartsSay};
 
-use js_doc::{Doc, Json, Memory, Parts};
-use js_json::{JsonFault, read_json, to_doc};
+use js_doc::{Doc, Memory, Parts};
+use js_json::{JsonFault, read_doc};
 use js_report::{LONGEST_FILE, placed_words};
 use js_text::{PartsLineFault, parts_read};
 use std::alloc::Global;
@@ -59,11 +60,20 @@ fn read_text(alloc: Global, bytes: &[u8]) -> Result<DocumentInput, Memory>
     requires { length bytes.now ≤ longest_file }
     ensures { IfOk result (TextSays bytes.now) }
 {
-    match read_json(alloc, json_text(bytes)) {
-        Ok(json) => read_value(alloc, &json),
-        // `read_json` never answers `NotWhole`
-        Err(JsonFault::NotJson | JsonFault::NotWhole(_)) => {
+    read_json_text(alloc, json_text(bytes))
+}
+
+fn read_json_text(alloc: Global, text: &[u8]) -> Result<DocumentInput, Memory>
+    ensures { IfOk result (DocumentValueSays (value_of text.now)) }
+{
+    match read_doc(alloc, text) {
+        Ok(doc) => Ok(DocumentInput::Read(doc)),
+        Err(JsonFault::NotJson) => {
             let words = String::from_str(alloc, "notjson")?;
+            Ok(DocumentInput::Refused(words))
+        }
+        Err(JsonFault::NotWhole(place)) => {
+            let words = placed_words(alloc, "notwhole", &place)?;
             Ok(DocumentInput::Refused(words))
         }
         Err(JsonFault::Memory) => Err(Memory),
@@ -78,19 +88,5 @@ fn json_text(bytes: &[u8]) -> &[u8]
         &bytes[9..]
     } else {
         bytes
-    }
-}
-
-fn read_value(alloc: Global, json: &Json) -> Result<DocumentInput, Memory>
-    ensures { IfOk result (DocumentValueSays (view json.now)) }
-{
-    match to_doc(alloc, json) {
-        Ok(doc) => Ok(DocumentInput::Read(doc)),
-        Err(JsonFault::NotWhole(place)) => {
-            let words = placed_words(alloc, "notwhole", &place)?;
-            Ok(DocumentInput::Refused(words))
-        }
-        // `to_doc` never answers `NotJson`
-        Err(JsonFault::NotJson | JsonFault::Memory) => Err(Memory),
     }
 }

@@ -1,5 +1,5 @@
 -- Data whose texts are UTF-8, with members in order: what of_json gives of such JSON, and what its value is.
-use Rattle.std.proofs.Common.{◌≡◌, ℕ, List, Bool, true, ◌&&◌, Option, Some, None, option_map, option_and_then, Ordering, Less, Equal, Greater, nat_cmp, chars, IsUtf8, refl, ap, ◌∙◌}
+use Rattle.std.proofs.Common.{◌≡◌, ℕ, List, true, Option, Some, None, option_map, option_and_then, Ordering, Less, Equal, Greater, nat_cmp, chars, IsUtf8, refl, ap, ◌∙◌}
 use Rattle.std.proofs.lemmas.Bool.{and_from}
 use Rattle.std.proofs.lemmas.Cmp.{nat_list_cmp_total}
 use Rattle.std.specs.Cmp.Lexicographic.{slice_cmp}

@@ -33,6 +33,10 @@ is_before-json_of : (k : List ℕ) (ms : D.Members) → F.is_before k (json_of_m
 is_before-json_of k D.no_members = refl
 is_before-json_of k (D.member l d ms) = refl
 
+pub names_rise-json_of : (ms : D.Members) → F.names_rise (json_of_members ms) ≡ D.names_rise ms
+names_rise-json_of D.no_members = refl
+names_rise-json_of (D.member k d ms) = rw (is_before-json_of k ms, names_rise-json_of ms) refl
+
 mutual
   pub is_json-json_of : (d : D.Document) → F.is_json (json_of_document d) ≡ D.is_document d
   is_json-json_of D.null = refl
@@ -97,3 +101,22 @@ names_rise-made made ms is h =
     let members = D.members_of (map V.member_view made) in
     names_rise-document_members members
     (sym (are_members-json_of members) ∙ ap F.are_members (json_of_members-members_of made ∙ is) ∙ h)
+
+-- in a document's value all numbers are whole
+mutual
+  pub unwhole_places-json_of : (d : D.Document) → unwhole_places (json_of_document d) ≡ []
+  unwhole_places-json_of D.null = refl
+  unwhole_places-json_of (D.boolean b) = refl
+  unwhole_places-json_of (D.number n) = refl
+  unwhole_places-json_of (D.string s) = refl
+  unwhole_places-json_of (D.array ds) = places_in_items-json_of 0 ds
+  unwhole_places-json_of (D.object ms) = places_in_members-json_of ms
+
+  places_in_items-json_of : (i : ℕ) (ds : D.Items) → places_in_items i (json_of_items ds) ≡ []
+  places_in_items-json_of i D.no_items = refl
+  places_in_items-json_of i (D.item d ds) =
+      rw (unwhole_places-json_of d, places_in_items-json_of (i + 1) ds) refl
+
+  places_in_members-json_of : (ms : D.Members) → places_in_members (json_of_members ms) ≡ []
+  places_in_members-json_of D.no_members = refl
+  places_in_members-json_of (D.member k d ms) = rw (unwhole_places-json_of d, places_in_members-json_of ms) refl

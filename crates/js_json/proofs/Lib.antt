@@ -5,7 +5,8 @@ pub mod TokenTexts
 pub mod TreeTexts
 pub mod DataTexts
 pub mod ValueLemmas
-pub mod Conversion
+pub mod TreeReading
+pub mod EntryNames
 pub mod MembersLemmas
 pub mod PointerLemmas
 pub mod DocumentsLemmas

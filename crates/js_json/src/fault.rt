@@ -2,6 +2,7 @@
 
 use crate::pointer::Pointer;
 use js_doc::Memory;
+use json::Invalid;
 use std::alloc::{AllocError, AllocFailed};
 use thiserror::Error;
 
@@ -38,6 +39,17 @@ impl From<AllocError> for JsonFault {
 
     fn from(_: AllocError) -> JsonFault {
         JsonFault::Memory
+    }
+}
+
+impl From<Invalid> for JsonFault {
+    ghost use Rattle.std.specs.Prelude.{◌≡◌};
+    ghost use Rattle.js_json.specs.declared.fault.JsonFault.TheVariants as fault;
+
+    ghost from_gives = { λ _ made. made ≡ fault.NotJson };
+
+    fn from(_: Invalid) -> JsonFault {
+        JsonFault::NotJson
     }
 }
 

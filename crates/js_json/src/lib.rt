@@ -5,11 +5,13 @@
 //! What reads schemas and documents stands on this crate.
 #![tactic(auto)]
 
-mod convert;
+mod doc_reader;
 mod document;
 mod fault;
 mod fragment;
+mod json_reader;
 mod members;
+mod number;
 mod place;
 mod pointer;
 mod read;
@@ -20,5 +22,5 @@ pub use fault::{JsonFault, RefFault};
 pub use members::member;
 pub use place::{at_pointer, element_index};
 pub use pointer::Pointer;
-pub use read::read_json;
+pub use read::{read_doc, read_json};
 pub use reference::{Referent, target};

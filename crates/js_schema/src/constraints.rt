@@ -70,7 +70,7 @@ pub struct ObjectKeywords {
     pub max_properties: Option<u64>,
 }
 
-/// Keywords whose schemas are asked of the same document.
+/// Keywords whose schemas apply to the same document.
 #[derive(Drop)]
 pub struct InPlaceKeywords {
     pub all_of: Option<EntryList>,

@@ -22,12 +22,14 @@ impl Model for EntryList {
 }
 
 impl EntryList {
+    /// Takes the vector over, without a copy.
     pub fn from_vec(items: Vec<u32>) -> EntryList
         ensures { result ≡ items.items }
     {
         EntryList { items }
     }
 
+    /// Gives the vector back, without a copy.
     pub fn into_vec(self) -> Vec<u32>
         ensures { result.items ≡ self }
     {
@@ -35,6 +37,7 @@ impl EntryList {
         items
     }
 
+    /// The elements in order, lent without a copy.
     pub fn as_slice(&self) -> &[u32]
         ensures { result.now ≡ self.now }
     {
@@ -58,12 +61,14 @@ impl Model for TypeList {
 }
 
 impl TypeList {
+    /// Takes the vector over, without a copy.
     pub fn from_vec(items: Vec<TypeName>) -> TypeList
         ensures { result ≡ items.items }
     {
         TypeList { items }
     }
 
+    /// Gives the vector back, without a copy.
     pub fn into_vec(self) -> Vec<TypeName>
         ensures { result.items ≡ self }
     {
@@ -71,6 +76,7 @@ impl TypeList {
         items
     }
 
+    /// The elements in order, lent without a copy.
     pub fn as_slice(&self) -> &[TypeName]
         ensures { result.now ≡ self.now }
     {
@@ -94,12 +100,14 @@ impl Model for PropertyList {
 }
 
 impl PropertyList {
+    /// Takes the vector over, without a copy.
     pub fn from_vec(items: Vec<Property>) -> PropertyList
         ensures { result ≡ items.items }
     {
         PropertyList { items }
     }
 
+    /// Gives the vector back, without a copy.
     pub fn into_vec(self) -> Vec<Property>
         ensures { result.items ≡ self }
     {
@@ -107,6 +115,7 @@ impl PropertyList {
         items
     }
 
+    /// The elements in order, lent without a copy.
     pub fn as_slice(&self) -> &[Property]
         ensures { result.now ≡ self.now }
     {
@@ -124,12 +133,14 @@ impl PatternPropertyList {
     ghost use Rattle.std.specs.Prelude.{◌≡◌, map};
     ghost use Rattle.js_schema.specs.View.{pattern_property_view, pattern_properties_view};
 
+    /// Takes the vector over, without a copy.
     pub fn from_vec(items: Vec<PatternProperty>) -> PatternPropertyList
         ensures { pattern_properties_view result ≡ map pattern_property_view items.items }
     {
         PatternPropertyList { items }
     }
 
+    /// Gives the vector back, without a copy.
     pub fn into_vec(self) -> Vec<PatternProperty>
         ensures { map pattern_property_view result.items ≡ pattern_properties_view self }
     {
@@ -137,6 +148,7 @@ impl PatternPropertyList {
         items
     }
 
+    /// The elements in order, lent without a copy.
     pub fn as_slice(&self) -> &[PatternProperty]
         ensures { map pattern_property_view result.now ≡ pattern_properties_view self.now }
     {
@@ -160,12 +172,14 @@ impl Model for DependencyList {
 }
 
 impl DependencyList {
+    /// Takes the vector over, without a copy.
     pub fn from_vec(items: Vec<Dependency>) -> DependencyList
         ensures { result ≡ items.items }
     {
         DependencyList { items }
     }
 
+    /// Gives the vector back, without a copy.
     pub fn into_vec(self) -> Vec<Dependency>
         ensures { result.items ≡ self }
     {
@@ -173,6 +187,7 @@ impl DependencyList {
         items
     }
 
+    /// The elements in order, lent without a copy.
     pub fn as_slice(&self) -> &[Dependency]
         ensures { result.now ≡ self.now }
     {

@@ -1,4 +1,4 @@
-//! Parts of keywords: schemas by their numbers, with what they are asked of.
+//! Parts of keywords: schemas by their numbers, with what they apply to.
 
 use crate::lists::EntryList;
 use crate::pattern::PatternText;

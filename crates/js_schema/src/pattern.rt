@@ -20,6 +20,7 @@ impl PatternText {
     ghost use Rattle.js_pattern.specs.Correct.{HasTree};
     ghost use Rattle.js_schema.specs.Patterns.{source_of};
 
+    /// Takes both over. The text isn't parsed again: the caller promises that `re` is its tree.
     pub fn new(source: Str, re: Re) -> PatternText
         requires { HasTree source (view re) }
         ensures { source_of result ≡ source }
@@ -27,6 +28,7 @@ impl PatternText {
         PatternText { source, re }
     }
 
+    /// The text as it stands in the schema, a regular expression without slashes around it.
     pub fn source(&self) -> &Str
         ensures { result.now ≡ source_of self.now }
     {

@@ -1,6 +1,6 @@
 //! A schema: the entries of its places, in the order of the walk, with the pointers by which they are numbered.
 //!
-//! A pointer is made when it is asked for, since all of them together can be much longer than the file.
+//! A pointer is made on request, since all of them together can be much longer than the file.
 
 ghost use Rattle.std.specs.Prelude.{◌≡◌, true, map};
 ghost use Rattle.schemas.specs.Schema.{is_table};
@@ -45,6 +45,7 @@ impl Schema {
         self.entries.len() as u32
     }
 
+    /// What the entry of that number accepts, lent in constant time.
     pub fn form(&self, entry: u32) -> &Form
         requires { entry < length (schema_view self.now) }
         ensures { form_view result.now ≡ get_or (map (λ e. e.form) (schema_view self.now)) entry

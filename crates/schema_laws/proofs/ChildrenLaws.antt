@@ -136,6 +136,7 @@ module _ {P R : Type 0} (rules : Rules P R) (root : Json) where
   object-in c (Some v) p ms h k = referred-in c v k
   object-in c None p ms h k = values_values [] root p (object ms) c h (inr (in_members-in c ms p ms k))
 
+  -- the places to which a place of the file leads are places of the file
   pub children-in : (c d : Place) → IsIn c (values_from [] root) → IsIn d (children rules root c)
       → IsIn d (values_from [] root)
   children-in (p, object ms) d h k = object-in d (lookup (codes "$ref") ms) p ms h k

@@ -1,4 +1,4 @@
--- Which tables lead in a circle, and the cycle that is told, worked out.
+-- Which tables lead in a circle, and the cycle that is reported, worked out.
 use Rattle.std.proofs.Common.{◌≡◌, ℕ, zero, suc, ◌<◌, ◌≤◌, List, [], ◌∷◌, inl, inr, Bool, true, false, ◌&&◌, ◌||◌, not, nat_eq, nat_le, Some, codes, refl, sym, ◌∙◌, subst, arith, true≢false}
 use Rattle.std.proofs.lemmas.Bool.{and_parts, or_cases, eqb-true, leb-true, not-true, cases_order}
 use Rattle.documents.specs.Tests.{every}
@@ -56,7 +56,7 @@ no_way : leads ((1 ∷ 2 ∷ []) ∷ (2 ∷ []) ∷ [] ∷ []) 3 0 2 ≡ false
 unfolding leads
 no_way = refl
 
--- what is asked of the next entry of a cycle, as a test for a given number of edges back
+-- what is required of the next entry of a cycle, as a test for a given number of edges back
 
 abbrev none_shorter : List (List ℕ) → ℕ → ℕ → ℕ → Bool
 none_shorter g f zero z = true

@@ -14,6 +14,7 @@ pub in_right : {A : Type 0} (x : A) (xs ys : List A) → IsIn x ys → IsIn x (x
 in_right x [] ys h = h
 in_right x (y ∷ xs) ys h = inr (in_right x xs ys h)
 
+-- what is in two lists joined is in one of them
 pub in_append : {A : Type 0} (x : A) (xs ys : List A) → IsIn x (xs ++ ys) → IsIn x xs ⊎ IsIn x ys
 in_append x [] ys h = inr h
 in_append x (y ∷ xs) ys (inl e) = inl (inl e)

@@ -28,6 +28,7 @@ absent k (member l v ms) h w =
     not_found k l v ms (same_word k l) refl h (absent k ms (is_before-trans k l ms h parts.before) parts.others)
 
 mutual
+  -- in a well-formed value the names of each object differ
   pub names_differ-is_json : (v : Json) → is_json v ≡ true → names_differ v ≡ true
   names_differ-is_json (array vs) h = differ_in vs h
   names_differ-is_json (object ms) h = differ_among ms h

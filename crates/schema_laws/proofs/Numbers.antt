@@ -42,6 +42,7 @@ found : (cs : List Place) (p : Pointer) → has_place cs p ≡ true → IsFound 
 found [] p h = absurd (true≢false (sym h))
 found (c ∷ cs) p h = found_next c cs p (same_pointer p c.0) refl h (found cs p)
 
+-- the number of a place that is there is below the number of places
 pub number_of-below : (cs : List Place) (p : Pointer) → has_place cs p ≡ true → number_of cs p < length cs
 number_of-below cs p h = let f = found cs p h in f.below
 

@@ -9,6 +9,7 @@ pub same_word-refl : (w : List ℕ) → same_word w w ≡ true
 same_word-refl [] = refl
 same_word-refl (c ∷ w) = and_from (nat_eq c c) (same_word w w) (grind arith) (same_word-refl w)
 
+-- words that the test calls the same are equal
 pub same_word-eq : (v w : List ℕ) → same_word v w ≡ true → v ≡ w
 same_word-eq [] [] h = refl
 same_word-eq [] (d ∷ w) h = absurd (true≢false (sym h))

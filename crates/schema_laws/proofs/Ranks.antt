@@ -58,6 +58,7 @@ module _ (g : List (List ℕ)) (ranks : List ℕ) (h : are_ranks g ranks ≡ tru
   pub are_ranks-bounded : 0 < length g → (x : ℕ) → get_or ranks x 0 < length g
   are_ranks-bounded some x = rank-below (length g) ranks some (and_parts _ (fall ranks ranks g) h).0 x
 
+  -- ranks fall along each edge
   pub are_ranks-falls : (x : ℕ) → AllByRecursion (λ y. get_or ranks y 0 < get_or ranks x 0) (targets g x)
   are_ranks-falls x =
       all-below (get_or ranks x 0) (λ y. get_or ranks y 0) (targets g x) (fall-at ranks ranks g falling x)
@@ -75,6 +76,7 @@ module _ (g : List (List ℕ)) (ranks : List ℕ) (h : are_ranks g ranks ≡ tru
       let later = are_ranks-way n first.0 y first.2 in
       omega arith
 
+  -- where there are ranks, no way leads from an entry back to it
   pub IsGuarded-ranks : IsGuarded g
   IsGuarded-ranks =
       IsGuarded-from g (λ x c. let falls = are_ranks-way (suc c.0) x x c.1 in omega arith)

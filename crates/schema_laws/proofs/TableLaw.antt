@@ -93,6 +93,7 @@ module _ {P R : Type 0} (rules : Rules P R) (root : Json) (sound : IsSound rules
       let less : total_size entries ≤ most_weight = omega (arith, sizes, weighs, most) in
       grind (arith, less)
 
+  -- the entries that are read of a file without fault are a table
   pub is_table-entries : is_table entries ≡ true
   is_table-entries =
       and_from (nat_lt 0 (length entries) && every (λ e. names_below (length entries) e.form) entries

@@ -143,6 +143,7 @@ module _ {P R : Type 0} (rules : Rules P R) (root : Json) (entry_of : Pointer �
   names_in : (k : List ℕ) → meets are_keys (field ms k (named_numbers entry_of p)) ≡ true
   names_in k = well_in are_keys (named_numbers entry_of p) k (names_are_keys entry_of p k)
 
+  -- the keywords that are read of an object without fault have their ranges
   pub keywords_in_range : is_in_range (keywords_of entry_of p ms) ≡ true
   unfolding shape_of
   keywords_in_range =

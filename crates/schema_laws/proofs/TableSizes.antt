@@ -104,7 +104,7 @@ module _ (entry_of : Pointer → ℕ) (p : Pointer) (k : List ℕ) where
 abbrev found_values : (List ℕ → Json → ℕ) → Members → List ℕ → ℕ
 found_values f ms k = if_there 0 (f k) (lookup k ms)
 
--- with as much before them
+-- the sum of what keywords have, from a first number on
 abbrev sum_from : (List ℕ → Json → ℕ) → Members → ℕ → List (List ℕ) → ℕ
 sum_from f ms before [] = before
 sum_from f ms before (k ∷ ks) = sum_from f ms (before + found_values f ms k) ks

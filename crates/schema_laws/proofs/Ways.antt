@@ -1,4 +1,4 @@
--- Ways along edges, and that one cycle is told.
+-- Ways along edges, and that exactly one cycle is reported.
 use Rattle.std.proofs.Common.{◌≡◌, ℕ, zero, suc, ◌+◌, ◌<◌, ◌≤◌, List, [], ◌∷◌, length, get_or, inl, inr, Bool, true, nat_eq, refl, sym, ap, ◌∙◌, subst, arith, true≢false}
 use Rattle.std.proofs.lemmas.Bool.{or_cases, or_left, or_right, eqb-true, eq-eqb, false_from_ne_true}
 use Rattle.documents.specs.Tests.{some}
@@ -122,7 +122,7 @@ module _ (g : List (List ℕ)) where
       let more : y ≤ x = b.least x a.on_cycle in
       omega arith
 
-  -- no second cycle may be told
+  -- no second cycle may be reported
   pub IsLeastCycle-one : (xs ys : List ℕ) → IsLeastCycle g xs → IsLeastCycle g ys → xs ≡ ys
   IsLeastCycle-one [] ys h k = absurd h
   IsLeastCycle-one (x ∷ xs) [] h k = absurd k
@@ -131,7 +131,7 @@ module _ (g : List (List ℕ)) where
       let rest = GoesBack-one x x xs ys h.1 (subst (λ w. GoesBack g w w ys) (sym same) k.1) in
       ap (λ w. w ∷ xs) same ∙ ap (λ l. y ∷ l) rest
 
-  -- where a cycle is told, there is one
+  -- where a cycle is reported, the table isn't guarded
   pub IsLeastCycle-unguarded : (xs : List ℕ) → IsLeastCycle g xs → IsGuarded g → ⊥
   IsLeastCycle-unguarded [] h all = h
   IsLeastCycle-unguarded (x ∷ xs) h all =

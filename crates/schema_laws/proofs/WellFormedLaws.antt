@@ -1,4 +1,5 @@
--- Each value in a value that is well formed is so too, and what is made of it is what documents, words and names are.
+-- Each value in a value that is well formed is well formed too, and what is made of it is what documents, words and
+-- names are.
 use Rattle.std.proofs.Common.{◌≡◌, ℕ, suc, List, [], ◌∷◌, ◌++◌, map, inl, inr, ⊎_elim, true, ◌&&◌, refl, ap, ◌∙◌}
 use Rattle.std.proofs.lemmas.Bool.{and_parts, and_from}
 use Rattle.documents.specs.Tests.{every, is_scalar, comes_before}
@@ -53,6 +54,7 @@ is_before-members_of k no_members h = refl
 is_before-members_of k (member l v ms) h = h
 
 mutual
+  -- a well-formed value is read as a document
   pub is_document-document_of : (v : Json) → is_json v ≡ true → D.is_document (document_of v) ≡ true
   is_document-document_of (string s) h = h
   is_document-document_of (array vs) h = are_documents-items_of vs h

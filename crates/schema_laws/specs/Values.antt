@@ -23,7 +23,7 @@ abbrev mutual
   of_members p no_members = []
   of_members p (member k v ms) = (p ++ k ∷ [], v) ∷ inside (p ++ k ∷ []) v ++ of_members p ms
 
--- with itself
+-- a value and all values inside it
 abbrev pub values_from : Pointer → Json → List Place
 values_from p v = (p, v) ∷ inside p v
 

@@ -7,7 +7,7 @@ use Rattle.schemas.specs.Walk.{walk, places}
 use Rattle.schemas.specs.Fault.{NotASchema, WrongShape, NotWhole, Negative, BadReference}
 use Rattle.schemas.proofs.ExampleRules.{path, fault, object, list, text, number, below, Remote, BadPointer, Missing, NoSchema}
 
--- an element that is no schema is told when its place is walked, after all keywords of the object that has it
+-- an element that is no schema is reported when its place is walked, after all keywords of the object that has it
 element_last :
     fault (object (("allOf", list (number 5 ∷ [])) ∷ ("minimum", J.not_whole) ∷ []))
     ≡ Some (NotWhole (path ("minimum" ∷ [])))
@@ -120,7 +120,7 @@ read_items :
 unfolding places walk shape_of index_token
 read_items = refl
 
--- a reference's fault is told at the object that has it
+-- a reference's fault is reported at the object that has it
 no_target :
     fault (object (("not", object (("$ref", text "#/definitions/x") ∷ [])) ∷ []))
     ≡ Some (BadReference Missing (path ("not" ∷ [])))

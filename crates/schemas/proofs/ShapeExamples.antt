@@ -12,7 +12,7 @@ no_schema : fault (number 5) ≡ Some (NotASchema (path []))
 unfolding places walk shape_of index_token
 no_schema = refl
 
--- a word that names no type; in a list it is told at its element
+-- a word that names no type; in a list it is reported at its element
 no_type :
     fault (object (("type", text "frob") ∷ []))
     ≡ Some (WrongShape (codes "type") (path ("type" ∷ [])))
@@ -25,7 +25,7 @@ no_type_listed :
 unfolding places walk shape_of index_token
 no_type_listed = refl
 
--- where a type is asked for, a number is of the wrong shape, whole or not
+-- where a type is required, a number is of the wrong shape, whole or not
 type_number :
     fault (object (("type", list (J.not_whole ∷ [])) ∷ []))
     ≡ Some (WrongShape (codes "type") (path ("type" ∷ "0" ∷ [])))
@@ -50,7 +50,7 @@ values_deep :
 unfolding places walk shape_of index_token
 values_deep = refl
 
--- so are those of `const`
+-- the values in `const` are looked at as deep as they nest
 value_deep :
     fault (object (("const", list (list [] ∷ list (J.not_whole ∷ []) ∷ [])) ∷ []))
     ≡ Some (NotWhole (path ("const" ∷ "1" ∷ "0" ∷ [])))
@@ -113,7 +113,7 @@ count_part :
 unfolding places walk shape_of index_token
 count_part = refl
 
--- a pattern's fault is told at the text, or at the member whose name it is
+-- a pattern's fault is reported at the text, or at the member whose name it is
 no_pattern :
     fault (object (("pattern", text "ab(") ∷ []))
     ≡ Some (BadPattern 2 (path ("pattern" ∷ [])))
@@ -133,7 +133,7 @@ no_pattern_name :
 unfolding places walk shape_of index_token
 no_pattern_name = refl
 
--- names are strings; in a list and in a dependency they are told at the element
+-- names are strings; in a list and in a dependency they are reported at the element
 no_names :
     fault (object (("required", text "a") ∷ []))
     ≡ Some (WrongShape (codes "required") (path ("required" ∷ [])))

@@ -66,7 +66,7 @@ early_name : is_table (with_one (record no_keywords {
 })) ≡ false
 early_name = refl
 
--- what is asked of the same document, and what of its parts
+-- which entries apply to the same document, and which to its parts
 place_and_parts :
     in_place (Asks (record no_keywords { items = Some (Listed (3 ∷ 4 ∷ [])); one_of = Some (1 ∷ 2 ∷ []) }))
     ≡ 1 ∷ 2 ∷ []

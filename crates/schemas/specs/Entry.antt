@@ -55,7 +55,7 @@ pub record Keywords : Type 0 where
   pub one_of : Option (List ℕ)
   pub not : Option ℕ
 
--- nothing is asked for
+-- no keyword is there
 abbrev pub no_keywords : Keywords
 no_keywords = record {
   types = None;

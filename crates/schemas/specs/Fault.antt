@@ -29,8 +29,8 @@ pub data Fault (P R : Type 0) : Type 0 where
   -- with this place the schema weighs more than is read
   TooLarge : Pointer → Fault P R
 
--- what reading rests on: the tree of a pattern, or the fault of a text that is none; the place to which a reference leads in the value of
--- the whole file, whose identifier is given where it has one; and the greatest weight of a schema
+-- what reading rests on: the tree of a pattern, or the fault of a text that is none; the place to which a reference
+-- leads in the value of the whole file, whose identifier is given where it has one; and the greatest weight of a schema
 pub record Rules (P R : Type 0) : Type 0 where
   pub pattern : List ℕ → Result Tree P
   pub target : Json → List ℕ → Option (List ℕ) → Result Pointer R
@@ -72,7 +72,7 @@ module _ {P R : Type 0} (rules : Rules P R) where
   abbrev pub pattern_fault : List ℕ → Option P
   pattern_fault w = result_err (rules.pattern w)
 
-  -- the value of the keyword k, which stands at p, by the shape that is asked for
+  -- the value of the keyword k, which stands at p, by the shape that is required
   abbrev pub types_fault : List ℕ → Pointer → Json → Option (Fault P R)
   types_fault k p (array vs) = option_map (WrongShape k) (first_failing is_type_word p 0 vs)
   types_fault k p v = unless (is_type_word v) (WrongShape k p)
@@ -126,7 +126,7 @@ module _ {P R : Type 0} (rules : Rules P R) where
   schema_map_fault k p (object ms) = None
   schema_map_fault k p v = Some (WrongShape k p)
 
-  -- the first name that is no pattern, told at its member
+  -- the first name that is no pattern, reported at its member
   abbrev pub names_fault : Pointer → Members → Option (Fault P R)
   names_fault p no_members = None
   names_fault p (member w v ms) =

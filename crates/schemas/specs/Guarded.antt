@@ -1,10 +1,10 @@
--- Schemas that are asked of the same document in a circle, and ranks where none are.
+-- Schemas that apply to the same document in a circle, and ranks where none are.
 use Rattle.std.specs.Prelude.{◌≡◌, ◌≢◌, ℕ, zero, suc, ◌≤◌, List, [], ◌∷◌, map, length, get_or, Bool, true, false, ◌&&◌, nat_eq, nat_lt}
 use Rattle.documents.specs.Tests.{every, some}
 use Rattle.schemas.specs.Entry.{Entry}
 use Rattle.schemas.specs.Schema.{in_place}
 
--- the in-place edges of a table: for each entry, the entries that are asked of the same document
+-- the in-place edges of a table: for each entry, the entries that apply to the same document
 abbrev pub edges : List Entry → List (List ℕ)
 edges es = map (λ e. in_place e.form) es
 
@@ -47,7 +47,7 @@ pub record IsLeastOnCycle (g : List (List ℕ)) (x : ℕ) : Type 0 where
   pub on_cycle : IsOnCycle g x
   pub least : (y : ℕ) → IsOnCycle g y → x ≤ y
 
--- the cycle that is told where there are any
+-- the cycle that is reported where there are any
 abbrev pub IsLeastCycle : List (List ℕ) → List ℕ → Type 0
 IsLeastCycle g [] = ⊥
 IsLeastCycle g (x ∷ xs) = IsLeastOnCycle g x × GoesBack g x x xs

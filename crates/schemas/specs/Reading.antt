@@ -15,7 +15,7 @@ module _ {P R : Type 0} (rules : Rules P R) (root : Json) where
   id_fault [] v = Some (WrongShape (codes "$id") (codes "$id" ∷ []))
   id_fault (t ∷ p) v = Some (InnerId ((t ∷ p) ++ codes "$id" ∷ []))
 
-  -- a reference is told at the object that has it
+  -- a fault of a reference is reported at the object that has it
   abbrev pub target_fault : Pointer → Result Pointer R → Option (Fault P R)
   target_fault p (Ok q) = None
   target_fault p (Err e) = Some (BadReference e p)

@@ -30,7 +30,7 @@ of_items (Listed es) = es
 abbrev pub of_names : List (List ℕ × ℕ) → List ℕ
 of_names ns = map (λ n. n.1) ns
 
--- the schemas of dependencies, which are asked of the whole object
+-- the schemas of dependencies, which apply to the whole object
 abbrev pub of_need : Needs → List ℕ → List ℕ
 of_need (Names ns) es = es
 of_need (Whole e) es = e ∷ es
@@ -39,7 +39,7 @@ abbrev pub of_needs : List (List ℕ × Needs) → List ℕ
 of_needs [] = []
 of_needs (n ∷ ns) = of_need n.1 (of_needs ns)
 
--- the entries that are asked of the same document
+-- the entries that apply to the same document
 abbrev pub in_place : Form → List ℕ
 in_place Always = []
 in_place Never = []
@@ -48,7 +48,7 @@ in_place (Asks k) =
     lists all k.all_of ++ lists all k.any_of ++ lists all k.one_of ++ lists one k.not
     ++ lists of_needs k.dependencies
 
--- the entries that are asked of elements, members and names
+-- the entries that apply to elements, members and names
 abbrev pub of_parts : Form → List ℕ
 of_parts Always = []
 of_parts Never = []
