@@ -22,7 +22,7 @@ rest_alone : says (keyword "additionalItems" nothing) (items (null ∷ [])) ≡ 
 unfolding valid entry_valid is_met places walk shape_of index_token
 rest_alone = refl
 
--- beside a list it is asked of the later elements alone
+-- beside a list it applies to the later elements alone
 later_elements :
     says (object (("additionalItems", nothing) ∷ ("items", list (yes ∷ [])) ∷ []))
     (items (null ∷ null ∷ [])) ≡ refused
@@ -59,7 +59,7 @@ no_schemas_rest : says (object (("additionalItems", nothing) ∷ ("items", list 
 unfolding valid entry_valid is_met places walk shape_of index_token
 no_schemas_rest = refl
 
--- one schema is asked of each element
+-- one schema applies to each element
 each_element : says (keyword "items" (keyword "type" (text "null"))) (items (null ∷ number (pos 1) ∷ [])) ≡ refused
 unfolding valid entry_valid is_met places walk shape_of index_token
 each_element = refl
@@ -104,7 +104,7 @@ equal_items : says (keyword "uniqueItems" nothing) (items (number (pos 1) ∷ nu
 unfolding valid entry_valid is_met places walk shape_of index_token
 equal_items = refl
 
--- nothing is asked of other documents
+-- documents of other kinds are not constrained
 not_an_array :
     says (object (("additionalItems", nothing) ∷ ("contains", nothing) ∷ ("items", list (nothing ∷ []))
     ∷ ("maxItems", S.number 0) ∷ ("minItems", S.number 9) ∷ []))

@@ -1,4 +1,4 @@
--- Worked examples of schemas that are asked of the same document, each computed from both definitions.
+-- Worked examples of schemas that apply to the same document, each computed from both definitions.
 use Rattle.std.specs.Prelude.{◌≡◌, [], ◌∷◌, refl, pos}
 use Rattle.documents.specs.Document.{null, number}
 use Rattle.levels.specs.Levels.{is_met}

@@ -32,7 +32,7 @@ two_patterns :
 unfolding valid entry_valid is_met places walk shape_of index_token
 two_patterns = refl
 
--- `additionalProperties` is asked of names that neither speaks of, whatever their schemas are
+-- `additionalProperties` applies to names that neither speaks of, whatever their schemas are
 other_names :
     says (object (("additionalProperties", nothing) ∷ ("patternProperties", keyword "^b" yes)
     ∷ ("properties", keyword "a" yes) ∷ []))
@@ -60,7 +60,7 @@ every_name :
 unfolding valid entry_valid is_met places walk shape_of index_token
 every_name = refl
 
--- names that are asked for needn't be in `properties`; an empty name is one
+-- required names needn't be in `properties`; an empty name is one
 required_name :
     says (keyword "required" (list (text "" ∷ text "a" ∷ text "a" ∷ [])))
     (members (("", null) ∷ ("a", number (pos 1)) ∷ [])) ≡ accepted
@@ -84,7 +84,7 @@ present_member : says (keyword "properties" (keyword "a" nothing)) (members (("a
 unfolding valid entry_valid is_met places walk shape_of index_token
 present_member = refl
 
--- each name is asked as a string
+-- the schema applies to each name as a string
 names_as_strings :
     says (keyword "propertyNames" (object (("maxLength", S.number 1) ∷ ("type", text "string") ∷ [])))
     (members (("a", number (pos 1)) ∷ ("b", items []) ∷ [])) ≡ accepted
@@ -159,7 +159,7 @@ too_few_members : says (keyword "minProperties" (S.number 1)) (members []) ≡ r
 unfolding valid entry_valid is_met places walk shape_of index_token
 too_few_members = refl
 
--- nothing is asked of other documents
+-- documents of other kinds are not constrained
 not_an_object :
     says (object (("additionalProperties", nothing) ∷ ("dependencies", keyword "a" nothing)
     ∷ ("minProperties", S.number 9) ∷ ("propertyNames", nothing) ∷ ("required", list (text "a" ∷ [])) ∷ []))

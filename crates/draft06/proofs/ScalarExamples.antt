@@ -96,7 +96,7 @@ matches_later : says (keyword "pattern" (text "^b")) (word "ab") ≡ refused
 unfolding valid entry_valid is_met places walk shape_of index_token
 matches_later = refl
 
--- nothing is asked of other documents
+-- documents of other kinds are not constrained
 no_number :
     says (object (("exclusiveMaximum", S.number 0) ∷ ("exclusiveMinimum", S.number 9) ∷ ("maximum", S.number 0)
     ∷ ("minimum", S.number 9) ∷ ("multipleOf", S.number 2) ∷ []))

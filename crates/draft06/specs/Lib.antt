@@ -3,5 +3,5 @@ pub mod Equality
 pub mod Matching
 pub mod Names
 pub mod Validity
--- The same over the entries that a schema is read as, for validators and for tables of positions.
+-- Validity over the entries that a schema is read as, for validators and for tables of positions.
 pub mod EntryValidity

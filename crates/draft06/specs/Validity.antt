@@ -38,7 +38,7 @@ abbrev pub items_ask : (Json → Document → Bool) → Json → List Document �
 items_ask below (array ss) ds = meets_in_order below (elements ss) ds
 items_ask below s ds = every (below s) ds
 
--- the elements after those that a list of schemas speaks of; without such a list nothing is asked
+-- the elements after those that a list of schemas speaks of; without such a list any elements pass
 abbrev pub rest_asks : (Json → Document → Bool) → Option Json → Json → List Document → Bool
 rest_asks below (Some (array ss)) s ds = every (below s) (drop (length (elements ss)) ds)
 rest_asks below _ s ds = true

@@ -13,6 +13,7 @@ truths false true h = h
 truths false false h = refl
 
 mutual
+  -- documents that the test calls the same are equal
   pub same_document-eq : (a b : Document) → same_document a b ≡ true → a ≡ b
   same_document-eq null null h = refl
   same_document-eq null _ h = absurd (true≢false (sym h))
@@ -50,6 +51,7 @@ truth true = refl
 truth false = refl
 
 mutual
+  -- the test calls each document the same as itself
   pub same_document-refl : (a : Document) → same_document a a ≡ true
   same_document-refl null = refl
   same_document-refl (boolean b) = truth b

@@ -73,6 +73,7 @@ module _ (matches : List ℕ → List ℕ → Bool) (es : List Entry) (table : i
       (weaker (IsEntry es) _ (of_parts (form_at es e)) (λ q k K l. b q K k l) (parts_below e))
 
   module _ (rank : ℕ → ℕ) (falls : FallInPlace es rank) where
+    -- entries name in place only entries of lesser rank, so that the recursion over steps in place ends
     pub ranked : RankedWithin (IsEntry es) (named_in_place es) (length es) rank
     ranked = record { bounded = falls.bounded; falls = falls.falls; closed = λ e i. in_place_below e }
 

@@ -36,7 +36,7 @@ in_place_of P k h =
       dependencies = last.1;
     }
 
--- and of all that are named for parts
+-- a property of all entries that are named for parts
 pub record OfParts (P : ℕ → Type 0) (k : Keywords) : Type 0 where
   pub items : AllByRecursion P (lists of_items k.items)
   pub additional_items : AllByRecursion P (lists one k.additional_items)
@@ -185,6 +185,7 @@ module _ (matches : List ℕ → List ℕ → Bool) (here here' : ℕ → Bool) 
         (object_same (depth (object ms)) (entries ms) (entries_below (depth (object ms)) ms (omega arith)) (omega arith)
         b)
 
+  -- where entries say the same in place and below the document's depth, a form asks the same of the document
   pub asks_same : (f : Form) (J : Document) → AllByRecursion Here (in_place f)
       → AllByRecursion (Below (depth J)) (of_parts f)
       → asks matches here below f J ≡ asks matches here' below' f J

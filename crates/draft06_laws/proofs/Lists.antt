@@ -6,6 +6,7 @@ use Rattle.documents.specs.Document.{Items, no_items, item, Members, no_members,
 use Rattle.documents.specs.Measures.{exactly_one}
 use Rattle.schemas.specs.Schema.{lists, meets}
 
+-- conjunctions of equal tests are equal
 pub both : {a a' b b' : Bool} → a ≡ a' → b ≡ b' → (a && b) ≡ (a' && b')
 both e f = ap₂ (λ x y. x && y) e f
 

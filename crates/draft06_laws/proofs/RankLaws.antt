@@ -15,6 +15,7 @@ targets-edges [] e = refl
 targets-edges (f ∷ fs) zero = refl
 targets-edges (f ∷ fs) (suc e) = targets-edges fs e
 
+-- ranks that pass the test along in-place edges fall from each entry to those that it names in place
 pub fall_in_place : (es : List Entry) (ranks : List ℕ) → are_ranks (edges es) ranks ≡ true
     → FallInPlace es (λ e. get_or ranks e 0)
 fall_in_place es ranks h = record {

@@ -64,6 +64,7 @@ equal_among p i (J.item v vs) K h =
     (is_equal-document_of (p ++ index_token i ∷ []) v K parts.0, equal_among p (suc i) vs K parts.1)
 
 module _ {P R : Type 0} (rules : Rules P R) (k : List ℕ) (p : Pointer) (K : D.Document) where
+  -- a value that is read as a document equals a document exactly where the JSON value does
   pub value_same : (v : J.Json) → value_fault rules p v ≡ None → same_document (document_of v) K ≡ is_equal v K
   value_same v h = is_equal-document_of p v K (none_mapped NotWhole (first_not_whole p v) h)
 

@@ -1,22 +1,18 @@
 -- What is known of all parts is what the form asks of them.
-use Rattle.std.proofs.Common.{◌≡◌, ℕ, zero, suc, ◌+◌, ◌<◌, ◌≤◌, ◌⊎◌, List, [], ◌∷◌, ◌++◌, map, take, drop, drop-cons, add-one, length, get_or, Bool, true, false, ◌||◌, ◌&&◌, not, cond, nat_eq, nat_lt, inl, inr, Option, Some, None, refl, sym, ap, subst, ◌∙◌, arith, true≢false}
-use Rattle.std.proofs.lemmas.Bool.{cases_lt, eqb-true, eq-eqb, ltb-true, and_parts, or_cases}
+use Rattle.std.proofs.Common.{◌≡◌, ℕ, zero, suc, ◌+◌, ◌<◌, ◌≤◌, List, [], ◌∷◌, ◌++◌, map, take, drop, drop-cons, add-one, length, get_or, Bool, true, false, ◌||◌, ◌&&◌, not, cond, nat_eq, Option, Some, None, refl, sym, ap, ◌∙◌, arith, true≢false}
 use Rattle.documents.specs.Tests.{every, some, same_word}
 use Rattle.documents.specs.Document.{Document, null, boolean, number, string, array, object, Items, Members, elements, entries}
 use Rattle.documents.specs.Measures.{meets_in_order, every_in}
-use Rattle.schemas.specs.Entry.{Entry, Form, Always, Never, Ref, Asks, ItemsPart, Each, Listed, Keywords}
+use Rattle.schemas.specs.Entry.{Form, Always, Never, Ref, Asks, ItemsPart, Each, Listed, Keywords}
 use Rattle.schemas.specs.Schema.{lists, meets, one}
 use Rattle.draft06.specs.Names.{keys, is_additional}
-use Rattle.draft06.specs.EntryValidity.{form_at, items_ask, rest_asks}
-use Rattle.js_valid.specs.Parts.{flag, parts, parts_array, parts_object, asked_by, answered, of_listed, of_items_part, of_element, of_contains, of_named, of_names, or_else, of_member, of_name}
-use Rattle.js_match.specs.Places.{is_at}
-use Rattle.js_valid.specs.Plan.{IsPlan, KnowsVerdicts, valid_at}
+use Rattle.draft06.specs.EntryValidity.{items_ask, rest_asks}
+use Rattle.js_valid.specs.Parts.{parts, parts_array, parts_object, asked_by, answered, of_listed, of_items_part, of_element, of_contains, of_named, of_names, or_else, of_member, of_name}
 use Rattle.js_match.specs.Matching.{matches}
-use Rattle.js_valid.specs.Requests.{each_at, contained, parts_list, parts_members, AskedByOwners}
+use Rattle.js_valid.specs.Requests.{each_at, contained, parts_list, parts_members}
 use Rattle.js_valid.proofs.PartsLaws.{both, every-append, every-named}
-use Rattle.js_valid.proofs.PlanLaws.{flag-below, flag-past, valid-past}
 use Rattle.js_valid.proofs.DepthLaws.{is_scalar}
-use Rattle.js_valid.proofs.RequestLaws.{owners_ask, answered-asked, owners_within}
+use Rattle.js_valid.proofs.RequestLaws.{answered-asked}
 
 and_true : (a : Bool) → (a && true) ≡ a
 and_true true = refl
@@ -44,32 +40,6 @@ every-two p q (x ∷ xs) = ap (λ b. (p x && q x) && b) (every-two p q xs) ∙ s
   where
     swap : (a b c d : Bool) → ((a && b) && (c && d)) ≡ ((a && c) && (b && d))
     swap a b c d = grind arith
-
--- ---- entries that are asked
-
-pub verdicts-of : (es : List Entry) (order : List ℕ) → IsPlan es order → (J : Document) (asked table : List Bool)
-    (qs : List ℕ)
-    → length asked ≡ length es → length table ≡ length es → KnowsVerdicts es asked J table
-    → ((q : ℕ) → q < length es → is_at q qs ≡ true → flag asked q ≡ true)
-    → map (flag table) qs ≡ map (λ q. valid_at es q J) qs
-verdicts-of es order plan J asked table [] la lt knows marked = refl
-verdicts-of es order plan J asked table (q ∷ qs) la lt knows marked =
-    ap (λ b. b ∷ map (flag table) qs) (here (cases_lt q (length es)))
-    ∙ ap (λ bs. valid_at es q J ∷ bs) (verdicts-of es order plan J asked table qs la lt knows
-    (λ r l h. marked r l (or_right (nat_eq q r) (is_at r qs) h)))
-  where
-    or_right : (a b : Bool) → b ≡ true → (a || b) ≡ true
-    or_right true b k = refl
-    or_right false b k = k
-
-    here : (q < length es) ⊎ (length es ≤ q) → flag table q ≡ valid_at es q J
-    here (inl l) = knows q (marked q l (ap (λ b. b || is_at q qs) (eq-eqb q q refl)))
-    here (inr l) = flag-past table q (omega (arith, l, lt)) ∙ sym (valid-past es order plan q J l)
-
-pub owners-within : (n : ℕ) (asked : List Bool) (owners : List ℕ) → length asked ≡ n
-    → ((j : ℕ) → is_at j owners ≡ flag asked j) → every (λ o. nat_lt o n) owners ≡ true
-owners-within n asked owners len same =
-    owners_within n owners (λ j h. let l = flag-below asked j (sym (same j) ∙ h) in omega (arith, l, len))
 
 -- ---- elements
 
@@ -104,18 +74,6 @@ module _ (below : ℕ → Document → Bool) where
       ≡ meets (λ e. rest_asks below (Some (Listed es)) e ds) rest
   rest-ask es None ds = every-always (drop (length es) ds)
   rest-ask es (Some e) ds = single e (drop (length es) ds)
-
-  no-rest : (items : Option ItemsPart) (rest : Option ℕ) (ds : List Document)
-      → ((es : List ℕ) → items ≡ Some (Listed es) → ⊥) → meets (λ e. rest_asks below items e ds) rest ≡ true
-  no-rest items None ds h = refl
-  no-rest None (Some e) ds h = refl
-  no-rest (Some (Each f)) (Some e) ds h = refl
-  no-rest (Some (Listed es)) (Some e) ds h = absurd (h es refl)
-
-  is_listed : Option ItemsPart → Bool
-  is_listed None = false
-  is_listed (Some (Each e)) = false
-  is_listed (Some (Listed es)) = true
 
   pub elements-ask : (items : Option ItemsPart) (rest : Option ℕ) (ds : List Document)
       → each_at (λ i d. every (λ q. below q d) (of_items_part items rest i)) 0 ds
@@ -153,10 +111,6 @@ module _ (below : ℕ → Document → Bool) where
     where
       turned : (x y : ℕ) → nat_eq x y ≡ nat_eq y x
       turned x y = grind arith
-
-  not_or : (a b : Bool) → (not a && not b) ≡ not (a || b)
-  not_or true b = refl
-  not_or false b = refl
 
   no-append : (xs ys : List ℕ) → no_entries (xs ++ ys) ≡ (no_entries xs && no_entries ys)
   no-append [] ys = refl
@@ -278,34 +232,6 @@ module _ (below : ℕ → Document → Bool) where
 
 -- ---- steps over parts
 
-pub owner_one : (test : ℕ → Bool) (e : ℕ) (owners : List ℕ) → is_at e owners ≡ true
-    → every (λ o. not (nat_eq o e) || test o) owners ≡ test e
-owner_one test e owners h = go (test e) refl
-  where
-    kept : (owners : List ℕ) → test e ≡ true → every (λ o. not (nat_eq o e) || test o) owners ≡ true
-    kept [] t = refl
-    kept (o ∷ owners) t = one_kept (nat_eq o e) refl (kept owners t)
-      where
-        one_kept : (b : Bool) → nat_eq o e ≡ b → every (λ o. not (nat_eq o e) || test o) owners ≡ true
-            → ((not (nat_eq o e) || test o) && every (λ o. not (nat_eq o e) || test o) owners) ≡ true
-        one_kept true k r =
-            both (ap (λ b. not b || test o) k ∙ ap test (eqb-true o e k) ∙ t) r
-        one_kept false k r = both (ap (λ b. not b || test o) k) r
-
-    refused : (owners : List ℕ) → is_at e owners ≡ true → test e ≡ false
-        → every (λ o. not (nat_eq o e) || test o) owners ≡ false
-    refused [] a n = absurd (true≢false (sym a))
-    refused (o ∷ owners) a n = elim (or_cases (nat_eq o e) (is_at e owners) a) [
-      | inl k ↦ ap (λ b. b && every (λ o. not (nat_eq o e) || test o) owners)
-          (ap (λ b. not b || test o) k ∙ ap test (eqb-true o e k) ∙ n)
-      | inr r ↦ ap (λ b. (not (nat_eq o e) || test o) && b) (refused owners r n) ∙ and_false (not (nat_eq o e)
-          || test o)
-    ]
-
-    go : (b : Bool) → test e ≡ b → every (λ o. not (nat_eq o e) || test o) owners ≡ test e
-    go true k = kept owners k ∙ sym k
-    go false k = refused owners h k ∙ sym k
-
 -- one more part, of which `a` is known so far
 pub step_each : {A : Type 0} (see : A → Document) (test : ℕ → Document → Bool) (items : List A) (i : ℕ) (x : A)
     (a b whole : Bool)
@@ -353,11 +279,6 @@ pub end_every : {A B : Type 0} (see : A → B) (test : B → Bool) (items : List
 end_every see test items i a whole le h =
     sym (and_true a) ∙ ap (λ xs. a && every test (map see xs)) (sym (nothing_left items i le)) ∙ h
 
--- the requests of the owners, for one of them
-pub requests-ask : (es : List Entry) (of : Form → List ℕ) (owners os qs : List ℕ) (e : ℕ) (p : ℕ → Bool)
-    → AskedByOwners es of owners os qs → is_at e owners ≡ true → asked_by e p os qs ≡ every p (of (form_at es e))
-requests-ask es of owners os qs e p asked h = asked e p ∙ owners_ask es of e p owners h
-
 pub map-append : {A B : Type 0} (f : A → B) (xs ys : List A) → map f (xs ++ ys) ≡ map f xs ++ map f ys
 map-append f [] ys = refl
 map-append f (x ∷ xs) ys = ap (λ zs. f x ∷ zs) (map-append f xs ys)
@@ -401,15 +322,6 @@ back-asked e p os qs rs all answers second ea eb ec =
 pub answers-asked : (e : ℕ) (p : ℕ → Bool) (os qs : List ℕ) (answers : List Bool) → answers ≡ map p qs
     → answered e os answers ≡ asked_by e p os qs
 answers-asked e p os qs answers h = ap (answered e os) h ∙ answered-asked e p os qs
-
-pub owner-less : (n e : ℕ) (owners : List ℕ) → every (λ o. nat_lt o n) owners ≡ true → is_at e owners ≡ true → e < n
-owner-less n e [] h k = absurd (true≢false (sym k))
-owner-less n e (o ∷ owners) h k =
-    let parts = and_parts (nat_lt o n) (every (λ x. nat_lt x n) owners) h in
-    elim (or_cases (nat_eq o e) (is_at e owners) k) [
-      | inl s ↦ subst (λ x. x < n) (eqb-true o e s) (ltb-true o n parts.0)
-      | inr r ↦ owner-less n e owners parts.1 r
-    ]
 
 pub all-first : (a x : Bool) → a ≡ true → (a && x) ≡ x
 all-first a x h = ap (λ b. b && x) h

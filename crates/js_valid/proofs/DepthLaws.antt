@@ -25,7 +25,8 @@ member-less [] i x h is = absurd (omega (arith, h))
 member-less (y ∷ items) zero x h is = let e = ap (λ z. depth (member_view z).1) is in omega (arith, e)
 member-less (y ∷ items) (suc i) x h is = let less = member-less items i x (omega (arith, h)) is in omega (arith, less)
 
-pub member-depth : (items : List (Named Doc)) (i : ℕ) (x : Named Doc) (l : Members) → i < length items → x ≡ get_or items i x
+pub member-depth : (items : List (Named Doc)) (i : ℕ) (x : Named Doc) (l : Members) → i < length items
+    → x ≡ get_or items i x
     → members_of (map member_view items) ≡ l → depth (member_view x).1 ≤ members_depth l
 member-depth items i x l h is e = subst (λ ms. depth (member_view x).1 ≤ members_depth ms) e
     (member-less items i x h is)

@@ -8,6 +8,14 @@ pub mod PlanLaws
 pub mod SameLaws
 -- What is asked of a part, request by request.
 pub mod RequestLaws
+-- Places in lists, and the owners at them.
+pub mod PlaceLaws
+-- A form asks of a document itself what it asks by itself and by the verdicts of others.
+pub mod StandLaws
+-- Places that are pending, and where entries stand.
+pub mod PendingLaws
+-- The entries that are asked, and their verdicts.
+pub mod AskedLaws
 -- What is known of verdicts before a place of the order.
 pub mod Settled
 -- What is known of all parts.

@@ -1,6 +1,6 @@
 -- The key lemma: what is marked in place stays closed, since ranks fall; so verdicts that are taken in order are right.
-use Rattle.std.proofs.Common.{◌≡◌, ℕ, zero, suc, ◌+◌, ◌-◌, ◌<◌, ◌≤◌, inl, inr, List, [], ◌∷◌, ◌++◌, map, length, get_or, Bool, true, false, ◌||◌, ◌&&◌, nat_eq, if◌then◌else◌, refl, sym, ap, subst, ◌∙◌, arith, true≢false}
-use Rattle.std.proofs.lemmas.Bool.{and_parts, or_cases, eqb-true, eq-eqb, cases_lt}
+use Rattle.std.proofs.Common.{◌≡◌, ℕ, zero, suc, ◌+◌, ◌<◌, ◌≤◌, inl, inr, List, [], ◌∷◌, map, length, get_or, Bool, true, false, ◌&&◌, nat_eq, if◌then◌else◌, refl, sym, ap, subst, ◌∙◌, arith, true≢false}
+use Rattle.std.proofs.lemmas.Bool.{or_cases, eqb-true, eq-eqb, cases_lt}
 use Rattle.std.specs.List.{AllByRecursion}
 use Rattle.documents.specs.Document.{Document}
 use Rattle.levels.proofs.LevelsLaws.{everywhere}
@@ -14,17 +14,7 @@ use Rattle.js_valid.specs.Parts.{flag, own, parts}
 use Rattle.js_match.specs.Places.{is_at}
 use Rattle.js_valid.specs.Plan.{IsPlan, IsClosed, KnowsParts, KnowsVerdicts, valid_at}
 use Rattle.js_valid.proofs.Halves.{asks-halves}
-use Rattle.js_match.proofs.LeadsLaws.{is_at-append, or_left_true, or_right_true}
-
-pub marks_after : (j : ℕ) (xs ys : List ℕ) (a b c : Bool) → b ≡ (a || is_at j xs) → c ≡ (b || is_at j ys)
-    → c ≡ (a || is_at j (xs ++ ys))
-marks_after j xs ys a b c f g =
-    g ∙ ap (λ t. t || is_at j ys) f ∙ or_assoc a (is_at j xs) (is_at j ys) ∙ ap (λ t. a || t) (sym
-    (is_at-append j xs ys))
-  where
-    or_assoc : (a b c : Bool) → ((a || b) || c) ≡ (a || (b || c))
-    or_assoc true b c = refl
-    or_assoc false b c = refl
+use Rattle.js_match.proofs.LeadsLaws.{or_left_true, or_right_true}
 
 pub form_at-get : (es : List Entry) (e : ℕ) (x : Form) → e < length es → x ≡ get_or (map (λ f. f.form) es) e x
     → x ≡ form_at es e
@@ -66,58 +56,6 @@ module _ (es : List Entry) (order : List ℕ) (plan : IsPlan es order) where
 
   pub target-falls : (e q : ℕ) → e < length es → is_at q (in_place (form_at es e)) ≡ true → plan.rank q < plan.rank e
   target-falls e q h k = all-at (λ p. plan.rank p < plan.rank e) (in_place (form_at es e)) q (plan.falls.falls e h) k
-
-  abbrev pub ClosedFrom : ℕ → List Bool → Type 0
-  ClosedFrom left asked = (k q : ℕ) → left ≤ k → k < length order → flag asked (at k) ≡ true
-      → is_at q (in_place (form_at es (at k))) ≡ true → flag asked q ≡ true
-
-  pub close-step : (left : ℕ) (asked asked' : List Bool) → 0 < left → left ≤ length order
-      → ((j : ℕ) → j < length es → flag asked' j
-      ≡ (flag asked j || (flag asked (at (left - 1)) && is_at j (in_place (form_at es (at (left - 1)))))))
-      → ClosedFrom left asked → ClosedFrom (left - 1) asked'
-  close-step left asked asked' some within marks closed k q le less a t =
-      let e = at (left - 1) in
-      let eb = plan.only (left - 1) (omega (arith, some, within)) in
-      let kb = plan.only k less in
-      let qb = target-below (at k) q kb t in
-      elim (cases_lt k left) [
-        | inl here ↦
-            let same : k ≡ left - 1 = omega (arith, here, le) in
-            let same_entry : at k ≡ e = ap at same in
-            let was = own_flag (flag asked e) (is_at e (in_place (form_at es e))) (sym (marks e eb)
-            ∙ ap (flag asked') (sym same_entry) ∙ a) in
-            marks q qb ∙ or_right_true (flag asked q) _ (ap (λ b. b && is_at q (in_place (form_at es e))) was
-            ∙ subst (λ x. is_at q (in_place (form_at es x)) ≡ true) same_entry t)
-        | inr later ↦
-            elim (or_cases (flag asked (at k)) (flag asked e && is_at (at k) (in_place (form_at es e)))
-            (sym (marks (at k) kb) ∙ a)) [
-              | inl l ↦ marks q qb ∙ or_left_true (flag asked q) _ (closed k q later less l t)
-              | inr r ↦
-                  let named = (and_parts (flag asked e) (is_at (at k) (in_place (form_at es e))) r).1 in
-                  let falls = target-falls e (at k) eb named in
-                  let rises = plan.rises (left - 1) k (omega (arith, later, some)) less in
-                  absurd (omega (arith, falls, rises))
-            ]
-      ]
-    where
-      own_flag : (a b : Bool) → (a || (a && b)) ≡ true → a ≡ true
-      own_flag true b h = refl
-      own_flag false b h = h
-
-  pub close-keeps : (left : ℕ) (asked asked' : List Bool) (e : ℕ) → length asked ≡ length es
-      → ((j : ℕ) → j < length es → flag asked' j
-      ≡ (flag asked j || (flag asked (at (left - 1)) && is_at j (in_place (form_at es (at (left - 1)))))))
-      → flag asked e ≡ true → flag asked' e ≡ true
-  close-keeps left asked asked' e len marks h =
-      let b = flag-below asked e h in
-      marks e (omega (arith, b, len)) ∙ or_left_true (flag asked e) _ h
-
-  pub close-done : (asked : List Bool) → length asked ≡ length es → ClosedFrom 0 asked → IsClosed es asked
-  close-done asked len closed e q h t =
-      let b = flag-below asked e h in
-      let (k, less, same) = plan.all e (omega (arith, b, len)) in
-      closed k q (omega arith) less (subst (λ x. flag asked x ≡ true) (sym same) h)
-      (subst (λ x. is_at q (in_place (form_at es x)) ≡ true) (sym same) t)
 
   module _ (J : Document) (asked : List Bool) (len : length asked ≡ length es) (closed : IsClosed es asked) where
     abbrev pub KnownTo : ℕ → List Bool → Type 0

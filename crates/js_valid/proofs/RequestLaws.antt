@@ -1,12 +1,11 @@
 -- What is asked of a part, request by request and owner by owner.
-use Rattle.std.proofs.Common.{◌≡◌, ℕ, zero, suc, ◌+◌, ◌<◌, ◌≤◌, List, [], ◌∷◌, ◌++◌, map, drop, drop-cons, add-one, length, get_or, Bool, true, false, ◌||◌, ◌&&◌, not, nat_eq, nat_lt, inl, inr, refl, sym, ap, ◌∙◌, arith, true≢false}
-use Rattle.std.proofs.lemmas.Bool.{and_parts, or_cases, eqb-true, eq-eqb, ltb-true, lt-ltb}
+use Rattle.std.proofs.Common.{◌≡◌, ℕ, zero, suc, ◌+◌, ◌<◌, ◌≤◌, List, [], ◌∷◌, ◌++◌, map, drop, drop-cons, add-one, length, get_or, Bool, true, false, ◌||◌, ◌&&◌, not, nat_eq, nat_lt, refl, sym, ap, ◌∙◌, arith}
+use Rattle.std.proofs.lemmas.Bool.{and_parts, eq-eqb, ltb-true, lt-ltb}
 use Rattle.documents.specs.Tests.{every}
 use Rattle.schemas.specs.Entry.{Entry, Form}
 use Rattle.draft06.specs.EntryValidity.{form_at}
 use Rattle.js_valid.specs.Parts.{asked_by, answered, of_listed}
-use Rattle.js_match.specs.Places.{is_at}
-use Rattle.js_valid.specs.Requests.{AsksMore, asks_of}
+use Rattle.js_valid.specs.Requests.{AskedByOwners, AsksMore, at_owner, asks_of}
 
 and_assoc : (a b c : Bool) → ((a && b) && c) ≡ (a && (b && c))
 and_assoc true b c = refl
@@ -52,57 +51,86 @@ add_next owner entries i os qs os' qs' target less len eo eq h e p =
 
 -- ---- one more owner
 
+-- the tests from one owner on are its own and those after it
+pub at_owner-next : (test : ℕ → ℕ → Bool) (e : ℕ) (owners : List ℕ) (i : ℕ) → i < length owners
+    → at_owner test e i (drop i owners)
+    ≡ ((not (nat_eq i e) || test i (get_or owners i 0)) && at_owner test e (i + 1) (drop (i + 1) owners))
+at_owner-next test e owners i less =
+    ap (at_owner test e i) (cons_at owners i less)
+    ∙ ap (λ n. (not (nat_eq i e) || test i (get_or owners i 0)) && at_owner test e n (drop (i + 1) owners))
+    (sym (add-one i))
+
 pub owner_next : (es : List Entry) (of : Form → List ℕ) (owners : List ℕ) (i : ℕ) (form : Form) (os qs os' qs' : List ℕ)
-    → i < length owners → form ≡ form_at es (get_or owners i 0) → AsksMore (get_or owners i 0) (of form) os qs os' qs'
-    → ((e : ℕ) (p : ℕ → Bool) → (asked_by e p os qs && asks_of es of e p (drop i owners)) ≡ asks_of es of e p owners)
-    → (e : ℕ) (p : ℕ → Bool) → (asked_by e p os' qs' && asks_of es of e p (drop (i + 1) owners))
-    ≡ asks_of es of e p owners
+    → i < length owners → form ≡ form_at es (get_or owners i 0) → AsksMore i (of form) os qs os' qs'
+    → ((e : ℕ) (p : ℕ → Bool) → (asked_by e p os qs && at_owner (asks_of es of p) e i (drop i owners))
+    ≡ at_owner (asks_of es of p) e 0 owners)
+    → (e : ℕ) (p : ℕ → Bool) → (asked_by e p os' qs' && at_owner (asks_of es of p) e (i + 1) (drop (i + 1) owners))
+    ≡ at_owner (asks_of es of p) e 0 owners
 owner_next es of owners i form os qs os' qs' less is more h e p =
-    let o = get_or owners i 0 in
-    let rest = asks_of es of e p (drop (i + 1) owners) in
+    let rest = at_owner (asks_of es of p) e (i + 1) (drop (i + 1) owners) in
     ap (λ b. b && rest) (more e p)
-    ∙ and_assoc (asked_by e p os qs) (not (nat_eq o e) || every p (of form)) rest
-    ∙ ap (λ f. asked_by e p os qs && ((not (nat_eq o e) || every p (of f)) && rest)) is
-    ∙ ap (λ xs. asked_by e p os qs && asks_of es of e p xs) (sym (cons_at owners i less))
+    ∙ and_assoc (asked_by e p os qs) (not (nat_eq i e) || every p (of form)) rest
+    ∙ ap (λ f. asked_by e p os qs && ((not (nat_eq i e) || every p (of f)) && rest)) is
+    ∙ ap (λ b. asked_by e p os qs && b) (sym (at_owner-next (asks_of es of p) e owners i less))
     ∙ h e p
 
--- what the requests ask of a part for one of the owners
-asks_nothing : (es : List Entry) (of : Form → List ℕ) (e : ℕ) (p : ℕ → Bool) (owners : List ℕ)
-    → every p (of (form_at es e)) ≡ true → asks_of es of e p owners ≡ true
-asks_nothing es of e p [] h = refl
-asks_nothing es of e p (o ∷ owners) h = go (nat_eq o e) refl (asks_nothing es of e p owners h)
-  where
-    go : (b : Bool) → nat_eq o e ≡ b → asks_of es of e p owners ≡ true → asks_of es of e p (o ∷ owners) ≡ true
-    go true k r =
-        ap (λ t. (not t || every p (of (form_at es o))) && asks_of es of e p owners) k
-        ∙ ap (λ x. every p (of (form_at es x)) && asks_of es of e p owners) (eqb-true o e k)
-        ∙ ap (λ t. t && asks_of es of e p owners) h ∙ r
-    go false k r = ap (λ t. (not t || every p (of (form_at es o))) && asks_of es of e p owners) k ∙ r
+-- a test that is taken from the one at the place
+pub refused_next : (test : ℕ → ℕ → Bool) (e : ℕ) (owners : List ℕ) (i : ℕ) (was now met whole : Bool)
+    → i < length owners → now ≡ (was && (not (nat_eq i e) || met)) → met ≡ test i (get_or owners i 0)
+    → (was && at_owner test e i (drop i owners)) ≡ whole
+    → (now && at_owner test e (i + 1) (drop (i + 1) owners)) ≡ whole
+refused_next test e owners i was now met whole less is own h =
+    let rest = at_owner test e (i + 1) (drop (i + 1) owners) in
+    ap (λ b. b && rest) is ∙ and_assoc was (not (nat_eq i e) || met) rest
+    ∙ ap (λ b. was && ((not (nat_eq i e) || b) && rest)) own
+    ∙ ap (λ b. was && b) (sym (at_owner-next test e owners i less)) ∙ h
 
-pub owners_ask : (es : List Entry) (of : Form → List ℕ) (e : ℕ) (p : ℕ → Bool) (owners : List ℕ)
-    → is_at e owners ≡ true → asks_of es of e p owners ≡ every p (of (form_at es e))
-owners_ask es of e p owners h = go (every p (of (form_at es e))) refl
+-- past the place nothing is asked of it
+at_owner-past : (test : ℕ → ℕ → Bool) (e i : ℕ) (owners : List ℕ) → e < i → at_owner test e i owners ≡ true
+at_owner-past test e i [] h = refl
+at_owner-past test e i (o ∷ owners) h =
+    ap (λ b. (not b || test i o) && at_owner test e (suc i) owners) (other i e h)
+    ∙ at_owner-past test e (suc i) owners (omega (arith, h))
   where
-    refused : (owners : List ℕ) → is_at e owners ≡ true → every p (of (form_at es e)) ≡ false
-        → asks_of es of e p owners ≡ false
-    refused [] a n = absurd (true≢false (sym a))
-    refused (o ∷ owners) a n = elim (or_cases (nat_eq o e) (is_at e owners) a) [
-      | inl k ↦
-          ap (λ t. (not t || every p (of (form_at es o))) && asks_of es of e p owners) k
-          ∙ ap (λ x. every p (of (form_at es x)) && asks_of es of e p owners) (eqb-true o e k)
-          ∙ ap (λ t. t && asks_of es of e p owners) n
-      | inr r ↦
-          ap (λ t. (not (nat_eq o e) || every p (of (form_at es o))) && t) (refused owners r n)
-          ∙ and_false (not (nat_eq o e) || every p (of (form_at es o)))
-    ]
-      where
-        and_false : (a : Bool) → (a && false) ≡ false
-        and_false true = refl
-        and_false false = refl
+    other : (i e : ℕ) → e < i → nat_eq i e ≡ false
+    other i e h = grind arith
 
-    go : (b : Bool) → every p (of (form_at es e)) ≡ b → asks_of es of e p owners ≡ every p (of (form_at es e))
-    go true k = asks_nothing es of e p owners k ∙ sym k
-    go false k = refused owners h k ∙ sym k
+at_owner-there : (test : ℕ → ℕ → Bool) (e i j : ℕ) (owners : List ℕ) → e ≡ i + j → j < length owners
+    → at_owner test e i owners ≡ test e (get_or owners j 0)
+at_owner-there test e i j [] is less = absurd (omega (arith, less))
+at_owner-there test e i zero (o ∷ owners) is less =
+    let same : i ≡ e = omega (arith, is) in
+    ap (λ b. (not b || test i o) && at_owner test e (suc i) owners) (eq-eqb i e same)
+    ∙ ap (λ b. test i o && b) (at_owner-past test e (suc i) owners (omega (arith, is)))
+    ∙ and_true (test i o) ∙ ap (λ n. test n o) same
+at_owner-there test e i (suc j) (o ∷ owners) is less =
+    ap (λ b. (not b || test i o) && at_owner test e (suc i) owners) (other i e j is)
+    ∙ at_owner-there test e (suc i) j owners (omega (arith, is)) (omega (arith, less))
+  where
+    other : (i e j : ℕ) → e ≡ i + suc j → nat_eq i e ≡ false
+    other i e j h = grind arith
+
+-- of each owner its own test
+pub owner_one : (test : ℕ → ℕ → Bool) (e : ℕ) (owners : List ℕ) → e < length owners
+    → at_owner test e 0 owners ≡ test e (get_or owners e 0)
+owner_one test e owners less = at_owner-there test e 0 e owners (omega arith) less
+
+-- of all owners, each by its own place
+pub owners_done : (es : List Entry) (of : Form → List ℕ) (owners : List ℕ) (i : ℕ) (os qs : List ℕ)
+    → length owners ≤ i
+    → ((e : ℕ) (p : ℕ → Bool) → (asked_by e p os qs && at_owner (asks_of es of p) e i (drop i owners))
+    ≡ at_owner (asks_of es of p) e 0 owners)
+    → AskedByOwners es of owners os qs
+owners_done es of owners i os qs end h e p less =
+    sym (and_true (asked_by e p os qs))
+    ∙ ap (λ xs. asked_by e p os qs && at_owner (asks_of es of p) e i xs) (sym (none owners i end))
+    ∙ h e p ∙ owner_one (asks_of es of p) e owners less
+  where
+    none : (xs : List ℕ) (n : ℕ) → length xs ≤ n → drop n xs ≡ []
+    none [] zero h = refl
+    none [] (suc n) h = refl
+    none (x ∷ xs) zero h = absurd (omega (arith, h))
+    none (x ∷ xs) (suc n) h = none xs n (omega (arith, h))
 
 pub answered-asked : (e : ℕ) (p : ℕ → Bool) (os qs : List ℕ) → answered e os (map p qs) ≡ asked_by e p os qs
 answered-asked e p [] qs = refl
@@ -128,14 +156,10 @@ owner_below n (o ∷ owners) zero h l = ltb-true o n (and_parts (nat_lt o n) (ev
 owner_below n (o ∷ owners) (suc i) h l =
     owner_below n owners i (and_parts (nat_lt o n) (every (λ x. nat_lt x n) owners) h).1 (omega (arith, l))
 
-pub owners_within : (n : ℕ) (owners : List ℕ) → ((j : ℕ) → is_at j owners ≡ true → j < n)
+-- each of a list is below a number
+pub every-got : (n : ℕ) (owners : List ℕ) → ((i : ℕ) → i < length owners → get_or owners i 0 < n)
     → every (λ o. nat_lt o n) owners ≡ true
-owners_within n [] h = refl
-owners_within n (o ∷ owners) h =
-    ap (λ b. b && every (λ x. nat_lt x n) owners)
-    (lt-ltb o n (h o (ap (λ b. b || is_at o owners) (eq-eqb o o refl))))
-    ∙ owners_within n owners (λ j k. h j (or_right (nat_eq o j) (is_at j owners) k))
-  where
-    or_right : (a b : Bool) → b ≡ true → (a || b) ≡ true
-    or_right true b k = refl
-    or_right false b k = k
+every-got n [] h = refl
+every-got n (o ∷ owners) h =
+    ap (λ b. b && every (λ x. nat_lt x n) owners) (lt-ltb o n (h 0 (omega arith)))
+    ∙ every-got n owners (λ i l. h (suc i) (omega (arith, l)))

@@ -4,9 +4,9 @@ use Rattle.std.proofs.lemmas.Bool.{and_parts}
 use Rattle.std.proofs.lemmas.Slice.Eq.{bytes_eq-Decides}
 use Rattle.std.proofs.Math.ListN.{length-map}
 use Rattle.documents.specs.Tests.{every, same_word, comes_before}
-use Rattle.schemas.specs.Entry.{Entry, Keywords}
+use Rattle.schemas.specs.Entry.{Entry}
 use Rattle.schemas.specs.Weight.{most_weight}
-use Rattle.schemas.specs.Schema.{lists, meets, one, is_ascending, is_word, are_keys, is_table, form_in_range, is_in_range, is_filled, is_count, are_needs, total_size}
+use Rattle.schemas.specs.Schema.{lists, one, is_ascending, is_word, are_keys, is_table, form_in_range, total_size}
 use Rattle.std.specs.Prelude.{nat_le}
 use Rattle.draft06.specs.EntryValidity.{form_at}
 use Rattle.js_doc.proofs.Lookups.{same_word-bytes_eq}
@@ -89,15 +89,3 @@ form-fine es e h l =
     let weight = and_parts _ (nat_le (total_size es) most_weight) h in
     let range = and_parts _ (every (λ e. form_in_range e.form) es) weight.0 in
     form_fine es e range.1 l
-
--- the names of properties
-pub keys-fine : (k : Keywords) → is_in_range k ≡ true → meets are_keys k.properties ≡ true
-keys-fine k h =
-    let a = and_parts _ (meets is_filled k.one_of) h in
-    let b = and_parts _ (meets is_filled k.any_of) a.0 in
-    let c = and_parts _ (meets is_filled k.all_of) b.0 in
-    let d = and_parts _ (meets is_count k.max_properties) c.0 in
-    let e = and_parts _ (meets is_count k.min_properties) d.0 in
-    let f = and_parts _ (meets are_needs k.dependencies) e.0 in
-    let g = and_parts _ (meets are_keys k.pattern_properties) f.0 in
-    (and_parts _ (meets are_keys k.properties) g.0).1

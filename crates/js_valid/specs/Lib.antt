@@ -15,3 +15,7 @@ pub mod Frame
 pub mod PartTables
 -- Verdicts as bits.
 pub mod Bits
+-- What a form asks by itself, and by the verdicts of others.
+pub mod Standing
+-- The entries that are asked.
+pub mod AskedEntries

@@ -8,6 +8,7 @@ use Rattle.draft06_laws.specs.Ranks.{FallInPlace}
 use Rattle.js_match.specs.Matching.{matches}
 use Rattle.js_valid.specs.Parts.{flag, parts}
 use Rattle.js_match.specs.Places.{is_at}
+use Rattle.js_valid.specs.declared.plan.Plan.{Plan}
 
 pub record IsPlan (es : List Entry) (order : List ℕ) : Type 0 where
   pub table : is_table es ≡ true
@@ -16,6 +17,15 @@ pub record IsPlan (es : List Entry) (order : List ℕ) : Type 0 where
   pub rises : (k l : ℕ) → k ≤ l → l < length order → rank (get_or order k 0) ≤ rank (get_or order l 0)
   pub all : (e : ℕ) → e < length es → (k : ℕ) × (k < length order) × (get_or order k 0 ≡ e)
   pub only : (k : ℕ) → k < length order → get_or order k 0 < length es
+
+-- the entry stands in the order where the places say
+abbrev pub StandAt : (order places : List ℕ) → ℕ → Type 0
+StandAt order places e = (get_or places e 0 < length order) × (get_or order (get_or places e 0) 0 ≡ e)
+
+-- the same, with the place of each entry
+pub record IsPlanned (es : List Entry) (p : Plan) : Type 0 where
+  pub plan : IsPlan es p.order.items
+  pub places : (e : ℕ) → e < length es → StandAt p.order.items p.places.items e
 
 -- validity by the patterns of the grammar
 abbrev pub valid_at : List Entry → ℕ → Document → Bool

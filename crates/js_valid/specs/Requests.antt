@@ -1,23 +1,34 @@
 -- What requests of owners ask of a part of a document.
-use Rattle.std.specs.Prelude.{◌≡◌, ℕ, suc, List, [], ◌∷◌, Bool, true, ◌&&◌, ◌||◌, not, nat_eq, Option, None}
+use Rattle.std.specs.Prelude.{◌≡◌, ℕ, suc, ◌<◌, length, get_or, List, [], ◌∷◌, Bool, true, false, ◌&&◌, ◌||◌, not, nat_eq, Option, None}
 use Rattle.documents.specs.Tests.{every}
 use Rattle.documents.specs.Document.{Document}
 use Rattle.schemas.specs.Entry.{Entry, Form, Asks}
 use Rattle.draft06.specs.EntryValidity.{form_at}
-use Rattle.js_valid.specs.Parts.{asked_by, flag, parts_array, parts_object}
 use Rattle.js_match.specs.Places.{is_at}
+use Rattle.js_valid.specs.Parts.{asked_by, flag, parts_array, parts_object}
 
 -- one owner asks for these entries too
 abbrev pub AsksMore : ℕ → List ℕ → (os qs os' qs' : List ℕ) → Type 0
 AsksMore owner entries os qs os' qs' =
     (e : ℕ) (p : ℕ → Bool) → asked_by e p os' qs' ≡ (asked_by e p os qs && (not (nat_eq owner e) || every p entries))
 
--- each owner asks for the entries that its form has for the part
-abbrev pub asks_of : List Entry → (Form → List ℕ) → ℕ → (ℕ → Bool) → List ℕ → Bool
-asks_of es of e p owners = every (λ o. not (nat_eq o e) || every p (of (form_at es o))) owners
+-- the test of the owner at place k, where the owners are those from place i on
+abbrev pub at_owner : (ℕ → ℕ → Bool) → (k i : ℕ) → List ℕ → Bool
+at_owner test k i [] = true
+at_owner test k i (o ∷ os) = (not (nat_eq i k) || test i o) && at_owner test k (suc i) os
+
+-- each owner, by its place, asks for the entries that its form has for the part
+abbrev pub asks_of : List Entry → (Form → List ℕ) → (ℕ → Bool) → ℕ → ℕ → Bool
+asks_of es of p i o = every p (of (form_at es o))
 
 abbrev pub AskedByOwners : List Entry → (Form → List ℕ) → (owners os qs : List ℕ) → Type 0
-AskedByOwners es of owners os qs = (e : ℕ) (p : ℕ → Bool) → asked_by e p os qs ≡ asks_of es of e p owners
+AskedByOwners es of owners os qs =
+    (e : ℕ) (p : ℕ → Bool) → e < length owners → asked_by e p os qs ≡ every p (of (form_at es (get_or owners e 0)))
+
+-- an owner whose place isn't among these asks for nothing
+abbrev pub OthersAskNothing : List Entry → (Form → List ℕ) → (owners places : List ℕ) → Type 0
+OthersAskNothing es of owners places =
+    (i : ℕ) → i < length owners → is_at i places ≡ false → of (form_at es (get_or owners i 0)) ≡ []
 
 -- of each element, by its place
 abbrev pub each_at : (ℕ → Document → Bool) → ℕ → List Document → Bool
@@ -28,9 +39,9 @@ abbrev pub contained : Form → Option ℕ
 contained (Asks k) = k.contains
 contained f = None
 
--- what is known of each owner
+-- what is known of each owner, by its place
 abbrev pub FinePart : List Entry → List ℕ → List Bool → (ℕ → Bool) → Type 0
-FinePart es owners fine test = (e : ℕ) → is_at e owners ≡ true → flag fine e ≡ test e
+FinePart es owners fine test = (i : ℕ) → i < length owners → flag fine i ≡ test (get_or owners i 0)
 
 -- what a form asks of elements
 abbrev pub parts_list : (ℕ → Document → Bool) → Form → List Document → Bool

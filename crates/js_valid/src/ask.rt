@@ -1,17 +1,15 @@
 //! What the entries ask of one part of a document: requests, each of an entry that asks, its owner, for an entry that
 //! the part is to meet.
 
-ghost use Rattle.std.specs.Prelude.{◌≡◌, ℕ, ◌<◌, ◌||◌, ◌&&◌, ◌++◌, not, nat_eq, nat_lt, true, Bool, List, [], IfOk, IsOk, map, option_map, length};
+ghost use Rattle.std.specs.Prelude.{◌≡◌, ℕ, ◌<◌, ◌||◌, ◌&&◌, ◌++◌, ◌∷◌, if◌then◌else◌, not, nat_eq, nat_lt, true, false, Bool, List, [], IfOk, IsOk, map, option_map, length, get_or};
 ghost use Rattle.documents.specs.Tests.{every, same_word};
 ghost use Rattle.schemas.specs.Entry.{Asks};
 ghost use Rattle.schemas.specs.Schema.{lists, one, is_table, is_in_range, form_in_range};
-ghost use Rattle.draft06.specs.EntryValidity.{form_at};
-ghost use Rattle.js_schema.specs.Patterns.{source_of};
-ghost use Rattle.js_schema.specs.View.{form_view, keywords_view, items_view, property_view, pattern_property_view, pattern_properties_view};
+ghost use Rattle.js_schema.specs.View.{form_view, keywords_view, items_view, property_view, pattern_properties_view};
 ghost use Rattle.js_schema.specs.SchemaView.{schema_view};
 ghost use Rattle.js_match.specs.Matching.{matches};
 ghost use Rattle.js_valid.specs.Parts.{asked_by, of_contains, of_element, of_items_part, of_listed, of_member, of_name, of_named, of_names, or_else};
-ghost use Rattle.js_valid.specs.Requests.{AsksMore, AskedByOwners, contained};
+ghost use Rattle.js_valid.specs.Requests.{AsksMore, AskedByOwners, OthersAskNothing, contained};
 
 use crate::found::is_found;
 use crate::search::property_entry;
@@ -20,10 +18,10 @@ use js_match::letters;
 use js_schema::{EntryList, Form, ItemsPart, Keywords, PatternPropertyList, Schema};
 use std::alloc::Global;
 
-/// Requests of the owners, each for the entry at its place.
+/// Requests of owners, by their places in a list, each for the entry at its place.
 #[derive(Drop)]
 pub(crate) struct Requests {
-    pub(crate) owners: Vec<u32>,
+    pub(crate) owners: Vec<usize>,
     pub(crate) entries: Vec<u32>,
 }
 
@@ -40,7 +38,7 @@ impl Requests {
 }
 
 /// Adds requests of one owner.
-fn add(requests: &mut Requests, owner: u32, entries: &[u32]) -> Result<(), Memory>
+fn add(requests: &mut Requests, owner: usize, entries: &[u32]) -> Result<(), Memory>
     requires { length requests.old.owners.items ≡ length requests.old.entries.items }
     ensures len { IsOk result → length requests.new.owners.items ≡ length requests.new.entries.items }
     ensures asks { IsOk result → (e : ℕ) (p : ℕ → Bool) → asked_by e p
@@ -55,7 +53,7 @@ fn add(requests: &mut Requests, owner: u32, entries: &[u32]) -> Result<(), Memor
     Ok(())
 }
 
-fn add_option(requests: &mut Requests, owner: u32, entry: Option<u32>) -> Result<(), Memory>
+fn add_option(requests: &mut Requests, owner: usize, entry: Option<u32>) -> Result<(), Memory>
     requires { length requests.old.owners.items ≡ length requests.old.entries.items }
     ensures len { IsOk result → length requests.new.owners.items ≡ length requests.new.entries.items }
     ensures asks { IsOk result → AsksMore owner (lists one entry) requests.old.owners.items requests.old.entries.items
@@ -67,21 +65,63 @@ fn add_option(requests: &mut Requests, owner: u32, entry: Option<u32>) -> Result
     }
 }
 
-/// The requests for the element at that place, but for `contains`.
+/// The places of the owners that ask anything of elements, but for `contains`.
+pub(crate) fn asking_of_elements(
+    alloc: Global,
+    schema: &Schema,
+    owners: &[u32],
+) -> Result<Vec<usize>, Memory>
+    requires { every (λ o. nat_lt o (length (schema_view schema.now))) owners.now ≡ true }
+    ensures within { IfOk result (λ places. (i : ℕ) → i < length places.items
+        → get_or places.items i 0 < length owners.now) }
+    ensures others { IfOk result (λ places. (k : ℕ) → OthersAskNothing (schema_view schema.now)
+        (λ f. of_element f k) owners.now places.items) }
+{
+    let mut places = Vec::new(alloc);
+    for (i, owner) in owners.iter().enumerate() {
+        add_place(&mut places, i, asks_elements(schema.form(*owner)))?;
+    }
+    Ok(places)
+}
+
+/// Adds the place where that is wanted.
+fn add_place(places: &mut Vec<usize>, place: usize, is_wanted: bool) -> Result<(), Memory>
+    ensures { IsOk result → places.new.items
+        ≡ (if is_wanted then places.old.items ++ place ∷ [] else places.old.items) }
+{
+    if is_wanted {
+        places.push(place)?;
+    }
+    Ok(())
+}
+
+fn asks_elements(form: &Form) -> bool
+    ensures { result ≡ false → (k : ℕ) → of_element (form_view form.now) k ≡ [] }
+{
+    match form {
+        Form::Keywords(keywords) => keywords.arrays.items.is_some(),
+        _ => false,
+    }
+}
+
+/// The requests for the element at that place, but for `contains`, of the owners at those places.
 pub(crate) fn of_element(
     alloc: Global,
     schema: &Schema,
     owners: &[u32],
+    asking: &[usize],
     place: usize,
 ) -> Result<Requests, Memory>
-    requires { every (λ o. nat_lt o (length (schema_view schema.now))) owners.now ≡ true }
+    requires owners { every (λ o. nat_lt o (length (schema_view schema.now))) owners.now ≡ true }
+    requires within { (i : ℕ) → i < length asking.now → get_or asking.now i 0 < length owners.now }
+    requires others { OthersAskNothing (schema_view schema.now) (λ f. of_element f place) owners.now asking.now }
     ensures len { IfOk result (λ r. length r.owners.items ≡ length r.entries.items) }
     ensures asks { IfOk result (λ r. AskedByOwners (schema_view schema.now) (λ f. of_element f place) owners.now
         r.owners.items r.entries.items) }
 {
     let mut requests = Requests::new(alloc);
-    for owner in owners {
-        add_element(&mut requests, *owner, schema.form(*owner), place)?;
+    for i in asking {
+        add_element(&mut requests, *i, schema.form(owners[*i]), place)?;
     }
     Ok(requests)
 }
@@ -96,7 +136,12 @@ pub(crate) fn element_entry(form: &Form, place: usize) -> Option<u32>
     }
 }
 
-fn add_element(requests: &mut Requests, owner: u32, form: &Form, place: usize) -> Result<(), Memory>
+fn add_element(
+    requests: &mut Requests,
+    owner: usize,
+    form: &Form,
+    place: usize,
+) -> Result<(), Memory>
     requires { length requests.old.owners.items ≡ length requests.old.entries.items }
     ensures len { IsOk result → length requests.new.owners.items ≡ length requests.new.entries.items }
     ensures asks { IsOk result → AsksMore owner (of_element (form_view form.now) place) requests.old.owners.items
@@ -107,7 +152,8 @@ fn add_element(requests: &mut Requests, owner: u32, form: &Form, place: usize) -
 
 fn item_entry(keywords: &Keywords, place: usize) -> Option<u32>
     ensures { lists one result
-        ≡ of_items_part (option_map items_view keywords.now.arrays.value.items) keywords.now.arrays.value.additional_items place }
+        ≡ of_items_part (option_map items_view keywords.now.arrays.value.items)
+        keywords.now.arrays.value.additional_items place }
 {
     match &keywords.arrays.items {
         None => None,
@@ -138,13 +184,13 @@ pub(crate) fn of_contains(
         r.owners.items r.entries.items) }
 {
     let mut requests = Requests::new(alloc);
-    for owner in owners {
-        add_contains(&mut requests, *owner, schema.form(*owner))?;
+    for (i, owner) in owners.iter().enumerate() {
+        add_contains(&mut requests, i, schema.form(*owner))?;
     }
     Ok(requests)
 }
 
-fn add_contains(requests: &mut Requests, owner: u32, form: &Form) -> Result<(), Memory>
+fn add_contains(requests: &mut Requests, owner: usize, form: &Form) -> Result<(), Memory>
     requires { length requests.old.owners.items ≡ length requests.old.entries.items }
     ensures len { IsOk result → length requests.new.owners.items ≡ length requests.new.entries.items }
     ensures asks { IsOk result → AsksMore owner (of_contains (form_view form.now)) requests.old.owners.items
@@ -173,13 +219,13 @@ pub(crate) fn of_name(alloc: Global, schema: &Schema, owners: &[u32]) -> Result<
         r.owners.items r.entries.items) }
 {
     let mut requests = Requests::new(alloc);
-    for owner in owners {
-        add_name(&mut requests, *owner, schema.form(*owner))?;
+    for (i, owner) in owners.iter().enumerate() {
+        add_name(&mut requests, i, schema.form(*owner))?;
     }
     Ok(requests)
 }
 
-fn add_name(requests: &mut Requests, owner: u32, form: &Form) -> Result<(), Memory>
+fn add_name(requests: &mut Requests, owner: usize, form: &Form) -> Result<(), Memory>
     requires { length requests.old.owners.items ≡ length requests.old.entries.items }
     ensures len { IsOk result → length requests.new.owners.items ≡ length requests.new.entries.items }
     ensures asks { IsOk result → AsksMore owner (of_name (form_view form.now)) requests.old.owners.items
@@ -191,23 +237,59 @@ fn add_name(requests: &mut Requests, owner: u32, form: &Form) -> Result<(), Memo
     }
 }
 
-/// The requests for the value of a member with that name.
+/// The places of the owners that ask anything of the values of members.
+pub(crate) fn asking_of_members(
+    alloc: Global,
+    schema: &Schema,
+    owners: &[u32],
+) -> Result<Vec<usize>, Memory>
+    requires { every (λ o. nat_lt o (length (schema_view schema.now))) owners.now ≡ true }
+    ensures within { IfOk result (λ places. (i : ℕ) → i < length places.items
+        → get_or places.items i 0 < length owners.now) }
+    ensures others { IfOk result (λ places. (w : List ℕ) → OthersAskNothing (schema_view schema.now)
+        (λ f. of_member matches f w) owners.now places.items) }
+{
+    let mut places = Vec::new(alloc);
+    for (i, owner) in owners.iter().enumerate() {
+        add_place(&mut places, i, asks_members(schema.form(*owner)))?;
+    }
+    Ok(places)
+}
+
+fn asks_members(form: &Form) -> bool
+    ensures { result ≡ false → (w : List ℕ) → of_member matches (form_view form.now) w ≡ [] }
+{
+    match form {
+        Form::Keywords(keywords) => {
+            keywords.objects.properties.is_some()
+                || keywords.objects.pattern_properties.is_some()
+                || keywords.objects.additional_properties.is_some()
+        }
+        _ => false,
+    }
+}
+
+/// The requests for the value of a member with that name, of the owners at those places.
 pub(crate) fn of_member(
     alloc: Global,
     schema: &Schema,
     owners: &[u32],
+    asking: &[usize],
     name: &Str,
 ) -> Result<Requests, Memory>
     requires table { is_table (schema_view schema.now) ≡ true }
     requires owners { every (λ o. nat_lt o (length (schema_view schema.now))) owners.now ≡ true }
+    requires within { (i : ℕ) → i < length asking.now → get_or asking.now i 0 < length owners.now }
+    requires others { OthersAskNothing (schema_view schema.now) (λ f. of_member matches f name.now)
+        owners.now asking.now }
     ensures len { IfOk result (λ r. length r.owners.items ≡ length r.entries.items) }
     ensures asks { IfOk result (λ r. AskedByOwners (schema_view schema.now) (λ f.
         of_member matches f name.now) owners.now
         r.owners.items r.entries.items) }
 {
     let mut requests = Requests::new(alloc);
-    for owner in owners {
-        add_member(alloc, &mut requests, *owner, schema.form(*owner), name)?;
+    for i in asking {
+        add_member(alloc, &mut requests, *i, schema.form(owners[*i]), name)?;
     }
     Ok(requests)
 }
@@ -215,7 +297,7 @@ pub(crate) fn of_member(
 fn add_member(
     alloc: Global,
     requests: &mut Requests,
-    owner: u32,
+    owner: usize,
     form: &Form,
     name: &Str,
 ) -> Result<(), Memory>

@@ -1,9 +1,9 @@
 //! Whether a document is valid for a schema of draft-06, given as a table of entries.
 //!
 //! `valid` answers `entry_valid` of `draft06` exactly. It goes down the document: at each part the entries that are
-//! asked of it are decided together, each once, those with lesser ranks first, so that shared references and nested
-//! choices cost no more than the entries that they lead to. Neither long chains of references nor repeats in patterns
-//! are recursions; only the document's depth is. The commands that judge documents stand on it.
+//! asked of it are decided together, each once, those with lesser ranks first, and no other is looked at: so shared
+//! references and nested choices cost no more than the entries that they lead to. Neither long chains of references nor
+//! repeats in patterns are recursions; only the document's depth is. The commands that judge documents stand on it.
 #![tactic(auto)]
 
 mod ask;
@@ -19,10 +19,13 @@ mod part_frame;
 mod part_members;
 mod part_own;
 mod part_verdicts;
+mod pending;
 mod plain;
+mod plan;
 mod same;
 mod search;
 mod settle;
+mod stand;
 mod tables;
 mod verdicts;
 
@@ -33,11 +36,12 @@ ghost use Rattle.js_doc.specs.View.{view};
 ghost use Rattle.js_schema.specs.SchemaView.{schema_view};
 ghost use Rattle.js_guard.specs.RankedView.{entries_of};
 ghost use Rattle.js_match.specs.Matching.{matches};
-ghost use Rattle.js_valid.specs.Plan.{IsPlan};
+ghost use Rattle.js_valid.specs.Plan.{IsPlan, IsPlanned};
 
 use crate::decide::is_met;
 use crate::order::order_of;
 use crate::part_verdicts::is_part_met;
+use crate::plan::{Plan, places_of};
 pub use fault::ValidFault;
 use js_doc::{Doc, Memory, PartId, Parts};
 use js_guard::RankedSchema;
@@ -46,14 +50,14 @@ use std::alloc::Global;
 
 /// Whether the document is valid for the root of the schema, entry 0.
 ///
-/// Time: at each part of the document the number of entries, and what those that are asked of it look at there; a
+/// Time: the entries once, and at each part of the document what the entries that are asked of it look at there; a
 /// pattern costs the nodes of its tree times the length of the text for each round of its repeats. Memory for the
-/// entries at each level of the document.
+/// entries once, and at each level of the document for those that are asked.
 pub fn valid(alloc: Global, schema: &RankedSchema, doc: &Doc) -> Result<bool, ValidFault>
     ensures { IfOk result (λ b. b ≡ entry_valid matches (entries_of schema.now) 0 (view doc.now)) }
 {
-    let order = plan_of(alloc, schema)?;
-    Ok(is_root_met(alloc, &schema.table, &order, doc)?)
+    let plan = plan_of(alloc, schema)?;
+    Ok(is_root_met(alloc, &schema.table, &plan, doc)?)
 }
 
 /// Whether the document that a part of a table stands for is valid for the root of the schema, entry 0. Nothing is
@@ -70,20 +74,29 @@ pub fn valid_parts(
     requires { part.0 < length parts.now }
     ensures { IfOk result (λ b. b ≡ entry_valid matches (entries_of schema.now) 0 (unshared parts.now part.0)) }
 {
-    let order = plan_of(alloc, schema)?;
-    Ok(is_part_met(alloc, &schema.table, &order, parts, part, 0)?)
+    let plan = plan_of(alloc, schema)?;
+    Ok(is_part_met(alloc, &schema.table, &plan, parts, part, 0)?)
 }
 
 /// The entries in an order in which each stands after those that it names in place.
-fn plan_of(alloc: Global, schema: &RankedSchema) -> Result<Vec<u32>, Memory>
+fn plan_of(alloc: Global, schema: &RankedSchema) -> Result<Plan, Memory>
+    ensures { IfOk result (λ plan. IsPlanned (entries_of schema.now) plan) }
+{
+    let order = ordered(alloc, schema)?;
+    let places = places_of(alloc, &order, schema.table.len() as usize)?;
+    Ok(Plan { order, places })
+}
+
+fn ordered(alloc: Global, schema: &RankedSchema) -> Result<Vec<u32>, Memory>
     ensures { IfOk result (λ order. IsPlan (entries_of schema.now) order.items) }
 {
     order_of(alloc, schema.ranks.as_slice())
 }
 
-fn is_root_met(alloc: Global, schema: &Schema, order: &[u32], doc: &Doc) -> Result<bool, Memory>
-    requires { IsPlan (schema_view schema.now) order.now }
+fn is_root_met(alloc: Global, schema: &Schema, plan: &Plan, doc: &Doc) -> Result<bool, Memory>
+    requires { IsPlanned (schema_view schema.now) plan.now }
     ensures { IfOk result (λ b. b ≡ entry_valid matches (schema_view schema.now) 0 (view doc.now)) }
 {
-    is_met(alloc, schema, order, doc, 0)
+    let mut held = Vec::with_capacity(alloc, schema.len() as usize)?;
+    is_met(alloc, schema, plan, &mut held, doc, 0)
 }

@@ -1,6 +1,6 @@
 //! The entries of a schema in rising order of their ranks.
 
-ghost use Rattle.std.specs.Prelude.{◌≡◌, ℕ, ◌+◌, ◌<◌, ◌≤◌, ◌^◌, IfOk, map, length, get_or};
+ghost use Rattle.std.specs.Prelude.{◌≡◌, ℕ, ◌<◌, ◌≤◌, ◌^◌, IfOk, map, length, get_or};
 ghost use Rattle.std.specs.List.{Contains};
 
 use js_doc::Memory;

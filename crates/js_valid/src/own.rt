@@ -1,12 +1,12 @@
 //! What a form asks of a document itself, where the verdicts of the entries that it names in place are known.
 
-ghost use Rattle.std.specs.Prelude.{◌≡◌, ℕ, List, ◌&&◌, ◌||◌, not, nat_le, int_le, int_lt, true, false, IfOk, chars, length, map, option_map};
+ghost use Rattle.std.specs.Prelude.{◌≡◌, ℕ, List, ◌||◌, not, nat_le, int_le, int_lt, true, false, IfOk, map, option_map};
 ghost use Rattle.documents.specs.Tests.{every, some};
-ghost use Rattle.documents.specs.Document.{kind_of, elements, entries};
+ghost use Rattle.documents.specs.Document.{elements, entries};
 ghost use Rattle.documents.specs.Measures.{is_multiple, has_name, exactly_one, same_document};
 ghost use Rattle.schemas.specs.Schema.{meets};
 ghost use Rattle.draft06.specs.EntryValidity.{has_type, need_asks, asks_number, asks_string};
-ghost use Rattle.js_doc.specs.View.{view, list_view, map_view, member_view};
+ghost use Rattle.js_doc.specs.View.{view, list_view, map_view};
 ghost use Rattle.js_keywords.specs.TypeView.{type_view};
 ghost use Rattle.js_schema.specs.View.{form_view, keywords_view, needs_view, dependency_view};
 ghost use Rattle.js_match.specs.Matching.{matches};
@@ -19,7 +19,7 @@ use crate::tables::{all_hold, holds, just_one_holds, one_holds};
 use js_doc::{Doc, DocList, DocMap, Memory, Str, StrList, equal};
 use js_keywords::TypeName;
 use js_match::letters;
-use js_schema::{DependencyList, EntryList, Form, Keywords, Needs, PatternText, TypeList};
+use js_schema::{DependencyList, EntryList, Form, Keywords, Needs, TypeList};
 use std::alloc::Global;
 
 pub(crate) fn meets_own(
@@ -83,7 +83,7 @@ fn meets_any(keywords: &Keywords, here: &[bool], doc: &Doc) -> bool
         && meets_not(keywords.in_place.not, here)
 }
 
-fn is_given(keywords: &Keywords, doc: &Doc) -> bool
+pub(crate) fn is_given(keywords: &Keywords, doc: &Doc) -> bool
     ensures { result ≡ is_given (keywords_view keywords.now) (view doc.now) }
 {
     is_listed(keywords, doc) && is_constant(keywords, doc)
@@ -131,8 +131,9 @@ fn is_constant(keywords: &Keywords, doc: &Doc) -> bool
     }
 }
 
-fn has_types(keywords: &Keywords, doc: &Doc) -> bool
-    ensures { result ≡ meets (some (has_type (view doc.now))) (option_map (λ ts. map type_view ts) keywords.now.any.value.types) }
+pub(crate) fn has_types(keywords: &Keywords, doc: &Doc) -> bool
+    ensures { result ≡ meets (some (has_type (view doc.now)))
+        (option_map (λ ts. map type_view ts) keywords.now.any.value.types) }
 {
     match &keywords.any.types {
         None => true,
@@ -166,7 +167,7 @@ fn is_of_type(name: TypeName, doc: &Doc) -> bool
     }
 }
 
-fn meets_all_of(list: &Option<EntryList>, here: &[bool]) -> bool
+pub(crate) fn meets_all_of(list: &Option<EntryList>, here: &[bool]) -> bool
     ensures { result ≡ meets (every (flag here.now)) list.now }
 {
     match list {
@@ -175,7 +176,7 @@ fn meets_all_of(list: &Option<EntryList>, here: &[bool]) -> bool
     }
 }
 
-fn meets_any_of(list: &Option<EntryList>, here: &[bool]) -> bool
+pub(crate) fn meets_any_of(list: &Option<EntryList>, here: &[bool]) -> bool
     ensures { result ≡ meets (some (flag here.now)) list.now }
 {
     match list {
@@ -184,7 +185,7 @@ fn meets_any_of(list: &Option<EntryList>, here: &[bool]) -> bool
     }
 }
 
-fn meets_one_of(list: &Option<EntryList>, here: &[bool]) -> bool
+pub(crate) fn meets_one_of(list: &Option<EntryList>, here: &[bool]) -> bool
     ensures { result ≡ meets (exactly_one (flag here.now)) list.now }
 {
     match list {
@@ -193,7 +194,7 @@ fn meets_one_of(list: &Option<EntryList>, here: &[bool]) -> bool
     }
 }
 
-fn meets_not(entry: Option<u32>, here: &[bool]) -> bool
+pub(crate) fn meets_not(entry: Option<u32>, here: &[bool]) -> bool
     ensures { result ≡ meets (λ e. not (flag here.now e)) entry }
 {
     match entry {
@@ -202,7 +203,7 @@ fn meets_not(entry: Option<u32>, here: &[bool]) -> bool
     }
 }
 
-fn meets_number(keywords: &Keywords, number: i128) -> bool
+pub(crate) fn meets_number(keywords: &Keywords, number: i128) -> bool
     ensures { result ≡ asks_number matches no_entry no_parts (keywords_view keywords.now) number }
 {
     is_multiple_of(keywords.numbers.multiple_of, number)
@@ -258,7 +259,7 @@ fn is_multiple_of(divisor: Option<u64>, number: i128) -> bool
     }
 }
 
-fn meets_text(alloc: Global, keywords: &Keywords, text: &Str) -> Result<bool, Memory>
+pub(crate) fn meets_text(alloc: Global, keywords: &Keywords, text: &Str) -> Result<bool, Memory>
     ensures { IfOk result (λ b. b ≡ asks_string matches no_entry no_parts (keywords_view keywords.now) text.now) }
 {
     if asks_no_text(keywords) {
@@ -291,7 +292,7 @@ fn meets_letters(alloc: Global, keywords: &Keywords, word: &[char]) -> Result<bo
     }
 }
 
-fn at_most(count: usize, most: Option<u64>) -> bool
+pub(crate) fn at_most(count: usize, most: Option<u64>) -> bool
     ensures { result ≡ meets (λ n. nat_le count n) most }
 {
     match most {
@@ -300,7 +301,7 @@ fn at_most(count: usize, most: Option<u64>) -> bool
     }
 }
 
-fn at_least(count: usize, least: Option<u64>) -> bool
+pub(crate) fn at_least(count: usize, least: Option<u64>) -> bool
     ensures { result ≡ meets (λ n. nat_le n count) least }
 {
     match least {
@@ -309,7 +310,7 @@ fn at_least(count: usize, least: Option<u64>) -> bool
     }
 }
 
-fn meets_list(keywords: &Keywords, list: &DocList) -> bool
+pub(crate) fn meets_list(keywords: &Keywords, list: &DocList) -> bool
     ensures { result ≡ own_array matches no_entry (keywords_view keywords.now) (elements (list_view list.now)) }
 {
     at_most(list.len(), keywords.arrays.max_items)
@@ -332,7 +333,7 @@ fn meets_members(keywords: &Keywords, here: &[bool], members: &DocMap) -> bool
         && meets_dependencies(&keywords.objects.dependencies, here, members)
 }
 
-fn has_required(names: &Option<StrList>, members: &DocMap) -> bool
+pub(crate) fn has_required(names: &Option<StrList>, members: &DocMap) -> bool
     ensures { result ≡ meets (every (λ w. has_name w (entries (map_view members.now)))) names.now }
 {
     match names {
@@ -352,7 +353,11 @@ fn has_names(names: &StrList, members: &DocMap) -> bool
     true
 }
 
-fn meets_dependencies(list: &Option<DependencyList>, here: &[bool], members: &DocMap) -> bool
+pub(crate) fn meets_dependencies(
+    list: &Option<DependencyList>,
+    here: &[bool],
+    members: &DocMap,
+) -> bool
     ensures { result ≡ meets (every (λ n. not (has_name n.0 (entries (map_view members.now)))
         || need_asks (flag here.now) n.1 (entries (map_view members.now)))) (option_map
         (λ ds. map dependency_view ds) list.now) }

@@ -1,6 +1,6 @@
 //! What a form asks of the elements of a part, where the verdicts of all entries on these are known.
 
-ghost use Rattle.std.specs.Prelude.{◌≡◌, ℕ, ◌<◌, List, ◌∷◌, [], true, not, nat_lt, map, length};
+ghost use Rattle.std.specs.Prelude.{◌≡◌, ◌<◌, List, true, not, nat_lt, map, length};
 ghost use Rattle.documents.specs.Tests.{every};
 ghost use Rattle.schemas.specs.Entry.{Entry};
 ghost use Rattle.schemas.specs.Schema.{lists, meets, one};
@@ -8,7 +8,7 @@ ghost use Rattle.shared_documents.specs.Part.{Part};
 ghost use Rattle.shared_documents.specs.Unshared.{unshared};
 ghost use Rattle.js_schema.specs.View.{form_view};
 ghost use Rattle.js_valid.specs.PartTables.{KnowsTables, table_at};
-ghost use Rattle.js_valid.specs.Parts.{flag, of_contains, of_element};
+ghost use Rattle.js_valid.specs.Parts.{flag, of_element};
 ghost use Rattle.js_valid.specs.Plan.{valid_at};
 ghost use Rattle.js_valid.specs.Requests.{contained, each_at, parts_list};
 

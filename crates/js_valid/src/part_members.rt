@@ -1,6 +1,6 @@
 //! What a form asks of the values of a part's members, where the verdicts of all entries on these are known.
 
-ghost use Rattle.std.specs.Prelude.{◌≡◌, ℕ, ◌<◌, List, true, nat_lt, map, length, IfOk};
+ghost use Rattle.std.specs.Prelude.{◌≡◌, ◌<◌, List, true, nat_lt, map, length, IfOk};
 ghost use Rattle.documents.specs.Tests.{every};
 ghost use Rattle.schemas.specs.Entry.{Entry};
 ghost use Rattle.schemas.specs.Schema.{form_in_range};

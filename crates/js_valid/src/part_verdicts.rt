@@ -1,7 +1,7 @@
 //! The verdicts of all entries on the parts of a table, lowest part first, so that each pair of entry and part is
 //! decided once and nothing is unshared.
 
-ghost use Rattle.std.specs.Prelude.{◌≡◌, ℕ, ◌<◌, ◌≤◌, ◌&&◌, length, IfOk};
+ghost use Rattle.std.specs.Prelude.{◌≡◌, ℕ, ◌<◌, ◌&&◌, length, IfOk};
 ghost use Rattle.documents.specs.Document.{null};
 ghost use Rattle.draft06.specs.EntryValidity.{form_at};
 ghost use Rattle.shared_documents.specs.Part.{part_at};
@@ -12,12 +12,13 @@ ghost use Rattle.js_match.specs.Matching.{matches};
 ghost use Rattle.js_valid.specs.PartTables.{KnowsTables};
 ghost use Rattle.js_valid.specs.Parts as halves;
 ghost use Rattle.js_valid.specs.Parts.{flag, own};
-ghost use Rattle.js_valid.specs.Plan.{IsPlan, valid_at};
+ghost use Rattle.js_valid.specs.Plan.{IsPlan, IsPlanned, valid_at};
 
 use crate::part_elements::holds_at;
 use crate::part_fine::fine_entries;
 use crate::part_frame::frame_of;
 use crate::part_own::meets_own_part;
+use crate::plan::Plan;
 use crate::settle::set;
 use crate::tables::holds;
 use crate::verdicts::Verdicts;
@@ -29,16 +30,16 @@ use std::alloc::Global;
 pub(crate) fn is_part_met(
     alloc: Global,
     schema: &Schema,
-    order: &[u32],
+    plan: &Plan,
     parts: &Parts,
     id: PartId,
     entry: u32,
 ) -> Result<bool, Memory>
-    requires plan { IsPlan (schema_view schema.now) order.now }
+    requires plan { IsPlanned (schema_view schema.now) plan.now }
     requires within { id.0 < length parts.now }
     ensures { IfOk result (λ b. b ≡ valid_at (schema_view schema.now) entry (unshared parts.now id.0)) }
 {
-    let tables = tables_to(alloc, schema, order, parts, id)?;
+    let tables = tables_to(alloc, schema, plan, parts, id)?;
     Ok(holds_at(&tables, id, entry))
 }
 
@@ -46,11 +47,11 @@ pub(crate) fn is_part_met(
 fn tables_to(
     alloc: Global,
     schema: &Schema,
-    order: &[u32],
+    plan: &Plan,
     parts: &Parts,
     last: PartId,
 ) -> Result<Vec<Verdicts>, Memory>
-    requires plan { IsPlan (schema_view schema.now) order.now }
+    requires plan { IsPlanned (schema_view schema.now) plan.now }
     requires within { last.0 < length parts.now }
     ensures len { IfOk result (λ tables. last.0 < length tables.items) }
     ensures known { IfOk result (λ tables. KnowsTables (schema_view schema.now) parts.now tables.items) }
@@ -59,7 +60,7 @@ fn tables_to(
     let mut tables = Vec::with_capacity(alloc, count)?;
     for number in 0..count {
         let id = PartId(number as u32);
-        let verdicts = verdicts_on(alloc, schema, order, parts, id, &tables)?;
+        let verdicts = verdicts_on(alloc, schema, plan, parts, id, &tables)?;
         tables.push(verdicts)?;
     }
     Ok(tables)
@@ -68,20 +69,20 @@ fn tables_to(
 fn verdicts_on(
     alloc: Global,
     schema: &Schema,
-    order: &[u32],
+    plan: &Plan,
     parts: &Parts,
     id: PartId,
     tables: &[Verdicts],
 ) -> Result<Verdicts, Memory>
-    requires plan { IsPlan (schema_view schema.now) order.now }
+    requires plan { IsPlanned (schema_view schema.now) plan.now }
     requires within { id.0 < length parts.now }
     requires below { length tables.now ≡ id.0 }
     requires known { KnowsTables (schema_view schema.now) parts.now tables.now }
     ensures { IfOk result (λ vs. (e : ℕ) → flag vs e ≡ valid_at (schema_view schema.now) e (unshared parts.now id.0)) }
 {
     let frame = frame_of(alloc, parts.get(id))?;
-    let fine = fine_entries(alloc, schema, order, parts, id, tables)?;
-    let table = settle_part(alloc, schema, order, parts, id, &frame, &fine)?;
+    let fine = fine_entries(alloc, schema, plan, parts, id, tables)?;
+    let table = settle_part(alloc, schema, &plan.order, parts, id, &frame, &fine)?;
     Verdicts::of(alloc, &table)
 }
 

@@ -1,7 +1,7 @@
 //! Entries that are asked alone of a document. References are followed; a form that then hangs on no other entry's
 //! verdict on the same document needs no table of verdicts.
 
-ghost use Rattle.std.specs.Prelude.{◌≡◌, ℕ, ◌<◌, true, List};
+ghost use Rattle.std.specs.Prelude.{◌≡◌, ℕ, true, List};
 ghost use Rattle.documents.specs.Document.{Document};
 ghost use Rattle.draft06.specs.EntryValidity.{form_at};
 ghost use Rattle.js_schema.specs.View.{form_view, keywords_view};

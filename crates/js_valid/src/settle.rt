@@ -1,77 +1,70 @@
-//! Verdicts of the entries that are asked of a document, one after another in an order in which each stands after those
-//! that it names in place. Each is decided once.
+//! Verdicts of the entries that are asked of a document, one after another, each after those that it names in place.
 
-ghost use Rattle.std.specs.Prelude.{◌≡◌, ℕ, ◌<◌, ◌&&◌, nat_eq, true, IfOk, IsOk, length, if◌then◌else◌};
+ghost use Rattle.std.specs.Prelude.{◌≡◌, ℕ, ◌<◌, ◌&&◌, ◌||◌, nat_eq, true, false, IsOk, length, if◌then◌else◌};
 ghost use Rattle.draft06.specs.EntryValidity.{form_at};
 ghost use Rattle.js_doc.specs.View.{view};
 ghost use Rattle.js_schema.specs.SchemaView.{schema_view};
 ghost use Rattle.js_match.specs.Matching.{matches};
-ghost use Rattle.js_valid.specs.Parts.{flag, own};
-ghost use Rattle.js_valid.specs.Plan.{IsPlan, IsClosed, KnowsParts, KnowsVerdicts};
+ghost use Rattle.js_match.specs.Places.{is_at};
+ghost use Rattle.js_valid.specs.AskedEntries.{IsAsked};
+ghost use Rattle.js_valid.specs.Parts.{flag, parts};
+ghost use Rattle.js_valid.specs.Plan.{valid_at};
+ghost use Rattle.js_valid.specs.Requests.{FinePart};
+ghost use Rattle.js_valid.specs.Standing.{place_asks};
 
-use crate::own::meets_own;
-use crate::tables::holds;
+use crate::asked::Asked;
+use crate::stand::meets_in_place;
+use crate::tables::{test_at, write};
 use js_doc::{Doc, Memory};
 use js_schema::Schema;
-use std::alloc::Global;
 
-/// The verdicts, from what is known of the document's parts.
+/// Writes the verdicts into the table, from what is known of the document's parts. What the table has of other entries
+/// isn't looked at.
 pub(crate) fn settle(
-    alloc: Global,
     schema: &Schema,
-    order: &[u32],
     doc: &Doc,
-    asked: &[bool],
+    asked: &Asked,
     fine: &[bool],
-) -> Result<Vec<bool>, Memory>
-    requires plan { IsPlan (schema_view schema.now) order.now }
-    requires len { length asked.now ≡ length (schema_view schema.now) }
-    requires closed { IsClosed (schema_view schema.now) asked.now }
-    requires parts { KnowsParts (schema_view schema.now) asked.now (view doc.now) fine.now }
-    ensures len { IfOk result (λ table. length table.items ≡ length (schema_view schema.now)) }
-    ensures verdicts { IfOk result (λ table. KnowsVerdicts (schema_view schema.now) asked.now
-        (view doc.now) table.items) }
+    held: &mut Vec<bool>,
+) -> Result<(), Memory>
+    requires asked { IsAsked (schema_view schema.now) (view doc.now) asked.now }
+    requires parts { FinePart (schema_view schema.now) asked.now.owners.items fine.now
+        (λ e. parts matches (valid_at (schema_view schema.now)) (form_at (schema_view schema.now) e) (view doc.now)) }
+    ensures { IsOk result → (q : ℕ) → (is_at q asked.now.owners.items || is_at q asked.now.fallen.items) ≡ true
+        → flag held.new.items q ≡ valid_at (schema_view schema.now) q (view doc.now) }
 {
-    let mut table = vec![in alloc; false; schema.len() as usize]?;
-    for place in 0..order.len() {
-        let entry = order[place];
-        let verdict = verdict_of(alloc, schema, entry, &table, doc, asked, fine)?;
-        set(&mut table, entry, verdict);
+    refuse_each(held, &asked.fallen)?;
+    let mut left = asked.owners.len();
+    while left > 0 {
+        left -= 1;
+        let entry = asked.owners[left];
+        let verdict = verdict_of(schema, entry, held, doc, test_at(fine, left));
+        write(held, entry, verdict)?;
     }
-    Ok(table)
+    Ok(())
 }
 
-fn verdict_of(
-    alloc: Global,
-    schema: &Schema,
-    entry: u32,
-    table: &[bool],
-    doc: &Doc,
-    asked: &[bool],
-    fine: &[bool],
-) -> Result<bool, Memory>
-    requires { entry < length (schema_view schema.now) }
-    ensures { IfOk result (λ b. b ≡ (flag asked.now entry && (flag fine.now entry
-        && own matches (flag table.now) (form_at (schema_view schema.now) entry) (view doc.now)))) }
+fn refuse_each(held: &mut Vec<bool>, entries: &[u32]) -> Result<(), Memory>
+    ensures { IsOk result → (q : ℕ) → is_at q entries.now ≡ true → flag held.new.items q ≡ false }
 {
-    if holds(asked, entry) && holds(fine, entry) {
-        return own_at(alloc, schema, entry, table, doc);
+    for entry in entries {
+        write(held, *entry, false)?;
     }
-    Ok(false)
+    Ok(())
 }
 
-fn own_at(
-    alloc: Global,
-    schema: &Schema,
-    entry: u32,
-    table: &[bool],
-    doc: &Doc,
-) -> Result<bool, Memory>
+fn verdict_of(schema: &Schema, entry: u32, held: &[bool], doc: &Doc, fine: bool) -> bool
     requires { entry < length (schema_view schema.now) }
-    ensures { IfOk result (λ b. b ≡ own matches (flag table.now) (form_at (schema_view schema.now) entry)
-        (view doc.now)) }
+    ensures { result ≡ (fine && place_asks (flag held.now) (form_at (schema_view schema.now) entry) (view doc.now)) }
 {
-    meets_own(alloc, schema.form(entry), table, doc)
+    fine && own_in_place(schema, entry, held, doc)
+}
+
+fn own_in_place(schema: &Schema, entry: u32, held: &[bool], doc: &Doc) -> bool
+    requires { entry < length (schema_view schema.now) }
+    ensures { result ≡ place_asks (flag held.now) (form_at (schema_view schema.now) entry) (view doc.now) }
+{
+    meets_in_place(schema.form(entry), held, doc)
 }
 
 pub(crate) fn set(table: &mut Vec<bool>, entry: u32, verdict: bool)

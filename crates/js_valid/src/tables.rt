@@ -1,10 +1,9 @@
-//! Tables of tests: one for each entry of a schema.
+//! Tables of tests: one for each entry of a schema, or for each owner of requests.
 
-ghost use Rattle.std.specs.Prelude.{◌≡◌, ℕ, ◌<◌, ◌&&◌, ◌||◌, not, nat_eq, nat_lt, true, false, Bool, IfOk, map, length};
+ghost use Rattle.std.specs.Prelude.{◌≡◌, ℕ, ◌<◌, ◌≤◌, ◌&&◌, ◌||◌, not, nat_eq, nat_lt, true, false, IfOk, IsOk, map, length, get_or, if◌then◌else◌};
 ghost use Rattle.documents.specs.Tests.{every, some};
 ghost use Rattle.documents.specs.Measures.{exactly_one};
 ghost use Rattle.js_valid.specs.Parts.{flag, answered};
-ghost use Rattle.js_match.specs.Places.{is_at};
 
 use js_doc::Memory;
 use std::alloc::Global;
@@ -14,6 +13,13 @@ pub(crate) fn holds(table: &[bool], entry: u32) -> bool
     ensures { result ≡ flag table.now entry }
 {
     let place = entry as usize;
+    place < table.len() && table[place]
+}
+
+/// The test at that place, in the same way.
+pub(crate) fn test_at(table: &[bool], place: usize) -> bool
+    ensures { result ≡ flag table.now place }
+{
     place < table.len() && table[place]
 }
 
@@ -67,65 +73,67 @@ pub(crate) fn just_one_holds(table: &[bool], entries: &[u32]) -> bool
     found
 }
 
-/// The tests of the entries, in their order.
-pub(crate) fn tests_of(alloc: Global, table: &[bool], entries: &[u32]) -> Result<Vec<bool>, Memory>
-    ensures { IfOk result (λ tests. tests.items ≡ map (flag table.now) entries.now) }
+/// The tests of the entries, in their order; there are no entries but the first so many.
+pub(crate) fn tests_of(
+    alloc: Global,
+    table: &[bool],
+    entries: &[u32],
+    count: u32,
+) -> Result<Vec<bool>, Memory>
+    ensures { IfOk result (λ tests. tests.items ≡ map (λ q. nat_lt q count && flag table.now q) entries.now) }
 {
-    let mut tests = Vec::new(alloc);
+    let mut tests = Vec::with_capacity(alloc, entries.len())?;
     for entry in entries {
-        tests.push(holds(table, *entry))?;
+        tests.push(*entry < count && holds(table, *entry))?;
     }
     Ok(tests)
 }
 
-pub(crate) fn mark(table: &mut Vec<bool>, entry: u32)
-    ensures len { length table.new.items ≡ length table.old.items }
-    ensures marks { (j : ℕ) → j < length table.old.items → flag table.new.items j ≡ (flag table.old.items j
-        || nat_eq entry j) }
+/// Writes the test of an entry. The table grows where it is too short.
+pub(crate) fn write(table: &mut Vec<bool>, entry: u32, verdict: bool) -> Result<(), Memory>
+    ensures { IsOk result → (j : ℕ) → flag table.new.items j
+        ≡ (if nat_eq entry j then verdict else flag table.old.items j) }
 {
-    let place = entry as usize;
-    if place < table.len() {
-        table[place] = true;
-    }
+    reach(table, entry as usize + 1)?;
+    table[entry as usize] = verdict;
+    Ok(())
 }
 
-pub(crate) fn mark_all(table: &mut Vec<bool>, entries: &[u32])
-    ensures len { length table.new.items ≡ length table.old.items }
-    ensures marks { (j : ℕ) → j < length table.old.items
-        → flag table.new.items j ≡ (flag table.old.items j || is_at j entries.now) }
+/// Makes the table that long at least.
+fn reach(table: &mut Vec<bool>, len: usize) -> Result<(), Memory>
+    ensures len { IsOk result → len ≤ length table.new.items }
+    ensures same { IsOk result → (j : ℕ) → flag table.new.items j ≡ flag table.old.items j }
 {
-    for entry in entries {
-        mark(table, *entry);
+    if table.len() < len {
+        table.resize(len, false)?;
     }
+    Ok(())
 }
 
-/// The entries whose test is so, in order.
-pub(crate) fn marked_entries(alloc: Global, table: &[bool]) -> Result<Vec<u32>, Memory>
-    requires { length table.now < 4294967296 }
-    ensures { IfOk result (λ entries. (j : ℕ) → is_at j entries.items ≡ flag table.now j) }
+/// The first numbers, as the entries of a table that long.
+pub(crate) fn all_entries(alloc: Global, count: u32) -> Result<Vec<u32>, Memory>
+    ensures { IfOk result (λ entries. (length entries.items ≡ count)
+        × ((i : ℕ) → i < count → get_or entries.items i 0 ≡ i)) }
 {
-    let mut entries = Vec::new(alloc);
-    for (place, test) in table.iter().enumerate() {
-        if *test {
-            entries.push(place as u32)?;
-        }
+    let mut entries = Vec::with_capacity(alloc, count as usize)?;
+    for entry in 0..count {
+        entries.push(entry)?;
     }
     Ok(entries)
 }
 
-/// Takes the test from an entry, where its answer is no.
-pub(crate) fn refuse(table: &mut Vec<bool>, entry: u32, answer: bool)
+/// Takes the test from the one at that place, where its answer is no.
+pub(crate) fn refuse(table: &mut Vec<bool>, place: usize, answer: bool)
     ensures len { length table.new.items ≡ length table.old.items }
-    ensures value { (j : ℕ) → flag table.new.items j ≡ (flag table.old.items j && (not (nat_eq entry j) || answer)) }
+    ensures value { (j : ℕ) → flag table.new.items j ≡ (flag table.old.items j && (not (nat_eq place j) || answer)) }
 {
-    let place = entry as usize;
     if place < table.len() && !answer {
         table[place] = false;
     }
 }
 
-/// Takes the test from each entry with an answer that is no.
-pub(crate) fn refuse_all(table: &mut Vec<bool>, owners: &[u32], answers: &[bool])
+/// Takes the test from each owner, by its place, with an answer that is no.
+pub(crate) fn refuse_all(table: &mut Vec<bool>, owners: &[usize], answers: &[bool])
     requires { length owners.now ≡ length answers.now }
     ensures len { length table.new.items ≡ length table.old.items }
     ensures value { (j : ℕ) → flag table.new.items j ≡ (flag table.old.items j && answered j owners.now answers.now) }
@@ -135,8 +143,8 @@ pub(crate) fn refuse_all(table: &mut Vec<bool>, owners: &[u32], answers: &[bool]
     }
 }
 
-/// Takes the test from each entry with an answer that is yes.
-pub(crate) fn refuse_none(table: &mut Vec<bool>, owners: &[u32], answers: &[bool])
+/// Takes the test from each owner, by its place, with an answer that is yes.
+pub(crate) fn refuse_none(table: &mut Vec<bool>, owners: &[usize], answers: &[bool])
     requires { length owners.now ≡ length answers.now }
     ensures len { length table.new.items ≡ length table.old.items }
     ensures value { (j : ℕ) → flag table.new.items j ≡ (flag table.old.items j && answered j owners.now

@@ -1,6 +1,6 @@
 //! The verdicts of all entries on one document, a bit each.
 
-ghost use Rattle.std.specs.Prelude.{◌≡◌, ℕ, ◌%◌, ◌==◌, ◌<◌, ◌≢◌, length, IfOk};
+ghost use Rattle.std.specs.Prelude.{◌≡◌, ℕ, ◌==◌, ◌<◌, ◌≢◌, length, IfOk};
 ghost use Rattle.std.specs.Int.{bit_at};
 ghost use Rattle.js_valid.specs.Parts.{flag};
 

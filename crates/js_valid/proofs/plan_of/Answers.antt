@@ -1,29 +1,32 @@
-use Rattle.std.proofs.Common.{length, Result, Ok, Err, ap, ◌∙◌, arith}
-use Rattle.std.specs.Result.{IfOk}
-use Rattle.schema_laws.proofs.TableLaws.{is_table-length}
+use Rattle.std.proofs.Common.{◌≡◌, ℕ, ◌<◌, List, length, get_or, ap, subst, arith}
+use Rattle.schemas.specs.Entry.{Entry}
 use Rattle.js_guard.specs.RankedView.{entries_of}
-use Rattle.js_valid.proofs.OrderLaws.{plan-of}
+use Rattle.js_valid.specs.Plan.{IsPlan, StandAt}
 use Rattle.js_valid.proofs.plan_of.Goals as goal
 
--- what three clauses say of a value
-IfOk-three : {A E : Type 0} (r : Result A E) (P Q R S : A → Type 0) → ((x : A) → P x → Q x → R x → S x) → IfOk r P
-    → IfOk r Q → IfOk r R → IfOk r S
-IfOk-three (Ok x) P Q R S f p q r = f x p q r
-IfOk-three (Err e) P Q R S f p q r = tt
+listed : (es : List Entry) (order order' : List ℕ) (count : ℕ) → order' ≡ order → count ≡ length es → IsPlan es order
+    → (k : ℕ) → k < length order' → get_or order' k 0 < count
+listed es order order' count same counted plan k less =
+    let only = plan.only k (subst (λ xs. k < length xs) same less) in
+    let at = ap (λ xs. get_or xs k 0) same in
+    omega (arith, at, counted, only)
 
-pub order_of-requires : goal.order_of-requires
-order_of-requires c =
-    let schema = c.args.schema.now in
-    let few = is_table-length (entries_of schema) schema.table.table in
-    let listed = ap length c.as_slice.ensures in
-    let counted = schema.counted in
-    omega (arith, few.1, listed, counted)
+stand-all : (es : List Entry) (order order' places : List ℕ) → order' ≡ order → IsPlan es order
+    → ((k : ℕ) → k < length order' → StandAt order' places (get_or order' k 0))
+    → (e : ℕ) → e < length es → StandAt order places e
+stand-all es order order' places same plan h e l =
+    let (k, less, is) = plan.all e l in
+    let stand = subst (λ xs. (j : ℕ) → j < length xs → StandAt xs places (get_or xs j 0)) same h in
+    subst (StandAt order places) is (stand k less)
+
+pub places_of-requires : goal.places_of-requires
+places_of-requires c =
+    listed (entries_of c.args.schema.now) c.in_ok-order.order.items c.deref.result.now _ c.deref.ensures.value
+    c.len.ensures.value c.in_ok-order.ensures
 
 pub returns : goal.returns
-returns c =
-    let schema = c.args.schema.now in
-    let listed = c.as_slice.ensures in
-    IfOk-three c.order_of.result _ _ _ _
-    (λ order all only rises. plan-of (entries_of schema) c.as_slice.result.now order.items schema.table.table
-    (rw listed schema.falls) (ap length listed ∙ schema.counted) all only rises)
-    c.order_of.ensures.all c.order_of.ensures.only c.order_of.ensures.rises
+returns c = record {
+  plan = c.in_ok-order.ensures;
+  places = stand-all (entries_of c.args.schema.now) c.in_ok-order.order.items c.deref.result.now
+      c.in_ok-places.places.items c.deref.ensures.value c.in_ok-order.ensures c.in_ok-places.ensures;
+}

@@ -1,31 +1,40 @@
-use Rattle.std.proofs.Common.{rules, get_or, ap, ◌∙◌}
+use Rattle.std.proofs.Common.{rules, get_or, ap, ◌∙◌, arith}
 use Rattle.schemas.specs.Schema.{form_in_range}
-use Rattle.js_valid.proofs.SearchLaws.{form-fine}
 use Rattle.js_schema.specs.View.{form_view}
 use Rattle.js_schema.specs.SchemaView.{schema_view}
 use Rattle.js_match.specs.Matching.{matches}
 use Rattle.js_valid.specs.Parts.{of_member}
+use Rattle.js_valid.proofs.PlaceLaws.{place_next, places_done}
 use Rattle.js_valid.proofs.PlanLaws.{form_at-get}
-use Rattle.js_valid.proofs.RequestLaws.{owner_next, owner_below}
+use Rattle.js_valid.proofs.RequestLaws.{owner_below}
+use Rattle.js_valid.proofs.SearchLaws.{form-fine}
 use Rattle.js_valid.proofs.ask.of_member.Goals as goal
 
-pub loop-owner-preserved : goal.loop-owner-preserved
-loop-owner-preserved c =
-    let form = form_at-get (schema_view c.args.schema.now) (get_or c.args.owners.now c.loop-owner.owner-index 0)
-    (form_view c.form.result.now)
-    (owner_below _ c.args.owners.now c.loop-owner.owner-index c.requires.owners c.loop-owner-test.true)
-    c.form.ensures in
+pub loop-i-preserved : goal.loop-i-preserved
+loop-i-preserved c =
+    let i = get_or c.args.asking.now c.loop-i.i-index 0 in
+    let within = c.requires.within c.loop-i.i-index c.loop-i-test.true in
+    let form = form_at-get (schema_view c.args.schema.now) (get_or c.args.owners.now i 0) (form_view c.form.result.now)
+    (owner_below _ c.args.owners.now i c.requires.owners within) c.form.ensures in
     record {
       len = search rules;
-      asks = owner_next (schema_view c.args.schema.now) (λ f. of_member matches f
-          c.args.name.now) c.args.owners.now c.loop-owner.owner-index
-          (form_view c.form.result.now) _ _ _ _ c.loop-owner-test.true form (search rules) c.loop-owner.invariant.asks;
+      asks = place_next (schema_view c.args.schema.now) (λ f. of_member matches f c.args.name.now) c.args.owners.now
+          c.args.asking.now c.loop-i.i-index (form_view c.form.result.now) _ _ _ _ c.loop-i-test.true form
+          (search rules) c.loop-i.invariant.asks;
     }
 
 pub add_member-requires-clause-range : goal.add_member-requires-clause-range
 add_member-requires-clause-range c =
-    let owner = get_or c.args.owners.now c.loop-owner.owner-index 0 in
-    let less = owner_below _ c.args.owners.now c.loop-owner.owner-index c.requires.owners c.loop-owner-test.true in
+    let i = get_or c.args.asking.now c.loop-i.i-index 0 in
+    let owner = get_or c.args.owners.now i 0 in
+    let within = c.requires.within c.loop-i.i-index c.loop-i-test.true in
+    let less = owner_below _ c.args.owners.now i c.requires.owners within in
     ap form_in_range (form_at-get (schema_view c.args.schema.now) owner (form_view c.form.result.now) less
     c.form.ensures)
     ∙ form-fine (schema_view c.args.schema.now) owner c.requires.table less
+
+pub returns-clause-asks : goal.returns-clause-asks
+returns-clause-asks c =
+    places_done (schema_view c.args.schema.now) (λ f. of_member matches f c.args.name.now) c.args.owners.now
+    c.args.asking.now c.loop-i.i-index _ _ c.requires.others (omega (arith, c.loop-i-test.false))
+    c.loop-i.invariant.asks

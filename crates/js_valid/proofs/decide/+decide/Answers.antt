@@ -1,4 +1,4 @@
-use Rattle.std.proofs.Common.{rules, ◌≡◌, ◌<◌, ◌&&◌, not, map, length, [], ◌∷◌, true, false, refl, sym, ap, ◌∙◌, arith}
+use Rattle.std.proofs.Common.{rules, ◌≡◌, ◌<◌, ◌&&◌, not, nat_lt, map, length, get_or, [], ◌∷◌, true, false, refl, sym, ap, subst, ◌∙◌, arith}
 use Rattle.documents.specs.Tests.{every}
 use Rattle.documents.specs.Document.{string, depth}
 use Rattle.schemas.specs.Schema.{meets, lists, one, form_in_range}
@@ -7,14 +7,15 @@ use Rattle.js_doc.specs.View.{view, list_view, map_view, member_view}
 use Rattle.js_doc.proofs.Levels.{elements-of, entries-of}
 use Rattle.js_schema.specs.SchemaView.{schema_view}
 use Rattle.js_match.specs.Matching.{matches}
-use Rattle.js_valid.specs.Parts.{flag, asked_by, of_element, of_contains, of_member, of_name}
+use Rattle.js_valid.specs.Parts.{flag, parts, asked_by, of_element, of_contains, of_member, of_name}
 use Rattle.js_valid.specs.Plan.{valid_at}
-use Rattle.js_valid.specs.Requests.{contained, parts_list, parts_members}
-use Rattle.js_match.proofs.LeadsLaws.{or_right_true}
+use Rattle.js_valid.specs.Requests.{FinePart, OthersAskNothing, contained, parts_list, parts_members}
 use Rattle.js_match.proofs.WalkLaws as W
+use Rattle.js_valid.proofs.AskedLaws as K
 use Rattle.js_valid.proofs.DecideLaws as D
 use Rattle.js_valid.proofs.PlainLaws as L
 use Rattle.js_valid.proofs.PlanLaws.{form_at-get, valid-past}
+use Rattle.js_valid.proofs.RequestLaws.{owner_one}
 use Rattle.js_valid.proofs.SearchLaws.{form-fine}
 use Rattle.js_valid.specs.Plain.{is_plain}
 use Rattle.js_schema.specs.View.{form_view}
@@ -68,11 +69,14 @@ decide_part-returns t c h e =
 
 pub fine_list-loop-place-init : goal.fine_list-loop-place-init
 fine_list-loop-place-init t c = record {
-  fine = λ e h. D.all-first _ _ (c.in_ok-fine.ensures.all e
-      (omega (arith, c.len.ensures.value, D.owner-less _ e c.args.owners.now c.requires.owners h)));
-  unmet = λ e h. D.all-first _ _ (c.in_ok-unmet.ensures.all e
-      (omega (arith, c.len-2.ensures.value, D.owner-less _ e c.args.owners.now c.requires.owners h)));
+  fine = λ e h. D.all-first _ _ (c.in_ok-fine.ensures.all e h);
+  unmet = λ e h. D.all-first _ _ (c.in_ok-unmet.ensures.all e h);
 }
+
+pub fine_list-of_element-requires-clause-others : goal.fine_list-of_element-requires-clause-others
+fine_list-of_element-requires-clause-others t c =
+    subst (OthersAskNothing (schema_view c.args.schema.now) (λ f. of_element f c.loop-place.place) c.args.owners.now)
+    (sym c.deref.ensures.value) (c.in_ok-asking.ensures.others c.loop-place.place)
 
 pub fine_list-decide_element-requires : goal.fine_list-decide_element-requires
 fine_list-decide_element-requires t c = (
@@ -86,52 +90,52 @@ fine_list-decide_element-requires t c = (
 )
 
 pub fine_list-loop-place-preserved : goal.fine_list-loop-place-preserved
-fine_list-loop-place-preserved t c = record {
-  fine = λ e h. D.step_each view (λ i d. every (λ q. valid_at (schema_view c.args.schema.now) q d)
-      (of_element (form_at (schema_view c.args.schema.now) e) i)) c.as_slice-child-items.result.now c.loop-place.place
-      c.child-item.result (flag c.loop-place.fine.items e) (flag
-      c.decide_element.new.fine.items e) _ c.loop-place-test.true
-      c.child-item.is
-      (c.in_ok-decide_element.ensures.fine refl e ∙ ap (λ b. flag c.loop-place.fine.items e && b)
-      (D.requests-ask (schema_view c.args.schema.now) (λ f. of_element f c.loop-place.place) c.args.owners.now
-      c.in_ok-requests.requests.owners.items c.in_ok-requests.requests.entries.items e
-      (λ q. valid_at (schema_view c.args.schema.now) q (view c.child-item.result)) c.in_ok-requests.ensures.asks h))
-      (c.loop-place.invariant.fine e h);
-  unmet = λ e h. D.step_every view (λ d. every (λ q. not (valid_at (schema_view c.args.schema.now) q d))
-      (of_contains (form_at (schema_view c.args.schema.now) e))) c.as_slice-child-items.result.now c.loop-place.place
-      c.child-item.result (flag c.loop-place.unmet.items e) (flag
-      c.decide_element.new.unmet.items e) _ c.loop-place-test.true
-      c.child-item.is
-      (c.in_ok-decide_element.ensures.unmet refl e ∙ ap (λ b. flag c.loop-place.unmet.items e && b)
-      (D.requests-ask (schema_view c.args.schema.now) of_contains c.args.owners.now
-      c.in_ok-contains.contains.owners.items c.in_ok-contains.contains.entries.items e
-      (λ q. not (valid_at (schema_view c.args.schema.now) q (view c.child-item.result)))
-      c.in_ok-contains.ensures.asks h))
-      (c.loop-place.invariant.unmet e h);
-}
+fine_list-loop-place-preserved t c =
+    let es = schema_view c.args.schema.now in
+    let items = c.as_slice-child-items.result.now in
+    record {
+      fine = λ e h.
+          let form = form_at es (get_or c.args.owners.now e 0) in
+          D.step_each view (λ i d. every (λ q. valid_at es q d) (of_element form i)) items c.loop-place.place
+          c.child-item.result (flag c.loop-place.fine.items e) (flag c.decide_element.new.fine.items e) _
+          c.loop-place-test.true c.child-item.is
+          (c.in_ok-decide_element.ensures.fine refl e ∙ ap (λ b. flag c.loop-place.fine.items e && b)
+          (c.in_ok-requests.ensures.asks e (λ q. valid_at es q (view c.child-item.result)) h))
+          (c.loop-place.invariant.fine e h);
+      unmet = λ e h.
+          let form = form_at es (get_or c.args.owners.now e 0) in
+          D.step_every view (λ d. every (λ q. not (valid_at es q d)) (of_contains form)) items c.loop-place.place
+          c.child-item.result (flag c.loop-place.unmet.items e) (flag c.decide_element.new.unmet.items e) _
+          c.loop-place-test.true c.child-item.is
+          (c.in_ok-decide_element.ensures.unmet refl e ∙ ap (λ b. flag c.loop-place.unmet.items e && b)
+          (c.in_ok-contains.ensures.asks e (λ q. not (valid_at es q (view c.child-item.result))) h))
+          (c.loop-place.invariant.unmet e h);
+    }
 
 pub fine_list-returns : goal.fine_list-returns
 fine_list-returns t c e h =
-    let es = elements-of _ _ c.as_slice-child-items.ensures.view in
-    let unmet : c.deref.result.now ≡ c.loop-place.unmet.items = search rules in
-    let fine = D.end_each view (λ i d. every (λ q. valid_at (schema_view c.args.schema.now) q d)
-    (of_element (form_at (schema_view c.args.schema.now) e) i)) c.as_slice-child-items.result.now c.loop-place.place
+    let es = schema_view c.args.schema.now in
+    let form = form_at es (get_or c.args.owners.now e 0) in
+    let items = c.as_slice-child-items.result.now in
+    let unmet : c.deref-2.result.now ≡ c.loop-place.unmet.items = search rules in
+    let fine = D.end_each view (λ i d. every (λ q. valid_at es q d) (of_element form i)) items c.loop-place.place
     (flag c.loop-place.fine.items e) _ (omega (arith, c.loop-place-test.false)) (c.loop-place.invariant.fine e h) in
-    let none = D.end_every view (λ d. every (λ q. not (valid_at (schema_view c.args.schema.now) q d))
-    (of_contains (form_at (schema_view c.args.schema.now) e))) c.as_slice-child-items.result.now c.loop-place.place
+    let none = D.end_every view (λ d. every (λ q. not (valid_at es q d)) (of_contains form)) items c.loop-place.place
     (flag c.loop-place.unmet.items e) _ (omega (arith, c.loop-place-test.false)) (c.loop-place.invariant.unmet e h) in
     c.contain.ensures e
-    ∙ ap (λ b. flag c.loop-place.fine.items e && b) (D.owner_one (λ o. meets (λ q. not (flag c.deref.result.now o))
-    (contained (form_at (schema_view c.args.schema.now) o))) e c.args.owners.now h
-    ∙ ap (λ bs. meets (λ q. not (flag bs e)) (contained (form_at (schema_view c.args.schema.now) e))) unmet)
-    ∙ D.list-done (valid_at (schema_view c.args.schema.now)) (form_at (schema_view c.args.schema.now) e)
-    (map view c.as_slice-child-items.result.now) _ _ fine none
-    ∙ ap (parts_list (valid_at (schema_view c.args.schema.now)) (form_at (schema_view c.args.schema.now) e)) (sym es)
+    ∙ ap (λ b. flag c.loop-place.fine.items e && b) (owner_one (λ i o. meets (λ q. not (flag c.deref-2.result.now i))
+    (contained (form_at es o))) e c.args.owners.now h
+    ∙ ap (λ bs. meets (λ q. not (flag bs e)) (contained form)) unmet)
+    ∙ D.list-done (valid_at es) form (map view items) _ _ fine none
+    ∙ ap (parts_list (valid_at es) form) (sym (elements-of _ _ c.as_slice-child-items.ensures.view))
 
 pub fine_members-loop-member-init : goal.fine_members-loop-member-init
-fine_members-loop-member-init t c e h =
-    D.all-first _ _ (c.in_ok-fine.ensures.all e
-    (omega (arith, c.len.ensures.value, D.owner-less _ e c.args.owners.now c.requires.owners h)))
+fine_members-loop-member-init t c e h = D.all-first _ _ (c.in_ok-fine.ensures.all e h)
+
+pub fine_members-of_member-requires-clause-others : goal.fine_members-of_member-requires-clause-others
+fine_members-of_member-requires-clause-others t c =
+    subst (OthersAskNothing (schema_view c.args.schema.now) (λ f. of_member matches f c.name.result.now)
+    c.args.owners.now) (sym c.deref.ensures.value) (c.in_ok-asking.ensures.others c.name.result.now)
 
 pub fine_members-decide_part-requires : goal.fine_members-decide_part-requires
 fine_members-decide_part-requires t c = (
@@ -147,30 +151,20 @@ fine_members-decide_part-requires t c = (
 
 pub fine_members-loop-member-preserved : goal.fine_members-loop-member-preserved
 fine_members-loop-member-preserved t c e h =
+    let es = schema_view c.args.schema.now in
+    let form = form_at es (get_or c.args.owners.now e 0) in
     let name = c.name.ensures.view in
     let value = c.value.ensures.view in
     let again = c.name-in-loop-member.ensures.view in
-    let part = D.requests-ask (schema_view c.args.schema.now) (λ f. of_member matches f
-    c.name.result.now) c.args.owners.now
-    c.in_ok-requests.requests.owners.items c.in_ok-requests.requests.entries.items e
-    (λ q. valid_at (schema_view c.args.schema.now) q (view c.value.result.now)) c.in_ok-requests.ensures.asks h
-    ∙ ap (λ d. every (λ q. valid_at (schema_view c.args.schema.now) q d)
-    (of_member matches (form_at (schema_view c.args.schema.now) e) c.name.result.now)) value
-    ∙ ap (λ w. every (λ q. valid_at (schema_view c.args.schema.now) q (member_view c.member-item.result).1)
-    (of_member matches (form_at (schema_view c.args.schema.now) e) w)) name in
-    let word = D.requests-ask (schema_view c.args.schema.now) of_name c.args.owners.now
-    c.in_ok-names.names.owners.items c.in_ok-names.names.entries.items e
-    (λ q. valid_at (schema_view c.args.schema.now) q (string
-    c.name-in-loop-member.result.now)) c.in_ok-names.ensures.asks h
-    ∙ ap (λ w. every (λ q. valid_at (schema_view c.args.schema.now) q (string w))
-    (of_name (form_at (schema_view c.args.schema.now) e))) again in
-    D.step_every member_view (λ m. every (λ q. valid_at (schema_view c.args.schema.now) q m.1)
-    (of_member matches (form_at (schema_view c.args.schema.now) e) m.0) && every (λ q. valid_at
-    (schema_view c.args.schema.now) q (string m.0))
-    (of_name (form_at (schema_view c.args.schema.now) e))) c.as_slice-member-items.result.now c.loop-member.member-index
-    c.member-item.result (flag c.loop-member.fine.items e) (flag
-    c.decide_name.new.fine.items e) _ c.loop-member-test.true
-    c.member-item.is
+    let part = c.in_ok-requests.ensures.asks e (λ q. valid_at es q (view c.value.result.now)) h
+    ∙ ap (λ d. every (λ q. valid_at es q d) (of_member matches form c.name.result.now)) value
+    ∙ ap (λ w. every (λ q. valid_at es q (member_view c.member-item.result).1) (of_member matches form w)) name in
+    let word = c.in_ok-names.ensures.asks e (λ q. valid_at es q (string c.name-in-loop-member.result.now)) h
+    ∙ ap (λ w. every (λ q. valid_at es q (string w)) (of_name form)) again in
+    D.step_every member_view (λ m. every (λ q. valid_at es q m.1) (of_member matches form m.0)
+    && every (λ q. valid_at es q (string m.0)) (of_name form)) c.as_slice-member-items.result.now
+    c.loop-member.member-index c.member-item.result (flag c.loop-member.fine.items e)
+    (flag c.decide_name.new.fine.items e) _ c.loop-member-test.true c.member-item.is
     (D.two-asked (flag c.loop-member.fine.items e) (flag c.decide_part.new.fine.items e)
     (flag c.decide_name.new.fine.items e) _ _
     (c.in_ok-decide_part.ensures refl e ∙ ap (λ b. flag c.loop-member.fine.items e && b) part)
@@ -179,40 +173,52 @@ fine_members-loop-member-preserved t c e h =
 
 pub fine_members-returns : goal.fine_members-returns
 fine_members-returns t c e h =
-    let ms = entries-of _ _ c.as_slice-member-items.ensures.view in
-    D.end_every member_view (λ m. every (λ q. valid_at (schema_view c.args.schema.now) q m.1)
-    (of_member matches (form_at (schema_view c.args.schema.now) e) m.0) && every (λ q. valid_at
-    (schema_view c.args.schema.now) q (string m.0))
-    (of_name (form_at (schema_view c.args.schema.now) e))) c.as_slice-member-items.result.now c.loop-member.member-index
+    let es = schema_view c.args.schema.now in
+    let form = form_at es (get_or c.args.owners.now e 0) in
+    let items = c.as_slice-member-items.result.now in
+    D.end_every member_view (λ m. every (λ q. valid_at es q m.1) (of_member matches form m.0)
+    && every (λ q. valid_at es q (string m.0)) (of_name form)) items c.loop-member.member-index
     (flag c.loop-member.fine.items e) _ (omega (arith, c.loop-member-test.false)) (c.loop-member.invariant e h)
-    ∙ D.members-done (valid_at (schema_view c.args.schema.now)) (form_at (schema_view c.args.schema.now) e)
-    (map member_view c.as_slice-member-items.result.now)
-    ∙ ap (parts_members matches (valid_at (schema_view c.args.schema.now)) (form_at
-    (schema_view c.args.schema.now) e)) (sym ms)
+    ∙ D.members-done (valid_at es) form (map member_view items)
+    ∙ ap (parts_members matches (valid_at es) form)
+    (sym (entries-of _ _ c.as_slice-member-items.ensures.view))
 
 pub table_verdicts-fine_parts-requires : goal.table_verdicts-fine_parts-requires
 table_verdicts-fine_parts-requires t c = (
   omega (arith, c.decreases),
-  (c.requires, D.owners-within _ c.close.new.asked.items c.deref-2.result.now c.close.ensures.len (search rules)),
+  (
+    c.requires,
+    subst (λ os. every (λ o. nat_lt o (length (schema_view c.args.schema.now))) os ≡ true) (sym c.deref.ensures.value)
+        c.in_ok-asked.ensures.asked.range,
+  ),
 )
+
+pub table_verdicts-settle-requires-clause-parts : goal.table_verdicts-settle-requires-clause-parts
+table_verdicts-settle-requires-clause-parts t c =
+    subst (λ bs. FinePart (schema_view c.args.schema.now) c.in_ok-asked.asked.owners.items bs
+    (λ e. parts matches (valid_at (schema_view c.args.schema.now)) (form_at (schema_view c.args.schema.now) e)
+    (view c.args.doc.now))) (sym c.deref-2.ensures.value)
+    (subst (λ os. FinePart (schema_view c.args.schema.now) os c.in_ok-fine.fine.items
+    (λ e. parts matches (valid_at (schema_view c.args.schema.now)) (form_at (schema_view c.args.schema.now) e)
+    (view c.args.doc.now))) c.deref.ensures.value c.in_ok-fine.ensures)
 
 pub table_verdicts-returns : goal.table_verdicts-returns
 table_verdicts-returns t c =
     W.ok_then c.tests_of.result _ _ (λ vs e.
-    e ∙ ap (λ bs. map (flag bs) c.args.entries.now) c.deref-5.ensures.value
-    ∙ D.verdicts-of (schema_view c.args.schema.now) c.args.order.now c.requires (view
-    c.args.doc.now) c.close.new.asked.items
-    c.in_ok-table.table.items c.args.entries.now c.close.ensures.len c.in_ok-table.ensures.len (search rules)
-    (λ q l h. c.close.ensures.keeps q (c.mark_all.ensures.marks q (search rules) ∙
-    or_right_true _ _ h))) c.tests_of.ensures
+    e ∙ ap (λ n. map (λ q. nat_lt q n && flag c.deref-3.result.now q) c.args.entries.now) c.len.ensures.value
+    ∙ ap (λ bs. map (λ q. nat_lt q (length (schema_view c.args.schema.now)) && flag bs q) c.args.entries.now)
+    c.deref-3.ensures.value
+    ∙ K.verdicts-of (schema_view c.args.schema.now) c.args.plan.now c.requires (view c.args.doc.now)
+    c.in_ok-asked.asked c.settle.new.held.items c.args.entries.now (c.in_ok-settle.ensures refl)
+    c.in_ok-asked.ensures.all) c.tests_of.ensures
 
 pub fine_parts-returns-in_default : goal.fine_parts-returns-in_default
 fine_parts-returns-in_default t c =
+    let es = schema_view c.args.schema.now in
     W.ok_then c.all_fine.result _ _ (λ fine all e h.
-    all e (omega (arith, c.len.ensures.value, D.owner-less _ e c.args.owners.now c.requires.owners h))
-    ∙ sym (D.scalar-parts (form_at (schema_view c.args.schema.now) e) (valid_at (schema_view c.args.schema.now))
-    (view c.args.doc.now) (sym (view-scalar c.args.doc.now c.in_default.not-List c.in_default.not-Members))))
-    c.all_fine.ensures.all
+    all e h
+    ∙ sym (D.scalar-parts (form_at es (get_or c.args.owners.now e 0)) (valid_at es) (view c.args.doc.now)
+    (sym (view-scalar c.args.doc.now c.in_default.not-List c.in_default.not-Members)))) c.all_fine.ensures.all
 
 -- ---- an entry that is asked alone
 
@@ -229,7 +235,6 @@ are_elements_met-is_element_met-requires t c = (
 
 pub are_elements_met-returns-then-not-branch : goal.are_elements_met-returns-then-not-branch
 are_elements_met-returns-then-not-branch t c =
-    let es = elements-of _ _ c.as_slice-child-items.ensures.view in
     let entry = c.element_entry-entry.ensures in
     let none : false ≡ every (λ q. valid_at (schema_view c.args.schema.now) q (view c.child-item.result))
     (lists one c.element_entry-entry.result) = search rules in
@@ -240,7 +245,8 @@ are_elements_met-returns-then-not-branch t c =
     c.loop-place.invariant in
     L.plain-list (valid_at (schema_view c.args.schema.now)) (form_view c.args.form.now) c.requires.plain
     (map view c.as_slice-child-items.result.now) false whole
-    ∙ ap (parts_list (valid_at (schema_view c.args.schema.now)) (form_view c.args.form.now)) (sym es)
+    ∙ ap (parts_list (valid_at (schema_view c.args.schema.now)) (form_view c.args.form.now))
+    (sym (elements-of _ _ c.as_slice-child-items.ensures.view))
 
 pub are_elements_met-loop-place-preserved : goal.are_elements_met-loop-place-preserved
 are_elements_met-loop-place-preserved t c =
@@ -255,13 +261,13 @@ are_elements_met-loop-place-preserved t c =
 
 pub are_elements_met-returns : goal.are_elements_met-returns
 are_elements_met-returns t c =
-    let es = elements-of _ _ c.as_slice-child-items.ensures.view in
     let whole = D.end_each view (λ i d. every (λ q. valid_at (schema_view c.args.schema.now) q d)
     (of_element (form_view c.args.form.now) i)) c.as_slice-child-items.result.now c.loop-place.place true _
     (omega (arith, c.loop-place-test.false)) c.loop-place.invariant in
     L.plain-list (valid_at (schema_view c.args.schema.now)) (form_view c.args.form.now) c.requires.plain
     (map view c.as_slice-child-items.result.now) true whole
-    ∙ ap (parts_list (valid_at (schema_view c.args.schema.now)) (form_view c.args.form.now)) (sym es)
+    ∙ ap (parts_list (valid_at (schema_view c.args.schema.now)) (form_view c.args.form.now))
+    (sym (elements-of _ _ c.as_slice-child-items.ensures.view))
 
 pub are_members_met-is_member_met-requires : goal.are_members_met-is_member_met-requires
 are_members_met-is_member_met-requires t c = (
@@ -276,7 +282,6 @@ are_members_met-is_member_met-requires t c = (
 
 pub are_members_met-returns-then-not-branch : goal.are_members_met-returns-then-not-branch
 are_members_met-returns-then-not-branch t c =
-    let ms = entries-of _ _ c.as_slice-member-items.ensures.view in
     let none : false ≡ every (λ q. valid_at (schema_view c.args.schema.now) q (member_view c.member-item.result).1)
     (of_member matches (form_view c.args.form.now) (member_view c.member-item.result).0) = search rules in
     let whole = D.step_every member_view (λ m. every (λ q. valid_at (schema_view c.args.schema.now) q m.1)
@@ -285,17 +290,26 @@ are_members_met-returns-then-not-branch t c =
     c.loop-member.invariant in
     L.plain-members (valid_at (schema_view c.args.schema.now)) (form_view c.args.form.now) c.requires.plain
     (map member_view c.as_slice-member-items.result.now) false whole
-    ∙ ap (parts_members matches (valid_at (schema_view c.args.schema.now)) (form_view c.args.form.now)) (sym ms)
+    ∙ ap (parts_members matches (valid_at (schema_view c.args.schema.now)) (form_view c.args.form.now))
+    (sym (entries-of _ _ c.as_slice-member-items.ensures.view))
 
 pub are_members_met-returns : goal.are_members_met-returns
 are_members_met-returns t c =
-    let ms = entries-of _ _ c.as_slice-member-items.ensures.view in
     let whole = D.end_every member_view (λ m. every (λ q. valid_at (schema_view c.args.schema.now) q m.1)
     (of_member matches (form_view c.args.form.now) m.0)) c.as_slice-member-items.result.now
     c.loop-member.member-index true _ (omega (arith, c.loop-member-test.false)) c.loop-member.invariant in
     L.plain-members (valid_at (schema_view c.args.schema.now)) (form_view c.args.form.now) c.requires.plain
     (map member_view c.as_slice-member-items.result.now) true whole
-    ∙ ap (parts_members matches (valid_at (schema_view c.args.schema.now)) (form_view c.args.form.now)) (sym ms)
+    ∙ ap (parts_members matches (valid_at (schema_view c.args.schema.now)) (form_view c.args.form.now))
+    (sym (entries-of _ _ c.as_slice-member-items.ensures.view))
+
+pub is_member_met-returns-2 : goal.is_member_met-returns-2
+is_member_met-returns-2 t c =
+    W.ok_then c.is_each_met.result _ _ (λ b e.
+    e ∙ ap (λ d. every (λ q. valid_at (schema_view c.args.schema.now) q d) c.deref-4.result.now) c.value-2.ensures.view
+    ∙ ap (λ qs. every (λ q. valid_at (schema_view c.args.schema.now) q (member_view c.args.member.now).1) qs)
+    (c.deref-4.ensures.value ∙ c.in_ok-entries.ensures
+    ∙ ap (of_member matches (form_view c.args.form.now)) c.name-2.ensures.view)) c.is_each_met.ensures
 
 pub is_each_met-returns : goal.is_each_met-returns
 is_each_met-returns t c =
@@ -304,8 +318,8 @@ is_each_met-returns t c =
 
 pub is_met-returns-then-target-len : goal.is_met-returns-then-target-len
 is_met-returns-then-target-len t c =
-    sym (sym (c.target_of-target.ensures c.args.order.now c.requires (view c.args.doc.now))
-    ∙ valid-past (schema_view c.args.schema.now) c.args.order.now c.requires c.target_of-target.result
+    sym (sym (c.target_of-target.ensures c.args.plan.now.order.items c.requires.plan (view c.args.doc.now))
+    ∙ valid-past (schema_view c.args.schema.now) c.args.plan.now.order.items c.requires.plan c.target_of-target.result
     (view c.args.doc.now) (omega (arith, c.len.ensures.value, c.if-target-len.true)))
 
 pub is_met-meets_plain-requires : goal.is_met-meets_plain-requires
@@ -320,26 +334,27 @@ is_met-meets_plain-requires t c =
         (
           search rules,
           ap form_in_range form
-              ∙ form-fine (schema_view c.args.schema.now) c.target_of-target.result c.requires.table less,
+              ∙ form-fine (schema_view c.args.schema.now) c.target_of-target.result c.requires.plan.table less,
         ),
       ),
     )
 
 pub is_met-returns-then-is_plain : goal.is_met-returns-then-is_plain
 is_met-returns-then-is_plain t c =
-    let less : c.target_of-target.result < length (schema_view c.args.schema.now) = omega
-    (arith, c.len.ensures.value, c.if-target-len.false) in
-    let form = form_at-get (schema_view c.args.schema.now) c.target_of-target.result (form_view c.form-form.result.now)
-    less c.form-form.ensures in
+    let es = schema_view c.args.schema.now in
+    let target = c.target_of-target.result in
+    let order = c.args.plan.now.order.items in
+    let less : target < length es = omega (arith, c.len.ensures.value, c.if-target-len.false) in
+    let form = form_at-get es target (form_view c.form-form.result.now) less c.form-form.ensures in
     let plain : is_plain (form_view c.form-form.result.now) ≡ true = search rules in
     W.ok_then c.meets_plain.result _ _
-    (λ b e. e ∙ L.plain-valid (schema_view c.args.schema.now) c.args.order.now c.requires c.target_of-target.result
-    (form_view c.form-form.result.now) (view c.args.doc.now) form plain
-    ∙ c.target_of-target.ensures c.args.order.now c.requires (view c.args.doc.now)) c.meets_plain.ensures
+    (λ b e. e ∙ L.plain-valid es order c.requires.plan target (form_view c.form-form.result.now)
+    (view c.args.doc.now) form plain
+    ∙ c.target_of-target.ensures order c.requires.plan (view c.args.doc.now)) c.meets_plain.ensures
 
 pub is_met-returns : goal.is_met-returns
 is_met-returns t c =
-    let same = c.target_of-target.ensures c.args.order.now c.requires (view c.args.doc.now) in
+    let same = c.target_of-target.ensures c.args.plan.now.order.items c.requires.plan (view c.args.doc.now) in
     let table : c.deref.result.now ≡ valid_at (schema_view c.args.schema.now) c.target_of-target.result
     (view c.args.doc.now) ∷ [] = search rules in
     c.holds.ensures ∙ ap (λ bs. flag bs 0) table ∙ same

@@ -1,4 +1,4 @@
-use Rattle.std.proofs.Common.{◌≡◌, ℕ, ◌+◌, ◌*◌, ◌&&◌, not, true, map, drop}
+use Rattle.std.proofs.Common.{◌≡◌, ℕ, ◌+◌, ◌*◌, ◌&&◌, not, map, drop, ◌<◌, length, get_or}
 use Rattle.documents.specs.Tests.{every}
 use Rattle.documents.specs.Document.{depth, items_depth, members_depth, string}
 use Rattle.draft06.specs.EntryValidity.{form_at}
@@ -7,7 +7,6 @@ use Rattle.js_schema.specs.SchemaView.{schema_view}
 use Rattle.js_schema.specs.View.{form_view}
 use Rattle.js_match.specs.Matching.{matches}
 use Rattle.js_valid.specs.Parts.{flag, of_element, of_contains, of_member, of_name}
-use Rattle.js_match.specs.Places.{is_at}
 use Rattle.js_valid.specs.Plan.{valid_at}
 use Rattle.js_valid.specs.Requests.{each_at}
 use Rattle.js_valid.proofs.decide.+decide.Given as goal
@@ -74,26 +73,28 @@ invariant-are_members_met-loop-member l =
 abbrev pub invariant-fine_list-loop-place : goal.invariant-fine_list-loop-place
 invariant-fine_list-loop-place l =
     record {
-      fine : (e : ℕ) → is_at e l.owners ≡ true
+      fine : (e : ℕ) → e < length l.owners
           → (flag l.fine.items e && each_at (λ i d. every (λ q. valid_at (schema_view l.schema) q d)
-          (of_element (form_at (schema_view l.schema) e) i)) l.place (map view (drop l.place l.child-items)))
+          (of_element (form_at (schema_view l.schema) (get_or l.owners e 0)) i)) l.place
+          (map view (drop l.place l.child-items)))
           ≡ each_at (λ i d. every (λ q. valid_at (schema_view l.schema) q d)
-          (of_element (form_at (schema_view l.schema) e) i)) 0 (map view l.child-items);
-      unmet : (e : ℕ) → is_at e l.owners ≡ true
+          (of_element (form_at (schema_view l.schema) (get_or l.owners e 0)) i)) 0 (map view l.child-items);
+      unmet : (e : ℕ) → e < length l.owners
           → (flag l.unmet.items e && every (λ d. every (λ q. not (valid_at (schema_view l.schema) q d))
-          (of_contains (form_at (schema_view l.schema) e))) (map view (drop l.place l.child-items)))
+          (of_contains (form_at (schema_view l.schema) (get_or l.owners e 0)))) (map view (drop l.place l.child-items)))
           ≡ every (λ d. every (λ q. not (valid_at (schema_view l.schema) q d))
-          (of_contains (form_at (schema_view l.schema) e))) (map view l.child-items);
+          (of_contains (form_at (schema_view l.schema) (get_or l.owners e 0)))) (map view l.child-items);
     }
 
 abbrev pub invariant-fine_members-loop-member : goal.invariant-fine_members-loop-member
 invariant-fine_members-loop-member l =
-    (e : ℕ) → is_at e l.owners ≡ true
+    (e : ℕ) → e < length l.owners
     → (flag l.fine.items e && every (λ m. every (λ q. valid_at (schema_view l.schema) q m.1)
-    (of_member matches (form_at (schema_view l.schema) e) m.0) && every (λ q. valid_at (schema_view l.schema) q
-    (string m.0))
-    (of_name (form_at (schema_view l.schema) e))) (map member_view (drop l.member-index l.member-items)))
+    (of_member matches (form_at (schema_view l.schema) (get_or l.owners e 0)) m.0)
+    && every (λ q. valid_at (schema_view l.schema) q (string m.0))
+    (of_name (form_at (schema_view l.schema) (get_or l.owners e 0))))
+    (map member_view (drop l.member-index l.member-items)))
     ≡ every (λ m. every (λ q. valid_at (schema_view l.schema) q m.1)
-    (of_member matches (form_at (schema_view l.schema) e) m.0) && every (λ q. valid_at (schema_view l.schema) q
-    (string m.0))
-    (of_name (form_at (schema_view l.schema) e))) (map member_view l.member-items)
+    (of_member matches (form_at (schema_view l.schema) (get_or l.owners e 0)) m.0)
+    && every (λ q. valid_at (schema_view l.schema) q (string m.0))
+    (of_name (form_at (schema_view l.schema) (get_or l.owners e 0)))) (map member_view l.member-items)

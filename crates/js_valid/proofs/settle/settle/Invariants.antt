@@ -1,11 +1,10 @@
-use Rattle.std.proofs.Common.{◌≡◌, length}
 use Rattle.js_doc.specs.View.{view}
 use Rattle.js_schema.specs.SchemaView.{schema_view}
-use Rattle.js_valid.proofs.Settled.{Known}
+use Rattle.js_valid.proofs.AskedLaws.{Taken}
 use Rattle.js_valid.proofs.settle.settle.Given as goal
 
-abbrev pub invariant-loop-place : goal.invariant-loop-place
-invariant-loop-place l = record {
-  len : length l.table.items ≡ length (schema_view l.schema);
-  known : Known (schema_view l.schema) l.order (view l.doc) l.asked l.place l.table.items;
-}
+abbrev pub invariant-loop-left : goal.invariant-loop-left
+invariant-loop-left l = Taken (schema_view l.schema) (view l.doc) l.asked l.left l.held.items
+
+abbrev pub decreases-loop-left : goal.decreases-loop-left
+decreases-loop-left l = l.left

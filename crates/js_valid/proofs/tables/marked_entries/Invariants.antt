@@ -1,7 +1,0 @@
-use Rattle.std.proofs.Common.{◌≡◌, ℕ, ◌&&◌, nat_lt}
-use Rattle.js_valid.specs.Parts.{flag}
-use Rattle.js_match.specs.Places.{is_at}
-use Rattle.js_valid.proofs.tables.marked_entries.Given as goal
-
-abbrev pub invariant-loop-place : goal.invariant-loop-place
-invariant-loop-place l = (j : ℕ) → is_at j l.entries.items ≡ (nat_lt j l.place && flag l.table j)

@@ -1,0 +1,49 @@
+//! The entries of a schema in rising order of their ranks, and where each of them stands: made once for a document.
+
+ghost use Rattle.std.specs.Prelude.{◌≡◌, ℕ, ◌<◌, nat_eq, IfOk, length, get_or, if◌then◌else◌};
+ghost use Rattle.js_valid.specs.Plan.{StandAt};
+
+use js_doc::Memory;
+use std::alloc::Global;
+
+/// An order in which each entry stands after those that it names in place, and the place of each entry in it.
+#[derive(Drop)]
+pub(crate) struct Plan {
+    pub(crate) order: Vec<u32>,
+    pub(crate) places: Vec<usize>,
+}
+
+impl Plan {
+    /// The place of the entry; past the last one it is the first.
+    pub(crate) fn place_of(&self, entry: u32) -> usize
+        ensures { result ≡ get_or self.now.places.items entry 0 }
+    {
+        let number = entry as usize;
+        if number < self.places.len() {
+            return self.places[number];
+        }
+        0
+    }
+}
+
+/// Where each of so many entries stands. It takes their number in time and memory.
+pub(crate) fn places_of(alloc: Global, order: &[u32], count: usize) -> Result<Vec<usize>, Memory>
+    requires { (k : ℕ) → k < length order.now → get_or order.now k 0 < count }
+    ensures { IfOk result (λ places. (k : ℕ) → k < length order.now
+        → StandAt order.now places.items (get_or order.now k 0)) }
+{
+    let mut places = vec![in alloc; 0; count]?;
+    for (place, entry) in order.iter().enumerate() {
+        put(&mut places, *entry, place);
+    }
+    Ok(places)
+}
+
+fn put(places: &mut Vec<usize>, entry: u32, place: usize)
+    requires { entry < length places.old.items }
+    ensures len { length places.new.items ≡ length places.old.items }
+    ensures value { (j : ℕ) → get_or places.new.items j 0
+        ≡ (if nat_eq entry j then place else get_or places.old.items j 0) }
+{
+    places[entry as usize] = place;
+}
