@@ -11,11 +11,16 @@ use js_keywords::SchemaFault;
 use js_normal::{join_tables, normalise};
 use js_schema::{Schema, read_schema};
 use std::alloc::Global;
+use std::thread::Threads;
 
 /// What is printed for a line: the verdict, or that it isn't a case.
-pub(crate) fn answer(alloc: Global, line: &str) -> Result<String, Memory> {
+pub(crate) fn answer<R: Threads + Sync>(
+    rt: &R,
+    alloc: Global,
+    line: &str,
+) -> Result<String, Memory> {
     match read_json(alloc, line.as_bytes()) {
-        Ok(json) => answer_to_case(alloc, &json),
+        Ok(json) => answer_to_case(rt, alloc, &json),
         Err(JsonFault::Memory) => Err(Memory),
         Err(_) => refused(alloc),
     }
@@ -25,16 +30,17 @@ fn refused(alloc: Global) -> Result<String, Memory> {
     Ok(String::from_str(alloc, "refused")?)
 }
 
-fn answer_to_case(alloc: Global, case: &Json) -> Result<String, Memory> {
+fn answer_to_case<R: Threads + Sync>(rt: &R, alloc: Global, case: &Json) -> Result<String, Memory> {
     match case {
         Json::List(parts) if parts.len() == 3 => {
-            answer_to_parts(alloc, parts.at(0), parts.at(1), parts.at(2))
+            answer_to_parts(rt, alloc, parts.at(0), parts.at(1), parts.at(2))
         }
         _ => refused(alloc),
     }
 }
 
-fn answer_to_parts(
+fn answer_to_parts<R: Threads + Sync>(
+    rt: &R,
     alloc: Global,
     first: &Json,
     second: &Json,
@@ -45,19 +51,25 @@ fn answer_to_parts(
         table_of(alloc, second)?,
         certificate,
     ) {
-        (Some(a), Some(b), Json::List(pieces)) => answer_on(alloc, &a, &b, pieces.as_slice()),
+        (Some(a), Some(b), Json::List(pieces)) => answer_on(rt, alloc, &a, &b, pieces.as_slice()),
         _ => refused(alloc),
     }
 }
 
-fn answer_on(alloc: Global, a: &Core, b: &Core, pieces: &[Json]) -> Result<String, Memory>
+fn answer_on<R: Threads + Sync>(
+    rt: &R,
+    alloc: Global,
+    a: &Core,
+    b: &Core,
+    pieces: &[Json],
+) -> Result<String, Memory>
     requires a_filled { 0 < length a.now.positions }
     requires b_filled { 0 < length b.now.positions }
     requires a_small { length a.now.positions < 2 ^ 31 }
     requires b_small { length b.now.positions < 2 ^ 31 }
 {
     let (core, first, second) = join_tables(alloc, a, b)?;
-    verdict_text(alloc, &core, first, second, pieces)
+    verdict_text(rt, alloc, &core, first, second, pieces)
 }
 
 /// The core table of a schema. None where the value is no schema, or one that leads in a circle.

@@ -14,7 +14,7 @@ use std::io;
 fn main(rt: HostRuntime) -> io::Result<()> {
     for line in rt.lines(rt.alloc()) {
         let line = line?;
-        match answer(rt.alloc(), line.as_str()) {
+        match answer(&rt, rt.alloc(), line.as_str()) {
             Ok(text) => println!(rt; "{text}")?,
             Err(_) => println!(rt; "out of memory")?,
         }

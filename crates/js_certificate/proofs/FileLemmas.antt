@@ -1,9 +1,9 @@
 -- What was read of a file, and what is judged of it.
-use Rattle.std.proofs.Common.{◌≡◌, ℕ, ◌+◌, ◌<◌, List, [], ◌++◌, length, take, Option, None, Some, Result, Ok, Err, IfOk, IfErr}
+use Rattle.std.proofs.Common.{◌≡◌, ◌⊎◌, inl, inr, ℕ, ◌+◌, ◌<◌, ◌≤◌, List, [], ◌++◌, length, take, Option, None, Some, Result, Ok, Err, IfOk, IfErr}
 use Rattle.std.proofs.Common.{arith, refl, ap, sym, ◌∙◌, subst, append_assoc, append-nil, length-append}
 use Rattle.std.proofs.Math.Seq.{take-append_seam}
 use Rattle.std.proofs.lemmas.Bool.{true≢false}
-use Rattle.std.specs.Io.KnownBytes.{Consumes, IsAtEnd}
+use Rattle.std.specs.Io.KnownBytes.{Keeps, Consumes, IsAtEnd}
 use Rattle.positions.specs.Position.{Position}
 use Rattle.verdicts.specs.Verdict as V
 use Rattle.verdicts.specs.Verdict.{verdict_of_bytes}
@@ -11,13 +11,19 @@ use Rattle.js_outside.specs.Told.{Files, FileIsLeft}
 use Rattle.js_checker.specs.Faults.{Tells}
 use Rattle.js_checker.specs.declared.fault.CheckFault.{CheckFault}
 use Rattle.js_checker.specs.declared.fault.CheckFault.TheVariants as C
-use Rattle.js_certificate.specs.JudgeView.{bytes_of, StandsForBytes}
-use Rattle.js_certificate.specs.FileVerdicts.{verdict_view, verdict_of, HasBytes, IsVerdictOf, longest_file, IsTooLong, FaultSays}
+use Rattle.js_certificate.specs.JudgeView.{table_of, premise_of, conclusion_of, bytes_of, waiting_of, fault_of, StandsForBytes}
+use Rattle.js_outside.specs.Counts.{Rose}
+use Rattle.js_certificate.specs.FileVerdicts.{verdict_view, verdict_of, HasBytes, IsVerdictOf, longest_file, IsTooLong, FaultSays, CountsJudged, IsRejection}
+use Rattle.js_certificate.specs.ReadBehind.{most_waiting, longest_piece, IsReadFor}
 use Rattle.js_certificate.specs.FileRead.{ReadSoFar, StandsForFile}
 use Rattle.js_certificate.specs.declared.judge.CertificateJudge.{CertificateJudge}
 use Rattle.js_certificate.specs.declared.file.FileVerdict.{FileVerdict}
 use Rattle.js_certificate.specs.declared.file.FileVerdict.TheVariants as F
 use Rattle.js_certificate.specs.declared.file.FileFault.{FileFault}
+use Rattle.js_certificate.specs.declared.file.FileFault.TheVariants as FF
+use Rattle.js_certificate.proofs.JudgeLemmas.{judged_of}
+use Rattle.js_certificate.proofs.BatchLemmas.{several_wait}
+use Rattle.js_certificate.proofs.ReadBehindLemmas.{behind_judged}
 
 -- nothing was read of a file that was just begun
 begun : (told : Option Files) (name : List ℕ) (left : Option (List ℕ)) → FileIsLeft told name left
@@ -127,7 +133,7 @@ ok_more (Ok x) f h = f x h
 ok_more (Err e) f h = tt
 
 -- of what was read into a buffer
-consumed : (left now : Option (List ℕ)) (slice into : List ℕ) (count : ℕ) → slice ≡ into
+pub consumed : (left now : Option (List ℕ)) (slice into : List ℕ) (count : ℕ) → slice ≡ into
     → Consumes left now (take count into) → Consumes left now (take count slice)
 consumed left now slice into count e h = subst (λ xs. Consumes left now (take count xs)) (sym e) h
 
@@ -166,11 +172,147 @@ file_judged j T U a b c d before told name left (Ok v) t p q e s n h is =
 
 -- the same of a fault, by the shelf's counts before the file was begun, then, and at the end
 pub fault_judged : (j : CertificateJudge) (before told : Option Files) (name : List ℕ) (left : Option (List ℕ))
-    (first begun_with last : ℕ) (r : Result FileVerdict FileFault) → told ≡ before → begun_with ≡ first
+    (workers first begun_with last : ℕ) (r : Result FileVerdict FileFault) → told ≡ before → begun_with ≡ first
     → StandsForBytes j [] → bytes_of j ≡ 0 → FileIsLeft before name left
-    → IfErr r (λ f. (n : List ℕ) → StandsForFile j told n left → FaultSays told n begun_with last f)
-    → IfErr r (FaultSays before name first last)
-fault_judged j before told name left first begun_with last (Ok v) e m s n h is = tt
-fault_judged j before told name left first begun_with last (Err f) e m s n h is =
-    subst (λ o. FaultSays o name first last f) e (subst (λ k. FaultSays told name k last f) m
+    → IfErr r (λ f. (n : List ℕ) → StandsForFile j told n left → FaultSays told n workers begun_with last f)
+    → IfErr r (FaultSays before name workers first last)
+fault_judged j before told name left workers first begun_with last (Ok v) e m s n h is = tt
+fault_judged j before told name left workers first begun_with last (Err f) e m s n h is =
+    subst (λ o. FaultSays o name workers first last f) e (subst (λ k. FaultSays told name workers k last f) m
     (is name (file_begun j told name left s n (subst (λ o. FileIsLeft o name left) (sym e) h))))
+
+-- a read failed, and a line before it is rejected
+pub fault_judged_before : (j i : CertificateJudge) (T U : List Position) (a b c d : ℕ) (told : Option Files)
+    (first left : Option (List ℕ)) (r : Result FileVerdict FileFault) → T ≡ U → a ≡ c → b ≡ d
+    → IfOk r (λ v. IsRejection v × ((bytes more : List ℕ) → StandsForBytes j bytes
+    → verdict_of_bytes T a b (bytes ++ more) ≡ verdict_view v))
+    → ((name : List ℕ) → StandsForFile i told name first → StandsForFile j told name left)
+    → IfOk r (λ v. (name : List ℕ) → StandsForFile i told name first → IsVerdictOf U c d told name v)
+fault_judged_before j i T U a b c d told first left (Err x) t p q is on = tt
+fault_judged_before j i T U a b c d told first left (Ok v) t p q is on = λ name h.
+    let (bytes, s, count, so_far) = on name h in
+    let (rest, has) = all_bytes told name bytes left so_far in
+    verdict_same T U a b c d told name v t p q (bytes ++ rest, has, is.1 bytes rest s)
+
+pub counts_same : (workers before after : ℕ) (v : FileVerdict) → after ≡ before → CountsJudged workers before after v
+counts_same workers before after F.Accepted e = e
+counts_same workers before after (F.Rejected k r) e = inl e
+
+-- counts where a read failed: of one worker no line waits, so that the fault is told
+module _ (workers waiting before after : ℕ) (some : 1 ≤ workers) (few : waiting ≤ most_waiting workers)
+    (rose : Rose before after) where
+  pub counts_rejected : (r : Result FileVerdict FileFault) → IfOk r IsRejection
+      → (waiting ≡ 0 → r ≡ Err FF.Read) → IfOk r (CountsJudged workers before after)
+  counts_rejected (Ok F.Accepted) is none = absurd is
+  counts_rejected (Ok (F.Rejected k r)) is none =
+      inr (several_wait workers waiting some few (λ e. wrong (none e)), rose)
+    where
+      wrong : Ok (F.Rejected k r) ≡ Err FF.Read → ⊥
+      wrong e = cc
+  counts_rejected (Err f) is none = tt
+
+  pub counts_failed : (told : Option Files) (r : Result FileVerdict FileFault)
+      → IfErr r (λ met. (met ≡ FF.Read) ⊎ (met ≡ FF.Memory)) → (waiting ≡ 0 → r ≡ Err FF.Read) → (P : List ℕ → Type 0)
+      → IfErr r (λ f. (name : List ℕ) → P name → FaultSays told name workers before after f)
+  counts_failed told (Ok v) is none P = tt
+  counts_failed told (Err FF.Read) is none P = λ name p. rose
+  counts_failed told (Err FF.Memory) is none P = λ name p.
+      inr (several_wait workers waiting some few (λ e. wrong (none e)), rose)
+    where
+      wrong : ◌≡◌ {A = Result FileVerdict FileFault} (Err FF.Memory) (Err FF.Read) → ⊥
+      wrong e = cc
+  counts_failed told (Err FF.TooLong) (inl e) none P = cc
+  counts_failed told (Err FF.TooLong) (inr e) none P = cc
+
+-- the cause, or that memory was refused
+pub fault_or_memory : (P : FileFault → Type 0) (cause : FileFault) (r : Result FileVerdict FileFault)
+    → IfErr r (λ met. (met ≡ cause) ⊎ (met ≡ FF.Memory)) → P cause → P FF.Memory → IfErr r P
+fault_or_memory P cause (Ok v) is p m = tt
+fault_or_memory P cause (Err f) (inl e) p m = subst P (sym e) p
+fault_or_memory P cause (Err f) (inr e) p m = subst P (sym e) m
+
+-- how far a file was read
+
+-- a read that failed took nothing
+pub kept_whole : (left now : Option (List ℕ)) → Keeps left now → Consumes left now []
+kept_whole None now h = tt
+kept_whole (Some xs) None h = absurd h
+kept_whole (Some xs) (Some ys) h = sym h
+
+-- the piece that came last has a line which is rejected, or ends the batch which has it
+module _ (j : CertificateJudge) (workers : ℕ) (going : fault_of j ≡ None)
+    (few : waiting_of j ≤ most_waiting workers) (piece : List ℕ) (short : length piece ≤ longest_piece) where
+  read_to_line : (told : Option Files) (name : List ℕ) (left now : Option (List ℕ)) (v : FileVerdict)
+      → Consumes left now piece
+      → ((bytes : List ℕ) → StandsForBytes j bytes → (more : List ℕ) × (verdict_of_bytes (table_of j) (premise_of j)
+      (conclusion_of j) (bytes ++ more) ≡ verdict_view v))
+      → StandsForFile j told name left → IsReadFor told name now workers v
+  read_to_line told name left now F.Accepted taken is h = tt
+  read_to_line None name left now (F.Rejected k r) taken is h = tt
+  read_to_line (Some files) name left now (F.Rejected k r) taken is (bytes, s, count, so_far) =
+      let (rest, is_left, has) = more (Some files) name bytes piece left now so_far taken in
+      let (behind, verdict) = is bytes s in
+      let judged = judged_of j.fault j.lines bytes going s in
+      let below = behind_judged j.lines bytes behind k r (j.well going) judged verdict in
+      record {
+        before = bytes;
+        piece = piece;
+        rest = rest;
+        file = has ∙ ap Some (append_assoc bytes piece rest);
+        is_left = is_left;
+        short = short;
+        few = omega (arith, below, few);
+      }
+
+  pub read_for : (i : CertificateJudge) (told : Option Files) (first left now : Option (List ℕ))
+      (r : Result FileVerdict FileFault) → Consumes left now piece
+      → IfOk r (λ v. (bytes : List ℕ) → StandsForBytes j bytes → (more : List ℕ) × (verdict_of_bytes (table_of j)
+      (premise_of j) (conclusion_of j) (bytes ++ more) ≡ verdict_view v))
+      → ((name : List ℕ) → StandsForFile i told name first → StandsForFile j told name left)
+      → IfOk r (λ v. (name : List ℕ) → StandsForFile i told name first → IsReadFor told name now workers v)
+  read_for i told first left now (Err e) taken is on = tt
+  read_for i told first left now (Ok v) taken is on =
+      λ name h. read_to_line told name left now v taken is (on name h)
+
+-- what is judged of the lines before, whatever follows
+pub behind_before : (j : CertificateJudge) (T : List Position) (a b : ℕ) (r : Result FileVerdict FileFault)
+    → IfOk r (λ v. IsRejection v × ((bytes more : List ℕ) → StandsForBytes j bytes
+    → verdict_of_bytes T a b (bytes ++ more) ≡ verdict_view v))
+    → IfOk r (λ v. (bytes : List ℕ) → StandsForBytes j bytes
+    → (more : List ℕ) × (verdict_of_bytes T a b (bytes ++ more) ≡ verdict_view v))
+behind_before j T a b (Err e) is = tt
+behind_before j T a b (Ok v) is = λ bytes s. ([], is.1 bytes [] s)
+
+-- of all bytes
+pub behind_whole : (j : CertificateJudge) (T : List Position) (a b : ℕ) (r : Result FileVerdict FileFault)
+    → IfOk r (λ v. (bytes : List ℕ) → StandsForBytes j bytes → verdict_of_bytes T a b bytes ≡ verdict_view v)
+    → IfOk r (λ v. (bytes : List ℕ) → StandsForBytes j bytes
+    → (more : List ℕ) × (verdict_of_bytes T a b (bytes ++ more) ≡ verdict_view v))
+behind_whole j T a b (Err e) is = tt
+behind_whole j T a b (Ok v) is = λ bytes s. ([], ap (verdict_of_bytes T a b) (append-nil bytes) ∙ is bytes s)
+
+-- of a piece
+pub behind_piece : (j : CertificateJudge) (T : List Position) (a b : ℕ) (piece : List ℕ) (f : CheckFault)
+    (r : Result FileVerdict FileFault)
+    → ((bytes more : List ℕ) → StandsForBytes j bytes → Tells f (verdict_of_bytes T a b (bytes ++ (piece ++ more))))
+    → r ≡ verdict_of f
+    → IfOk r (λ v. (bytes : List ℕ) → StandsForBytes j bytes
+    → (more : List ℕ) × (verdict_of_bytes T a b (bytes ++ more) ≡ verdict_view v))
+behind_piece j T a b piece f (Err e) is told = tt
+behind_piece j T a b piece C.Memory (Ok v) is told = cc
+behind_piece j T a b piece (C.Rejected k q) (Ok v) is told =
+    λ bytes s. (piece ++ [], is bytes [] s ∙ ap verdict_view same)
+  where
+    same : F.Rejected k q ≡ v
+    same = cc
+
+-- a file that was begun
+pub file_read_for : (j : CertificateJudge) (before told : Option Files) (name : List ℕ) (left now : Option (List ℕ))
+    (workers : ℕ) (r : Result FileVerdict FileFault) → told ≡ before → StandsForBytes j [] → bytes_of j ≡ 0
+    → FileIsLeft before name left
+    → IfOk r (λ v. (n : List ℕ) → StandsForFile j told n left → IsReadFor told n now workers v)
+    → IfOk r (IsReadFor before name now workers)
+file_read_for j before told name left now workers (Err e) t s n h is = tt
+file_read_for j before told name left now workers (Ok v) t s n h is =
+    subst (λ o. IsReadFor o name now workers v) t
+    (is name (file_begun j told name left s n (subst (λ o. FileIsLeft o name left) (sym t) h)))

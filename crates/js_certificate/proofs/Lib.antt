@@ -1,3 +1,6 @@
 mod PartLemmas
+mod BatchLemmas
+mod EndLemmas
 mod JudgeLemmas
+mod ReadBehindLemmas
 mod FileLemmas

@@ -83,7 +83,7 @@ pub record GoOn (bytes : List ℕ) (ls : List Line) : Type 0 where
   pub reader : Reader
   pub stands : Stands bytes (ls ++ more) reader
 
-goes_on : (fuel : ℕ) (bytes more : List ℕ) (ls : List Line) (r : Reader) → length more ≤ fuel → Stands bytes ls r
+pub goes_on : (fuel : ℕ) (bytes more : List ℕ) (ls : List Line) (r : Reader) → length more ≤ fuel → Stands bytes ls r
     → GoOn (bytes ++ more) ls
 goes_on fuel bytes [] ls r h s = record {
   more = [];
@@ -167,7 +167,7 @@ module _ (T : List Position) (a b : ℕ) where
       let on = goes_on (length more) bytes more ls r (omega arith) s in
       ap (verdict_of_cut T a b) on.stands.cut ∙ h (at_fault (unless on.reader.fault on.reader.held)) on.more
 
-  checker_breaks : (bytes : List ℕ) (ls : List Line) (r : Reader) (o : Option CheckFault) (s : Stage) (n : ℕ)
+  pub checker_breaks : (bytes : List ℕ) (ls : List Line) (r : Reader) (o : Option CheckFault) (s : Stage) (n : ℕ)
       (f : CheckFault) → o ≡ Some f → Stands bytes ls r → K.Stands T a b (standing o s n) ls → AreBroken T a b f bytes
   checker_breaks bytes ls r None s n f e at h = cc
   checker_breaks bytes ls r (Some g) s n f e at h = subst (λ x. AreBroken T a b x bytes) same (go g h) where

@@ -1,5 +1,5 @@
 -- What is judged of a file, and why a file was not judged.
-use Rattle.std.specs.Prelude.{◌≡◌, ℕ, ◌-◌, ◌^◌, ◌<◌, List, length, Option, None, Some, Result, Ok, Err}
+use Rattle.std.specs.Prelude.{◌≡◌, ◌⊎◌, ⊤, ℕ, ◌-◌, ◌^◌, ◌<◌, List, length, Option, None, Some, Result, Ok, Err}
 use Rattle.positions.specs.Position.{Position}
 use Rattle.verdicts.specs.Verdict as V
 use Rattle.verdicts.specs.Verdict.{Verdict, verdict_of_bytes}
@@ -39,8 +39,24 @@ longest_file = 2 ^ 63 - 1
 abbrev pub IsTooLong : Option Files → List ℕ → Type 0
 IsTooLong told name = (bytes : List ℕ) × HasBytes told name bytes × (longest_file < length bytes)
 
--- what a fault says of the file and of the shelf's count of faults before and after
-abbrev pub FaultSays : Option Files → List ℕ → ℕ → ℕ → FileFault → Type 0
-FaultSays told name before after TooLong = IsTooLong told name × (after ≡ before)
-FaultSays told name before after Read = Rose before after
-FaultSays told name before after Memory = after ≡ before
+-- a count of faults is as it was, or a read failed while lines waited, which were judged then. For one worker no line
+-- waits
+abbrev pub SameOrRose : (workers : ℕ) → ℕ → ℕ → Type 0
+SameOrRose workers before after = (after ≡ before) ⊎ ((1 < workers) × Rose before after)
+
+-- counts of faults before and after a file was judged by so many workers: where a read failed, a line before it may be
+-- rejected
+abbrev pub CountsJudged : (workers : ℕ) → ℕ → ℕ → FileVerdict → Type 0
+CountsJudged workers before after F.Accepted = after ≡ before
+CountsJudged workers before after (F.Rejected k r) = SameOrRose workers before after
+
+abbrev pub IsRejection : FileVerdict → Type 0
+IsRejection F.Accepted = ⊥
+IsRejection (F.Rejected k r) = ⊤
+
+-- what a fault says of the file and of the shelf's count of faults before and after: memory may be refused where lines
+-- are judged after a read that failed
+abbrev pub FaultSays : Option Files → List ℕ → (workers : ℕ) → ℕ → ℕ → FileFault → Type 0
+FaultSays told name workers before after TooLong = IsTooLong told name × (after ≡ before)
+FaultSays told name workers before after Read = Rose before after
+FaultSays told name workers before after Memory = SameOrRose workers before after

@@ -22,6 +22,10 @@ conclusion_of j = L.conclusion_of j.lines
 abbrev pub bytes_of : CertificateJudge → ℕ
 bytes_of j = j.lines.bytes
 
+-- how many lines wait to be judged
+abbrev pub waiting_of : CertificateJudge → ℕ
+waiting_of j = L.waiting_of j.lines
+
 -- the first fault
 abbrev pub fault_of : CertificateJudge → Option CheckFault
 fault_of j = j.fault

@@ -1,11 +1,12 @@
 //! A certificate in a file, judged as it is read.
 
-ghost use Rattle.std.specs.Prelude.{◌≡◌, ◌<◌, ◌^◌, [], ◌∷◌, ◌++◌, List, ℕ, length, true, Ok, OnOk, IfOk, IfErr, vec_len};
+ghost use Rattle.std.specs.Prelude.{◌≡◌, ◌⊎◌, ◌<◌, ◌≤◌, ◌^◌, [], ◌∷◌, ◌++◌, List, ℕ, length, true, None, Ok, Err, IfOk, IfErr, vec_len};
 ghost use Rattle.documents.specs.Document.{Document, is_document};
 ghost use Rattle.positions.specs.Holds.{holds};
 ghost use Rattle.verdicts.specs.Verdict.{verdict_of_bytes};
-ghost use Rattle.js_certificate.specs.JudgeView.{table_of, premise_of, conclusion_of, bytes_of, StandsForBytes};
-ghost use Rattle.js_certificate.specs.FileVerdicts.{verdict_view, verdict_of, IsVerdictOf, FaultSays};
+ghost use Rattle.js_certificate.specs.JudgeView.{table_of, premise_of, conclusion_of, bytes_of, waiting_of, fault_of, StandsForBytes};
+ghost use Rattle.js_certificate.specs.FileVerdicts.{verdict_view, verdict_of, IsVerdictOf, FaultSays, CountsJudged, IsRejection};
+ghost use Rattle.js_certificate.specs.ReadBehind.{most_waiting, longest_piece, IsReadFor};
 ghost use Rattle.js_certificate.specs.FileRead.{StandsForFile};
 ghost use Rattle.js_certificate.specs.declared.file.FileVerdict.TheVariants.{Accepted};
 ghost use Rattle.js_certificate.specs.declared.file.FileFault.TheVariants as fault;
@@ -14,7 +15,9 @@ use crate::judge::CertificateJudge;
 use js_algebra::{Core, Pos};
 use js_checker::CheckFault;
 use js_outside::{BeginFault, Shelf};
+use js_par::{Gate, Workers};
 use std::alloc::{AllocError, Global};
+use std::thread::Threads;
 
 /// How many bytes a file may have.
 pub const LONGEST_FILE: u64 = 9_223_372_036_854_775_807;
@@ -35,10 +38,10 @@ pub enum FileVerdict {
 /// Why a file was not judged.
 #[derive(Clone, Copy, PartialEq, Eq, Debug)]
 pub enum FileFault {
-    /// More than [`LONGEST_FILE`] bytes were read.
+    /// More than [`LONGEST_FILE`] bytes were read, and no line before the last piece of them is rejected.
     TooLong,
 
-    /// The file was not begun, or a read failed. The shelf's count of faults rose.
+    /// The file was not begun, or a read failed and no line before it is rejected. The shelf's count of faults rose.
     Read,
 
     /// Memory was refused.
@@ -56,8 +59,13 @@ impl From<AllocError> for FileFault {
 }
 
 /// Judges a file that is to show that every document of which the position `a` holds has `b` holding. No other file is
-/// begun, and nothing is read behind the piece that has a line which is rejected.
-pub fn judge_file<H: Shelf>(
+/// begun, and nothing is read behind the piece that completes a batch with a line which is rejected. A batch of one
+/// worker is a line.
+///
+/// Where a read fails, the lines before it are judged: a rejection among them is the answer, and the count of faults
+/// rose.
+pub fn judge_file<R: Threads + Sync, G: Gate + Sync, H: Shelf>(
+    workers: &Workers<'_, R, G>,
     alloc: Global,
     shelf: &mut H,
     name: &str,
@@ -69,8 +77,10 @@ pub fn judge_file<H: Shelf>(
     requires b { b.0 < length core.now.positions }
     ensures told { H.told shelf.new ≡ H.told shelf.old }
     ensures verdict { IfOk result (IsVerdictOf core.now.positions a.0 b.0 (H.told shelf.old) name.now) }
-    ensures counted { OnOk result (H.faults shelf.new ≡ H.faults shelf.old) }
-    ensures fault { IfErr result (FaultSays (H.told shelf.old) name.now (H.faults shelf.old) (H.faults shelf.new)) }
+    ensures counted { IfOk result (CountsJudged workers.now.count (H.faults shelf.old) (H.faults shelf.new)) }
+    ensures fault { IfErr result (FaultSays (H.told shelf.old) name.now workers.now.count (H.faults shelf.old)
+        (H.faults shelf.new)) }
+    ensures read { IfOk result (IsReadFor (H.told shelf.old) name.now (H.left shelf.new) workers.now.count) }
     ensures begun { H.begun shelf.new ≡ H.begun shelf.old ++ name.now ∷ [] }
 
     // What is accepted is right.
@@ -84,30 +94,37 @@ pub fn judge_file<H: Shelf>(
     }
     let buffer = empty_buffer(alloc)?;
     let mut judge = CertificateJudge::new(alloc, core, a, b);
-    let verdict = judge_pieces(alloc, shelf, buffer, &mut judge);
+    let verdict = judge_pieces(workers, alloc, shelf, buffer, &mut judge);
     // By a call, so that what a judge holds is no matter of this function.
     drop(judge);
     verdict
 }
 
 /// Judges what is left of the file that was begun.
-fn judge_pieces<H: Shelf>(
+fn judge_pieces<R: Threads + Sync, G: Gate + Sync, H: Shelf>(
+    workers: &Workers<'_, R, G>,
     alloc: Global,
     shelf: &mut H,
     mut buffer: Vec<u8>,
     judge: &mut CertificateJudge<'_>,
 ) -> Result<FileVerdict, FileFault>
     requires room { 0 < vec_len buffer }
+    requires short { vec_len buffer ≤ longest_piece }
     requires few { bytes_of judge.old < 2 ^ 63 }
+    requires going { fault_of judge.old ≡ None }
+    requires waits { waiting_of judge.old ≤ most_waiting workers.now.count }
     ensures told { H.told shelf.new ≡ H.told shelf.old }
     ensures verdict { IfOk result (λ verdict. (name : List ℕ)
         → StandsForFile judge.old (H.told shelf.old) name (H.left shelf.old)
         → IsVerdictOf (table_of judge.old) (premise_of judge.old) (conclusion_of judge.old) (H.told shelf.old) name
         verdict) }
-    ensures counted { OnOk result (H.faults shelf.new ≡ H.faults shelf.old) }
+    ensures counted { IfOk result (CountsJudged workers.now.count (H.faults shelf.old) (H.faults shelf.new)) }
     ensures fault { IfErr result (λ fault. (name : List ℕ)
         → StandsForFile judge.old (H.told shelf.old) name (H.left shelf.old)
-        → FaultSays (H.told shelf.old) name (H.faults shelf.old) (H.faults shelf.new) fault) }
+        → FaultSays (H.told shelf.old) name workers.now.count (H.faults shelf.old) (H.faults shelf.new) fault) }
+    ensures read { IfOk result (λ verdict. (name : List ℕ)
+        → StandsForFile judge.old (H.told shelf.old) name (H.left shelf.old)
+        → IsReadFor (H.told shelf.old) name (H.left shelf.new) workers.now.count verdict) }
     ensures begun { H.begun shelf.new ≡ H.begun shelf.old }
     ensures sound { result ≡ Ok Accepted → (J : Document) → is_document J ≡ true
         → holds (table_of judge.old) (premise_of judge.old) J ≡ true
@@ -115,13 +132,13 @@ fn judge_pieces<H: Shelf>(
 {
     'pieces: loop {
         match shelf.read(&mut buffer) {
-            Err(_) => return Err(FileFault::Read),
-            Ok(0) => return verdict_at_end(judge),
+            Err(_) => return verdict_before(workers, alloc, judge, FileFault::Read),
+            Ok(0) => return verdict_at_end(workers, alloc, judge),
             Ok(count) => {
                 if count as u64 > LONGEST_FILE - judge.bytes() {
-                    return Err(FileFault::TooLong);
+                    return verdict_before(workers, alloc, judge, FileFault::TooLong);
                 }
-                match judge.take(alloc, &buffer[..count]) {
+                match judge.take(workers, alloc, &buffer[..count]) {
                     Ok(()) => {}
                     Err(fault) => return verdict_of(fault),
                 }
@@ -130,8 +147,32 @@ fn judge_pieces<H: Shelf>(
     }
 }
 
+/// The verdict where nothing more is judged for that cause: of the lines that wait, or the cause.
+fn verdict_before<R: Threads + Sync, G: Gate + Sync>(
+    workers: &Workers<'_, R, G>,
+    alloc: Global,
+    judge: &mut CertificateJudge<'_>,
+    cause: FileFault,
+) -> Result<FileVerdict, FileFault>
+    ensures verdict { IfOk result (λ verdict. IsRejection verdict
+        × ((bytes more : List ℕ) → StandsForBytes judge.old bytes
+        → verdict_of_bytes (table_of judge.old) (premise_of judge.old) (conclusion_of judge.old) (bytes ++ more)
+        ≡ verdict_view verdict)) }
+    ensures fault { IfErr result (λ met. (met ≡ cause) ⊎ (met ≡ fault.Memory)) }
+    ensures none { fault_of judge.old ≡ None → waiting_of judge.old ≡ 0 → result ≡ Err cause }
+{
+    match judge.settle(workers, alloc) {
+        Ok(()) => Err(cause),
+        Err(fault) => verdict_of(fault),
+    }
+}
+
 /// The verdict where nothing follows.
-fn verdict_at_end(judge: &mut CertificateJudge<'_>) -> Result<FileVerdict, FileFault>
+fn verdict_at_end<R: Threads + Sync, G: Gate + Sync>(
+    workers: &Workers<'_, R, G>,
+    alloc: Global,
+    judge: &mut CertificateJudge<'_>,
+) -> Result<FileVerdict, FileFault>
     ensures verdict { IfOk result (λ verdict. (bytes : List ℕ) → StandsForBytes judge.old bytes
         → verdict_of_bytes (table_of judge.old) (premise_of judge.old) (conclusion_of judge.old) bytes
         ≡ verdict_view verdict) }
@@ -140,7 +181,7 @@ fn verdict_at_end(judge: &mut CertificateJudge<'_>) -> Result<FileVerdict, FileF
         → holds (table_of judge.old) (premise_of judge.old) J ≡ true
         → holds (table_of judge.old) (conclusion_of judge.old) J ≡ true }
 {
-    match judge.finish() {
+    match judge.finish(workers, alloc) {
         Ok(_) => Ok(FileVerdict::Accepted),
         Err(fault) => verdict_of(fault),
     }
@@ -158,7 +199,8 @@ fn verdict_of(fault: CheckFault) -> Result<FileVerdict, FileFault>
 
 /// A buffer for reads to fill.
 fn empty_buffer(alloc: Global) -> Result<Vec<u8>, AllocError>
-    ensures { IfOk result (λ buffer. 0 < vec_len buffer) }
+    ensures room { IfOk result (λ buffer. 0 < vec_len buffer) }
+    ensures short { IfOk result (λ buffer. vec_len buffer ≤ longest_piece) }
 {
     vec![in alloc; 0; BUFFER_LENGTH]
 }

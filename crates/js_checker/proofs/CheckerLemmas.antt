@@ -1,4 +1,4 @@
--- For which lines a checker stands, and what it tells of them.
+-- For which lines a checker stands, and what it says of them.
 use Rattle.std.proofs.Common.{◌≡◌, ℕ, suc, ◌+◌, List, [], ◌∷◌, ◌++◌, length, Bool, true, false, Option, Some, None, Ok, Err, refl, ap, sym, ◌∙◌, subst, arith}
 use Rattle.documents.specs.Document.{Document, is_document}
 use Rattle.positions.specs.Position.{Position}
@@ -82,6 +82,7 @@ module _ (T : List Position) (a b : ℕ) where
   told_whole finish (F.Rejected k r) s n ls h = rejected_whole T a b finish ls k r h
   told_whole finish F.Memory s n ls h = tt
 
+  -- a fault that a stage has stays the verdict at each end
   pub told_again : (finish : Stage → ℕ → Verdict) (o : Option CheckFault) (fault : CheckFault) (s : Stage) (n : ℕ)
       (ls : List Line) → o ≡ Some fault → StandsBy o s n ls → Tells fault (judged T a b finish Start 1 ls)
   told_again finish o fault s n ls e h = told_whole finish fault s n ls (subst (λ p. StandsBy p s n ls) e h)

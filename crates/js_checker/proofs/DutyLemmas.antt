@@ -27,6 +27,7 @@ pub any_left-none : (ds : List Duty) → ds ≡ [] → any_left ds ≡ false
 any_left-none ds e = ap any_left e
 
 module _ (T : List Position) (cite : ℕ → List Signed → Bool) (l : Line) where
+  -- a line leaves of duties with others behind them what it leaves of the first, and the others
   pub leaves_more : (ds more es : List Duty) → Leaves T cite l ds es → Leaves T cite l (ds ++ more) (es ++ more)
   leaves_more [] more es e = cc
   leaves_more (d ∷ ds) more es e = go (after T cite d l) e where
@@ -37,6 +38,7 @@ module _ (T : List Position) (cite : ℕ → List Signed → Bool) (l : Line) wh
         let same : xs ++ ds ≡ es = cc in
         ap Ok (sym (append_assoc xs ds more) ∙ ap (λ z. z ++ more) same)
 
+  -- a line that breaks a rule at some duties breaks it with others behind them
   pub faults_more : (ds more : List Duty) (fault : RuleFault) → any_left ds ≡ true → Faults T cite l ds fault
       → Faults T cite l (ds ++ more) fault
   faults_more ds more F.Memory n e = tt

@@ -39,6 +39,7 @@ module _ (xs : List CertLine) (i : ℕ) (x : CertLine) (inside : i < length xs) 
   lines_to =
       ap (λ y. map line_view (take i xs) ++ line_view y ∷ []) read ∙ sym (map_more line_view xs i x inside)
 
+  -- the lines before one, the line, and those behind it are all lines
   pub lines_around : map line_view (take i xs) ++ line_view x ∷ map line_view (drop (i + 1) xs) ≡ map line_view xs
   lines_around =
       ap (λ y. map line_view (take i xs) ++ line_view y ∷ map line_view (drop (i + 1) xs)) read

@@ -14,12 +14,14 @@ use Rattle.js_checker.proofs.Results.{on_ok, if_err}
 -- with the table U and the duties ds, whatever may be cited
 module _ {A : Type 0} (r : Result A RuleFault) (x : Leaf) (U : List Position) (ds : List Duty) (l : Line)
     (cite : ℕ → List Signed → Bool) (table : (T : List Position) → leaf_table T x ≡ U) (same : leaf_duties x ≡ ds) where
+  -- a line that is taken leaves the duties that the leaf then has
   pub leaf_leaves : (es : List Duty) → OnOk r ((cite : ℕ → List Signed → Bool) → run U cite ds (l ∷ []) ≡ Ok es)
       → OnOk r ((T : List Position) → leaf_table T x ≡ T → Leaves T cite l (leaf_duties x) es)
   leaf_leaves es = on_ok r (λ h T over.
       subst (λ V. Leaves V cite l (leaf_duties x) es) (sym (table T) ∙ over)
       (subst (λ zs. Leaves U cite l zs es) (sym same) (h cite)))
 
+  -- a line that is refused breaks that rule at the leaf's duties
   pub leaf_faults : IfErr r (λ fault. (cite : ℕ → List Signed → Bool) → Breaks (run U cite ds (l ∷ [])) fault)
       → IfErr r (λ fault. (T : List Position) → leaf_table T x ≡ T → Faults T cite l (leaf_duties x) fault)
   leaf_faults = if_err r (λ fault h T over.

@@ -29,6 +29,7 @@ same-equal (x ∷ g) (y ∷ h) e =
     λ i. same_signed-true x y p i ∷ same-equal g h q i
 
 module _ (T : List Position) (xs : List G.Signed) where
+  -- a list that forms itself is listed as a goal
   pub listed-goal : (h : List G.Signed) → are_in_table T xs ≡ true → same_goal xs (Some h) ≡ true
       → form T xs ≡ Some h → if_so no_goal (is_goal T xs) xs ≡ Ok h
   listed-goal h inside same formed =

@@ -88,6 +88,7 @@ module _ (T : List Position) (j k : Judge) (n : ℕ) (ls : List Line) (idle : is
       (do_all T j.goals.items (OfGoal j.entered (get_or j.goals.items j.entered []) ∷ []) ls) entry_here in
       grind (arith, nat_tests, parts.0)
 
+  -- a judge that passes the entry of a goal goes on as its lines lead
   pub pass_leads : (a b : ℕ) → LeadsOver T a b (stage_of j) ls (stage_of k)
   pass_leads a b =
       let is = between j idle in

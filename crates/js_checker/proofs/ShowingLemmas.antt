@@ -43,6 +43,7 @@ module _ (T : List Position) (a b : ℕ) (gs : List (List Signed)) where
   abbrev left_from : ℕ → List Duty
   left_from n = entry_duties n (drop n gs)
 
+  -- the duties from goal n on are that of goal n, and those from the next one on
   pub next_goal : (n : ℕ) → n < length gs → left_from n ≡ OfGoal n (get_or gs n []) ∷ left_from (n + 1)
   next_goal n h = ap (entry_duties n) (drop_more gs n [] h) ∙ omega_free where
     omega_free : entry_duties n (get_or gs n [] ∷ drop (n + 1) gs) ≡ OfGoal n (get_or gs n []) ∷ left_from (n + 1)

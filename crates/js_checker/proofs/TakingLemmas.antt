@@ -27,7 +27,7 @@ pub took_on : (c d e : Checker) (xs ys zs : List Line) → Took c d xs → Took 
 took_on c d e xs ys zs f g same ls h =
     subst (StandsFor e) (append_assoc ls xs ys ∙ ap (λ z. ls ++ z) same) (g (ls ++ xs) (f ls h))
 
--- of the same lines
+-- lines that were taken are taken as an equal list
 pub took_same : (c d : Checker) (xs zs : List Line) → Took c d xs → xs ≡ zs → Took c d zs
 took_same c d xs zs f same = subst (Took c d) same f
 
@@ -39,7 +39,7 @@ took_stopped c d fault xs ys zs e f same ls h =
     (stopped_stands (table_of d) (premise_of d) (conclusion_of d) d.fault fault (stage_of d.judge) d.lines (ls ++ xs)
     ys e (f ls h))
 
--- the fault tells the verdict, whatever comes
+-- the fault gives the verdict, whatever comes
 pub took_told : (c d : Checker) (fault : CheckFault) (xs : List Line) → fault_of d ≡ Some fault → IsSameQuestion c d
     → Took c d xs → (ls more : List Line) → StandsFor c ls
     → Tells fault (verdict (table_of c) (premise_of c) (conclusion_of c) (ls ++ (xs ++ more)))
@@ -52,7 +52,7 @@ took_told c d fault xs e same f ls more h =
     (subst (λ a. Tells fault (verdict (table_of d) a (conclusion_of c) (ls ++ (xs ++ more)))) same.premise
     (subst (λ b. Tells fault (verdict (table_of d) (premise_of d) b (ls ++ (xs ++ more)))) same.conclusion told))
 
--- the same of what is answered
+-- a fault that is answered is the verdict, whatever lines follow
 pub all_told : {A : Type 0} (c d : Checker) (xs : List Line) (r : Result A CheckFault)
     → IfErr r (λ fault. fault_of d ≡ Some fault) → IsSameQuestion c d → Took c d xs
     → IfErr r (λ fault. (ls more : List Line) → StandsFor c ls

@@ -1,4 +1,4 @@
--- What a fault tells of a verdict.
+-- What a fault says of a verdict.
 use Rattle.std.specs.Prelude.{◌≡◌, ℕ, ⊤}
 use Rattle.verdicts.specs.Verdict.{Verdict, Rejected}
 use Rattle.js_rules.specs.RuleView.{rule_view}
@@ -12,7 +12,7 @@ abbrev pub fault_at : ℕ → RuleFault → CheckFault
 fault_at k (R.Breaks r) = F.Rejected k (rule_view r)
 fault_at k R.Memory = F.Memory
 
--- the verdict is what the fault tells; want of memory tells nothing
+-- the verdict is what the fault says; want of memory says nothing
 abbrev pub Tells : CheckFault → Verdict → Type 0
 Tells (F.Rejected k r) v = v ≡ Rejected k r
 Tells F.Memory v = ⊤

@@ -9,7 +9,7 @@ ghost use Rattle.js_checker.specs.Props.{IsWellUnless-prop};
 use crate::entries::find_entries;
 use crate::fault::{CheckFault, fault_at};
 use crate::judge::Judge;
-use crate::piece::{Piece, cut_entries, lines_before_end, lines_before_entries};
+use crate::piece::{Piece, cut_entries, lines_before_entries, lines_to_deal};
 use crate::question::Question;
 use js_algebra::{Core, Pos};
 use js_doc::Memory;
@@ -114,7 +114,8 @@ impl<'a> Checker<'a> {
     /// Takes lines as `take` does, one after another, up to the first fault. One worker does just that. Several check
     /// entries at once: the lines from the first one that enters a goal up to `end` are cut before each that enters
     /// one, the pieces are dealt, and what was found of them is joined in their order. From the first piece on that
-    /// isn't a whole entry, lines are taken one after another.
+    /// isn't a whole entry, lines are taken one after another. A last entry that may go on, and is longer than the
+    /// lines before it, isn't dealt.
     pub fn take_all<R: Threads + Sync, G: Gate + Sync>(
         &mut self,
         workers: &Workers<'_, R, G>,
@@ -145,7 +146,7 @@ impl<'a> Checker<'a> {
         }
         let (head, rest) = lines.split_at(lines_before_entries(lines));
         self.take_each(alloc, head)?;
-        let (entries, tail) = rest.split_at(lines_before_end(rest));
+        let (entries, tail) = rest.split_at(lines_to_deal(rest));
         self.take_entries(workers, alloc, entries)?;
         self.take_each(alloc, tail)
     }
@@ -183,7 +184,7 @@ impl<'a> Checker<'a> {
         ensures bound { lines_of self.new ≤ lines_of self.old + length lines.now }
         ensures question { IsSameQuestion self.old self.new }
     {
-        if !self.judge.is_between() {
+        if lines.is_empty() || !self.judge.is_between() {
             return self.take_each(alloc, lines);
         }
         let Ok(pieces) = cut_entries(alloc, lines) else {

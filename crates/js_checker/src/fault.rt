@@ -12,7 +12,7 @@ pub enum CheckFault {
     /// The number of a line, from 1, and the number of the least rule that it breaks.
     #[error("a line breaks a rule")]
     Rejected(u64, u8),
-    /// Memory was asked for and refused.
+    /// Memory was requested and refused.
     #[error("out of memory")]
     Memory,
 }

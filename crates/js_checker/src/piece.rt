@@ -25,8 +25,23 @@ pub(crate) fn lines_before_entries(lines: &[CertLine]) -> usize
     lines.len()
 }
 
+/// How many lines are dealt to workers: those before the first line `end`. Where there is none, the last entry may go
+/// on behind the lines, and then its lines are judged once more, one by one; so it is dealt only where it is no longer
+/// than what comes before it.
+pub(crate) fn lines_to_deal(lines: &[CertLine]) -> usize
+    ensures { result ≤ length lines.now }
+{
+    let end = lines_before_end(lines);
+    let last = lines_before_last_entry(lines);
+    if end == lines.len() && end - last > last {
+        last
+    } else {
+        end
+    }
+}
+
 /// How many lines come before the first line `end`.
-pub(crate) fn lines_before_end(lines: &[CertLine]) -> usize
+fn lines_before_end(lines: &[CertLine]) -> usize
     ensures { result ≤ length lines.now }
 {
     for i in 0..lines.len() {
@@ -35,6 +50,18 @@ pub(crate) fn lines_before_end(lines: &[CertLine]) -> usize
         }
     }
     lines.len()
+}
+
+/// How many lines come before the last one that enters a goal; none, where there is no such line.
+fn lines_before_last_entry(lines: &[CertLine]) -> usize
+    ensures { result ≤ length lines.now }
+{
+    for i in (0..lines.len()).rev() {
+        if enters_goal(&lines[i]) {
+            return i;
+        }
+    }
+    0
 }
 
 /// The lines, cut before each one that enters a goal.
@@ -53,7 +80,7 @@ pub(crate) fn cut_entries(alloc: Global, lines: &[CertLine]) -> Result<Vec<Piece
     Ok(pieces)
 }
 
-/// The lines as a piece, with the number that the first of them tells.
+/// The lines as a piece, with the number that the first of them states.
 fn piece_of(lines: &[CertLine]) -> Piece<'_>
     ensures { result.lines.now ≡ lines.now }
 {

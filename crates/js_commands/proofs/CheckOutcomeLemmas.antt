@@ -151,10 +151,10 @@ module _ (told : Option Files) (first second certificate one two : List ℕ) (a 
     checking-judged v (bytes, h, e) =
         checking-bytes bytes (of_verdict v) h (inl (ap of_verdict (sym (same_judgement bytes v e))))
 
-    pub says-checked : (before after : ℕ) (c : Checking)
-        → CertificateSays es fs told (encode_utf8_all certificate) before after c
-        → CheckingSays told first second certificate before after c
-    says-checked before after C.Accepted (n, (bytes, h, e), included) = (
+    pub says-checked : (workers before after : ℕ) (c : Checking)
+        → CertificateSays es fs told (encode_utf8_all certificate) workers before after c
+        → CheckingSays told first second certificate workers before after c
+    says-checked workers before after C.Accepted (n, (bytes, h, e), included) = (
       n,
       checking-judged V.Accepted (bytes, h, e),
       record {
@@ -166,20 +166,20 @@ module _ (told : Option Files) (first second certificate one two : List ℕ) (a 
         included = included a b x y;
       },
     )
-    says-checked before after (C.Rejected line rule) (n, judged) =
+    says-checked workers before after (C.Rejected line rule) (n, judged) =
         (n, checking-judged (V.Rejected line rule) judged, tt)
-    says-checked before after C.TooLong (n, (bytes, h, long)) =
+    says-checked workers before after C.TooLong (n, (bytes, h, long)) =
         (n, checking-bytes bytes O.TooLong h (inr (long, refl)), tt)
-    says-checked before after C.ReadFault rose = rose
-    says-checked before after (C.FirstRefused words) says = absurd says
-    says-checked before after (C.SecondRefused words) says = absurd says
+    says-checked workers before after C.ReadFault rose = rose
+    says-checked workers before after (C.FirstRefused words) says = absurd says
+    says-checked workers before after (C.SecondRefused words) says = absurd says
 
 -- a count that is as it was at two calls before
-pub says-after : (told : Option Files) (first second certificate : List ℕ) (before mid after : ℕ) (c : Checking)
-    → mid ≡ before → CheckingSays told first second certificate mid after c
-    → CheckingSays told first second certificate before after c
-says-after told first second certificate before mid after c e says =
-    subst (λ n. CheckingSays told first second certificate n after c) e says
+pub says-after : (told : Option Files) (first second certificate : List ℕ) (workers before mid after : ℕ)
+    (c : Checking) → mid ≡ before → CheckingSays told first second certificate workers mid after c
+    → CheckingSays told first second certificate workers before after c
+says-after told first second certificate workers before mid after c e says =
+    subst (λ n. CheckingSays told first second certificate workers n after c) e says
 
 -- two schemas were begun, and then the third file, or no other
 pub begins_three : (told : Option Files) (one two three : List ℕ) (before mid late after : List (List ℕ))

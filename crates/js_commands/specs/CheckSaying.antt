@@ -3,7 +3,8 @@ use Rattle.std.specs.Prelude.{◌≡◌, ◌⊎◌, ℕ, List, [], ◌∷◌, �
 use Rattle.schemas.specs.Entry.{Entry}
 use Rattle.js_outside.specs.Counts.{Rose}
 use Rattle.js_outside.specs.Told.{Files}
-use Rattle.js_certificate.specs.FileVerdicts.{IsTooLong}
+use Rattle.js_certificate.specs.FileVerdicts.{IsTooLong, SameOrRose}
+use Rattle.js_certificate.specs.ReadBehind.{IsReadToLine}
 use Rattle.js_certificate.specs.declared.file.FileVerdict.TheVariants as V
 use Rattle.js_inclusion.specs.Meaning.{AreIncluded}
 use Rattle.js_inclusion.specs.Judging.{IsJudgementOf}
@@ -21,23 +22,34 @@ outcome_of (C.SecondRefused words) = O.SecondRefused (string_bytes words)
 outcome_of C.TooLong = O.TooLong
 outcome_of C.ReadFault = O.ReadFault
 
--- a fault is counted where a file couldn't be read, and else the answer is what the files come to
-abbrev pub CheckingSays : Option Files → (first second certificate : List ℕ) → ℕ → ℕ → Checking → Type 0
-CheckingSays told first second certificate before after C.ReadFault = Rose before after
-CheckingSays told first second certificate before after c =
+-- a fault is counted where a file couldn't be read, and else the answer is what the files come to. A line before a read
+-- that failed may be rejected, where there are several workers
+abbrev pub CheckingSays : Option Files → (first second certificate : List ℕ) → (workers : ℕ) → ℕ → ℕ → Checking
+    → Type 0
+CheckingSays told first second certificate workers before after C.ReadFault = Rose before after
+CheckingSays told first second certificate workers before after (C.Rejected line rule) =
+    SameOrRose workers before after × IsChecking told first second certificate (O.Rejected line rule)
+    × MeansFor told first second certificate (O.Rejected line rule)
+CheckingSays told first second certificate workers before after c =
     (after ≡ before) × IsChecking told first second certificate (outcome_of c)
     × MeansFor told first second certificate (outcome_of c)
 
 -- the same of a certificate's file, which is given by its UTF-8 bytes, for two schemas that were read
-abbrev pub CertificateSays : List Entry → List Entry → Option Files → (name : List ℕ) → ℕ → ℕ → Checking → Type 0
-CertificateSays es fs told name before after C.Accepted =
+abbrev pub CertificateSays : List Entry → List Entry → Option Files → (name : List ℕ) → (workers : ℕ) → ℕ → ℕ
+    → Checking → Type 0
+CertificateSays es fs told name workers before after C.Accepted =
     (after ≡ before) × IsJudgementOf es fs told name V.Accepted × AreIncluded es fs
-CertificateSays es fs told name before after (C.Rejected line rule) =
-    (after ≡ before) × IsJudgementOf es fs told name (V.Rejected line rule)
-CertificateSays es fs told name before after C.TooLong = (after ≡ before) × IsTooLong told name
-CertificateSays es fs told name before after C.ReadFault = Rose before after
-CertificateSays es fs told name before after (C.FirstRefused words) = ⊥
-CertificateSays es fs told name before after (C.SecondRefused words) = ⊥
+CertificateSays es fs told name workers before after (C.Rejected line rule) =
+    SameOrRose workers before after × IsJudgementOf es fs told name (V.Rejected line rule)
+CertificateSays es fs told name workers before after C.TooLong = (after ≡ before) × IsTooLong told name
+CertificateSays es fs told name workers before after C.ReadFault = Rose before after
+CertificateSays es fs told name workers before after (C.FirstRefused words) = ⊥
+CertificateSays es fs told name workers before after (C.SecondRefused words) = ⊥
+
+-- where a line is rejected, so far is the certificate's file read, which is given by its UTF-8 bytes
+abbrev pub IsReadWith : Option Files → (name : List ℕ) → Option (List ℕ) → (workers : ℕ) → Checking → Type 0
+IsReadWith told name left workers (C.Rejected line rule) = IsReadToLine told name left workers line
+IsReadWith told name left workers c = Unit {0}
 
 -- the file is begun, unless memory is refused before
 abbrev pub MayBegin : (name : List ℕ) → (before after : List (List ℕ)) → Type 0

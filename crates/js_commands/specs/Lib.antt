@@ -9,10 +9,12 @@ pub mod CheckMeaning
 pub mod NormOutcome
 pub mod GenOutcome
 pub mod GenMeaning
--- What the callers of this crate cite of the crates below: how schemas compare, and verdicts on files.
+-- What the callers of this crate cite of the crates below: how schemas compare, verdicts on files, and how far one is
+-- read where a line is rejected.
 pub use Rattle.js_inclusion.specs.Comparison
 pub use Rattle.js_inclusion.specs.Meaning
 pub use Rattle.js_certificate.specs.FileVerdicts
+pub use Rattle.js_certificate.specs.ReadBehind
 -- What the calls answer.
 pub mod IncludeSaying
 pub mod ValidSaying

@@ -3,7 +3,8 @@
 ghost use Rattle.std.specs.Prelude.{◌≡◌, [], ◌∷◌, IfOk, OnErr, encode_utf8_all};
 ghost use Rattle.js_guard.specs.RankedView.{entries_of};
 ghost use Rattle.js_input.specs.OrderOfFiles.{BeginsInOrder};
-ghost use Rattle.js_commands.specs.CheckSaying.{CheckingSays, CertificateSays, MayBegin};
+ghost use Rattle.js_certificate.specs.FileVerdicts.{SameOrRose};
+ghost use Rattle.js_commands.specs.CheckSaying.{CheckingSays, CertificateSays, IsReadWith, MayBegin};
 
 use js_certificate::{FileFault, FileVerdict};
 use js_doc::{Memory, Str};
@@ -11,7 +12,9 @@ use js_guard::RankedSchema;
 use js_inclusion::judge_file;
 use js_input::{SchemaInput, load_schema};
 use js_outside::Shelf;
+use js_par::{Gate, Workers};
 use std::alloc::Global;
+use std::thread::Threads;
 
 /// What two schema files and a certificate's file come to.
 #[derive(Drop)]
@@ -36,9 +39,11 @@ pub enum Checking {
 }
 
 /// Judges the certificate of one file for the schemas of two others. The first schema is read first, the second only
-/// where the first is one, and the certificate only where both are, and not behind the piece that has a line which is
-/// rejected.
-pub fn check_files<H: Shelf>(
+/// where the first is one, and the certificate only where both are, and not behind the batch that has a line which is
+/// rejected. Where a read of the certificate fails, the lines before it are judged: a rejection among them is the
+/// answer.
+pub fn check_files<R: Threads + Sync, G: Gate + Sync, H: Shelf>(
+    workers: &Workers<'_, R, G>,
     alloc: Global,
     shelf: &mut H,
     first: &Str,
@@ -46,9 +51,11 @@ pub fn check_files<H: Shelf>(
     certificate: &Str,
 ) -> Result<Checking, Memory>
     ensures told { H.told shelf.new ≡ H.told shelf.old }
-    ensures says { IfOk result (CheckingSays (H.told shelf.old) first.now second.now certificate.now
+    ensures says { IfOk result (CheckingSays (H.told shelf.old) first.now second.now certificate.now workers.now.count
         (H.faults shelf.old) (H.faults shelf.new)) }
-    ensures memory { OnErr result (H.faults shelf.new ≡ H.faults shelf.old) }
+    ensures memory { OnErr result (SameOrRose workers.now.count (H.faults shelf.old) (H.faults shelf.new)) }
+    ensures read { IfOk result (IsReadWith (H.told shelf.old) (encode_utf8_all certificate.now) (H.left shelf.new)
+        workers.now.count) }
     ensures begun { BeginsInOrder (H.told shelf.old)
         (encode_utf8_all first.now ∷ encode_utf8_all second.now ∷ encode_utf8_all certificate.now ∷ [])
         (H.begun shelf.old) (H.begun shelf.new) }
@@ -63,11 +70,12 @@ pub fn check_files<H: Shelf>(
         Some(SchemaInput::Refused(words)) => return Ok(Checking::SecondRefused(words)),
         None => return Ok(Checking::ReadFault),
     };
-    check_certificate(alloc, shelf, certificate, &a, &b)
+    check_certificate(workers, alloc, shelf, certificate, &a, &b)
 }
 
 /// Judges the certificate of a file for two schemas.
-fn check_certificate<H: Shelf>(
+fn check_certificate<R: Threads + Sync, G: Gate + Sync, H: Shelf>(
+    workers: &Workers<'_, R, G>,
     alloc: Global,
     shelf: &mut H,
     certificate: &Str,
@@ -76,11 +84,13 @@ fn check_certificate<H: Shelf>(
 ) -> Result<Checking, Memory>
     ensures told { H.told shelf.new ≡ H.told shelf.old }
     ensures says { IfOk result (CertificateSays (entries_of a.now) (entries_of b.now) (H.told shelf.old)
-        (encode_utf8_all certificate.now) (H.faults shelf.old) (H.faults shelf.new)) }
-    ensures memory { OnErr result (H.faults shelf.new ≡ H.faults shelf.old) }
+        (encode_utf8_all certificate.now) workers.now.count (H.faults shelf.old) (H.faults shelf.new)) }
+    ensures memory { OnErr result (SameOrRose workers.now.count (H.faults shelf.old) (H.faults shelf.new)) }
+    ensures read { IfOk result (IsReadWith (H.told shelf.old) (encode_utf8_all certificate.now) (H.left shelf.new)
+        workers.now.count) }
     ensures begun { MayBegin (encode_utf8_all certificate.now) (H.begun shelf.old) (H.begun shelf.new) }
 {
-    match judge_file(alloc, shelf, certificate, a, b) {
+    match judge_file(workers, alloc, shelf, certificate, a, b) {
         Ok(FileVerdict::Accepted) => Ok(Checking::Accepted),
         Ok(FileVerdict::Rejected(line, rule)) => Ok(Checking::Rejected(line, rule)),
         Err(FileFault::TooLong) => Ok(Checking::TooLong),

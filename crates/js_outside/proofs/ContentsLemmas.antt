@@ -196,7 +196,7 @@ place_of-within (file ∷ files) name =
     within-by (place_of files name) (length files) (is_gt (slice_cmp nat_cmp name file.0))
     (place_of-within files name)
 
--- two tests that don't both pass may be asked in either order
+-- two tests that don't both pass may be made in either order
 either-first : {X : Type 0} (p r : Bool) (x y z : X) → (p ≡ true → r ≡ true → ⊥)
     → (if p then x else (if r then y else z)) ≡ (if r then y else (if p then x else z))
 either-first true true x y z apart = absurd (apart refl refl)
@@ -213,7 +213,7 @@ same-else false x y z h = sym (h refl)
 abbrev pub told-after : List ℕ → List ℕ → List ℕ → Option (List ℕ) → Option (List ℕ)
 told-after name bytes asked before = if bytes_eq asked name then Some bytes else before
 
--- what a map tells of each name after one file was set, by how the name compares with that of the first file
+-- what a map has for each name after one file was set, by how the name compares with that of the first file
 contents-by : (file : List ℕ × List ℕ) (files : Entries) (name bytes asked : List ℕ)
     → contents (with_file files name bytes) asked ≡ told-after name bytes asked (contents files asked)
     → (o : Ordering) → slice_cmp nat_cmp name file.0 ≡ o

@@ -38,7 +38,7 @@ misses-missing files names name missing =
     ∙ ap (λ o. count_by (λ n. is_none (files n)) names + cond (is_none o) 1 0) missing)
     ∙ min-more (count_by (λ n. is_none (files n)) names)
 
--- beginning a file keeps it so
+-- `begin` keeps it that each fault is a name that isn't there
 pub FaultsAreMisses-begins : {T : Type 0} (old new : ShelfState) (name : List ℕ) (r : Result T BeginFault)
     → FaultsAreMisses old → BeginsIn old new name r → FaultsAreMisses new
 FaultsAreMisses-begins old new name (Ok x) were (there, is) =

@@ -25,6 +25,7 @@ impl Model for BegunNames {
 }
 
 impl BegunNames {
+    /// No names, as a shelf has them before its first call of `begin`.
     pub fn new() -> BegunNames
         ensures { result.names ≡ [] }
     {

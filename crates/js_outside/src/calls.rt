@@ -22,12 +22,14 @@ impl Model for CallList {
 }
 
 impl CallList {
+    /// The calls of these numbers, counted from 0, in any order and with repeats.
     pub fn from_vec(calls: Vec<u64>) -> CallList
         ensures { result ≡ calls.items }
     {
         CallList { calls }
     }
 
+    /// Gives the vector back, without a copy.
     pub fn into_vec(self) -> Vec<u64>
         ensures { result.items ≡ self }
     {
@@ -35,6 +37,7 @@ impl CallList {
         calls
     }
 
+    /// Whether the call of that number is listed, in time in proportion to the list.
     pub fn contains(&self, call: u64) -> bool
         ensures { result ≡ list_any (λ listed. listed == call) self.now }
     {

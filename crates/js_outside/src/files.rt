@@ -33,6 +33,7 @@ impl Model for FileMap {
 }
 
 impl FileMap {
+    /// A map without files, which takes no memory.
     pub fn new(alloc: Global) -> FileMap
         ensures { result ≡ [] }
     {

@@ -1,8 +1,8 @@
 //! The outside: where schemas are read from and where a report is written, with the faults of both.
 //!
 //! A call fails only where the count of faults of its shelf or sink rose in it. Over memory a call does exactly what
-//! `specs/InMemory.antt` says, takes no memory, and costs the bytes that it moves. The real files and standard output
-//! tell no content.
+//! `specs/InMemory.antt` says, takes no memory, and costs the bytes that it moves. The content of the real files and of
+//! standard output is unknown to contracts.
 #![tactic(auto)]
 
 mod begun;

@@ -130,6 +130,7 @@ impl Model for MemoryShelf {
 }
 
 impl MemoryShelf {
+    /// A shelf of these files, none of them begun.
     pub fn new(files: FileMap) -> MemoryShelf
         ensures { result ≡ new_shelf files }
     {
@@ -198,6 +199,7 @@ impl Model for FailingShelf {
 }
 
 impl FailingShelf {
+    /// A shelf of these files, none of them begun, on which no call was made yet.
     pub fn new(files: FileMap, fail: CallList) -> FailingShelf
         ensures { result ≡ record { shelf = new_shelf files; plan = record { fail = fail; made = 0 } } }
     {
@@ -268,6 +270,7 @@ impl Model for CutShelf {
 }
 
 impl CutShelf {
+    /// A shelf of these files, none of them begun. `piece` is in bytes; a read of none would say that a file ends.
     pub fn new(files: FileMap, piece: u32) -> CutShelf
         requires { 0 < piece }
         ensures { result ≡ record { shelf = new_shelf files; piece = piece } }

@@ -1,5 +1,5 @@
-//! The file system and standard output, as a shelf and a sink. They tell no content: what the system gives and takes
-//! is trusted.
+//! The file system and standard output, as a shelf and a sink. No clause speaks of their content: what the system gives
+//! and takes is trusted.
 
 ghost use Rattle.std.specs.Prelude.{◌≡◌, []};
 
@@ -21,6 +21,7 @@ pub struct FileShelf<'a, R: Files> {
 }
 
 impl<'a, R: Files> FileShelf<'a, R> {
+    /// A shelf of the system's files. It opens none before `begin`.
     pub fn new(rt: &'a R) -> FileShelf<'a, R>
         ensures faults { ⟦<FileShelf<'a, R> as Shelf>⟧.faults result ≡ 0 }
         ensures begun { ⟦<FileShelf<'a, R> as Shelf>⟧.begun result ≡ [] }
@@ -85,6 +86,7 @@ pub struct StdoutSink<'a, R: Print> {
 }
 
 impl<'a, R: Print> StdoutSink<'a, R> {
+    /// A sink at standard output. It writes nothing before `write`.
     pub fn new(rt: &'a R) -> StdoutSink<'a, R>
         ensures { ⟦<StdoutSink<'a, R> as Sink>⟧.faults result ≡ 0 }
     {

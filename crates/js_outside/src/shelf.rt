@@ -8,13 +8,13 @@ ghost use Rattle.js_outside.specs.Told.{Files, FileIsLeft, NothingIsLeft};
 
 use crate::faults::{BeginFault, Failed};
 
-/// A source of files. It may tell its files, and then clauses say what a read gives; the real file system tells
-/// nothing. A file is begun by its name and read from its front.
+/// A source of files. Its files may be known to contracts, and then clauses say what a read gives; those of the real
+/// file system aren't. A file is begun by its name and read from its front.
 pub trait Shelf {
-    // The files, by the UTF-8 bytes of their names, where they are told.
+    // The files, by the UTF-8 bytes of their names, where they are known.
     ghost told: { Self → Option Files };
 
-    // What is left of the file that was begun, where files are told.
+    // What is left of the file that was begun, where files are known.
     ghost left: { Self → Option (List ℕ) };
 
     // How many faults there were. The count stands still at its last value.
@@ -41,6 +41,6 @@ pub trait Shelf {
         ensures failed { OnErr result (Rose (faults self.old) (faults self.new)) }
         ensures named { begun self.new ≡ begun self.old };
 
-    // What is left is told exactly where the files are.
+    // What is left is known exactly where the files are.
     ghost both_told: { (s : Self) → is_some (left s) ≡ is_some (told s) };
 }

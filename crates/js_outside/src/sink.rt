@@ -7,9 +7,9 @@ ghost use Rattle.js_outside.specs.Counts.{Rose};
 
 use crate::faults::Failed;
 
-/// A place for bytes. It may tell what was written to it; standard output tells nothing.
+/// A place for bytes. What was written to it may be known to contracts; what standard output took isn't.
 pub trait Sink {
-    // The bytes so far, where they are told.
+    // The bytes so far, where they are known.
     ghost written: { Self → Option (List ℕ) };
 
     // How many faults there were. The count stands still at its last value.

@@ -70,6 +70,6 @@ abbrev pub place_words : List Entry → List ℕ → List ℕ
 place_words es [] = []
 place_words es (e ∷ l) = (32 ∷ quoted (pointer_text (pointer_at es e))) ++ place_words es l
 
--- a cycle of entries that are asked of the same document
+-- a cycle of entries that apply to the same document
 abbrev pub cycle_words : List Entry → List ℕ → List ℕ
 cycle_words es l = codes "cycle" ++ place_words es l

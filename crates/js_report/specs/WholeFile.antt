@@ -9,7 +9,7 @@ use Rattle.js_report.specs.declared.reading.FileFault.TheVariants.{TooLong, Read
 abbrev pub longest_file : ℕ
 longest_file = 16777216
 
--- the file of the name has these bytes, where files are told
+-- the file of the name has these bytes, where files are known
 abbrev pub HasBytes : Option Files → List ℕ → List ℕ → Type 0
 HasBytes None name bytes = Unit {0}
 HasBytes (Some files) name bytes = files name ≡ Some bytes
@@ -18,7 +18,7 @@ HasBytes (Some files) name bytes = files name ≡ Some bytes
 abbrev pub IsWholeFile : Option Files → List ℕ → List ℕ → Type 0
 IsWholeFile told name bytes = (length bytes ≤ longest_file) × HasBytes told name bytes
 
--- the file of the name has too many bytes, where files are told
+-- the file of the name has too many bytes, where files are known
 abbrev pub IsTooLong : Option Files → List ℕ → Type 0
 IsTooLong told name = (bytes : List ℕ) × HasBytes told name bytes × (longest_file < length bytes)
 

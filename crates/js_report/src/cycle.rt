@@ -1,4 +1,4 @@
-//! The words of a cycle of entries that are asked of the same document.
+//! The words of a cycle of entries that apply to the same document.
 
 ghost use Rattle.std.specs.Prelude.{◌≡◌, ℕ, ◌<◌, length, get_or, IfOk, string_bytes};
 ghost use Rattle.js_schema.specs.SchemaView.{schema_view};

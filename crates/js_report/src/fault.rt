@@ -11,7 +11,7 @@ use js_keywords::SchemaFault;
 use js_pattern::PatternFault;
 use std::alloc::Global;
 
-/// What is wrong in a schema, and where. Want of memory has no words: it is told as itself.
+/// What is wrong in a schema, and where. Want of memory has no words: it is an error of its own.
 pub fn schema_words(alloc: Global, fault: &SchemaFault) -> Result<String, Memory>
     ensures { IfOk result (λ s. option_map R.schema_words (fault_view fault.now) ≡ Some (string_bytes s)) }
 {

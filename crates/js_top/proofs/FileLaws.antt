@@ -16,7 +16,7 @@ use Rattle.js_commands.specs.NormOutcome as N
 use Rattle.js_commands.specs.ValidOutcome as V
 use Rattle.js_commands.specs.ValidOutcome.{Outcome}
 use Rattle.js_report.specs.Lines.{line}
-use Rattle.js_top.specs.Names.{of_sat, of_include, of_compared, of_check, of_gen, sat_name, compared_names, IsSat, IsInclude, IsCompared, IsGen}
+use Rattle.js_top.specs.Names.{of_sat, of_include, of_compared, of_check, of_gen, sat_name, compared_names, IsSat, IsInclude, IsCompared, IsCheckBySeveral, IsGen}
 use Rattle.js_top.specs.Report.{Report, printed, finding_of, finding_status, answer_report, compared_report, IsReadBack, IsOutcomeReadBack, IsComparedReport, IsReportOf, outcome_report, checked_report, listed_report, IsReport}
 use Rattle.js_top.specs.Meaning.{AreNamed, WhereTold, PassLimit, IsCounterexample, IsLimit, IsAsked, IsWitness, IsRefutation, IsRefusal}
 use Rattle.js_top.specs.Correct.{IsCorrect}
@@ -29,6 +29,7 @@ use Rattle.js_top.specs.declared.status.Status.{Status}
 use Rattle.js_top.specs.declared.status.Status.TheVariants as S
 use Rattle.js_top.proofs.MeaningLaws.{finding_in, Shows, status-shows, passes-report, answer-one, answer-limited, counterexample-witness, certificate-refutation}
 use Rattle.js_top.proofs.CheckingLaws.{told-verdict}
+use Rattle.js_top.proofs.Includes.{counts-made}
 
 -- the names of what is compared
 
@@ -295,9 +296,21 @@ pub prepared-part : (told : Option Files) (words : List (List ℕ)) (before afte
     → PreparedSays told words before after p
     → (Rose before after × (report_of p ≡ printed (codes "readfault") S.ReadFault))
     ⊎ ((after ≡ before) × IsReport told words (report_of p))
-prepared-part told words before after Usage says = inr (says.0, usage-report told words says.1)
+    ⊎ (Rose before after × IsCheckBySeveral words × ((report_of p).status ≡ S.Other)
+    × IsReport told words (report_of p))
+prepared-part told words before after Usage says = inr (inl (says.0, usage-report told words says.1))
 prepared-part told words before after ReadFault says = inl (says.0, refl)
-prepared-part told words before after (Made bytes s) says = inr (says.0, says.2)
+prepared-part told words before after (Made bytes s) says =
+    go (counts-made (command words) s before after says.0) where
+      r : Report
+      r = record { text = bytes.items; status = s }
+
+      go : (after ≡ before) ⊎ (Rose before after × IsCheckBySeveral words × (s ≡ S.Other))
+          → (Rose before after × (r ≡ printed (codes "readfault") S.ReadFault))
+          ⊎ ((after ≡ before) × IsReport told words r)
+          ⊎ (Rose before after × IsCheckBySeveral words × (s ≡ S.Other) × IsReport told words r)
+      go (inl same) = inr (inl (same, says.2))
+      go (inr (rose, several, other)) = inr (inr (rose, several, other, says.2))
 
 -- the report is correct
 

@@ -1,5 +1,5 @@
 -- What is written for `check`, and what it means for the schemas and the certificate.
-use Rattle.std.specs.Prelude.{◌≡◌, ◌⊎◌, ◌<◌, ℕ, List, ◌∷◌, ◌++◌, length, Option, Some, codes, decimal}
+use Rattle.std.specs.Prelude.{◌≡◌, ◌⊎◌, ◌<◌, ℕ, List, ◌∷◌, ◌++◌, length, Option, Some, None, codes, decimal, encode_utf8_all}
 use Rattle.std.specs.Io.KnownBytes.{Appends}
 use Rattle.documents.specs.Json.{Json}
 use Rattle.draft06.specs.Validity.{Included}
@@ -7,7 +7,9 @@ use Rattle.verdicts.specs.Verdict.{Verdict, Accepted, Rejected}
 use Rattle.js_keywords.specs.Reading.{rules}
 use Rattle.js_outside.specs.Told.{Files}
 use Rattle.js_input.specs.ToldTwice.{AreFiles}
+use Rattle.js_words.specs.Commands.{Command, Sat, Include, Valid, Check, Norm, Gen, command}
 use Rattle.js_commands.specs.FileVerdicts.{longest_file}
+use Rattle.js_commands.specs.ReadBehind.{IsReadToLine}
 use Rattle.js_commands.specs.CheckOutcome.{judgement_of}
 use Rattle.js_commands.specs.CheckMeaning.{AreChecked, IsRefusedAfterFirst}
 use Rattle.js_top.specs.Names.{check_names}
@@ -66,6 +68,29 @@ pub record IsToldTooLong (bytes : List ℕ) (old new : Option (List ℕ)) (statu
 abbrev pub WritesRejection : Option Files → List (List ℕ) → Option (List ℕ) → Option (List ℕ) → Type 0
 WritesRejection told words old new =
     (k : ℕ) × (r : ℕ) × IsVerdictWritten told words old new (Rejected k r)
+
+-- The line of a rejection, and how far the certificate's file is read then, of which so much is left: where files are
+-- told, what was read before the last piece has fewer whole lines than its number, and at most a batch more for several
+-- workers (`IsReadTo` of `js_certificate`).
+pub record IsReadToRejection (told : Option Files) (certificate : List ℕ) (workers : ℕ) (left old new : Option (List ℕ))
+    : Type 0 where
+  pub number : ℕ
+  pub rule : ℕ
+  pub written : Appends old new (line (verdict_words (Rejected number rule)))
+  pub read : IsReadToLine told (encode_utf8_all certificate) left workers number
+
+abbrev pub IsReadNoFurtherOf : Option Files → Option Command → (left old new : Option (List ℕ)) → Type 0
+IsReadNoFurtherOf told None left old new = Unit {0}
+IsReadNoFurtherOf told (Some (Sat a w)) left old new = Unit {0}
+IsReadNoFurtherOf told (Some (Include a b w)) left old new = Unit {0}
+IsReadNoFurtherOf told (Some (Valid a d)) left old new = Unit {0}
+IsReadNoFurtherOf told (Some (Check a b c w)) left old new = IsReadToRejection told c w left old new
+IsReadNoFurtherOf told (Some (Norm a)) left old new = Unit {0}
+IsReadNoFurtherOf told (Some (Gen f n w)) left old new = Unit {0}
+
+-- for the words of `check`
+abbrev pub IsReadNoFurther : Option Files → List (List ℕ) → (left old new : Option (List ℕ)) → Type 0
+IsReadNoFurther told words left old new = IsReadNoFurtherOf told (command words) left old new
 
 -- the first schema is read and the second is refused, with this line
 abbrev pub RefusesOther : Files → Files → (first second text : List ℕ) → Type 0

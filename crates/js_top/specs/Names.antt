@@ -1,5 +1,5 @@
 -- The names of files that the words give, for each command, and what `gen` is given.
-use Rattle.std.specs.Prelude.{ℕ, List, [], ◌∷◌, Option, Some, None, IsSome, encode_utf8_all}
+use Rattle.std.specs.Prelude.{ℕ, ◌<◌, List, [], ◌∷◌, Option, Some, None, IsSome, encode_utf8_all}
 use Rattle.families.specs.Families.{Family}
 use Rattle.js_outside.specs.Told.{Files}
 use Rattle.js_input.specs.OrderOfFiles.{Misses}
@@ -75,6 +75,16 @@ of_gen (Some (Norm a)) = None
 of_gen (Some (Gen f n w)) = Some (f, n)
 of_gen None = None
 
+-- how many workers judge a certificate; of other words none
+abbrev pub judges_of : Option Command → ℕ
+judges_of (Some (Sat a w)) = 0
+judges_of (Some (Include a b w)) = 0
+judges_of (Some (Valid a d)) = 0
+judges_of (Some (Check a b c w)) = w
+judges_of (Some (Norm a)) = 0
+judges_of (Some (Gen f n w)) = 0
+judges_of None = 0
+
 abbrev pub sat_name : List (List ℕ) → Option (List ℕ)
 sat_name words = of_sat (command words)
 
@@ -115,6 +125,10 @@ IsValid words = IsSome (valid_names words)
 -- the words are those of `check`
 abbrev pub IsCheck : List (List ℕ) → Type 0
 IsCheck words = IsSome (check_names words)
+
+-- by several workers, for which lines wait while others are read
+abbrev pub IsCheckBySeveral : List (List ℕ) → Type 0
+IsCheckBySeveral words = 1 < judges_of (command words)
 
 -- the words are those of `norm`
 abbrev pub IsNorm : List (List ℕ) → Type 0

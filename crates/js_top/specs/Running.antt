@@ -5,16 +5,24 @@ use Rattle.documents.specs.Json.{Json}
 use Rattle.js_outside.specs.Counts.{Rose}
 use Rattle.js_outside.specs.Told.{Files}
 use Rattle.js_report.specs.Written.{AppendsPrefix}
+use Rattle.js_top.specs.Names.{IsCheckBySeveral}
 use Rattle.js_top.specs.Report.{Report, printed, IsReport}
 use Rattle.js_top.specs.Meaning.{AreNamed, IsAsked, IsRefusal}
 use Rattle.js_top.specs.declared.status.Status.{Status}
-use Rattle.js_top.specs.declared.status.Status.TheVariants.{ReadFault}
+use Rattle.js_top.specs.declared.status.Status.TheVariants.{Other, ReadFault, Memory}
 
--- a prefix of the report: the one of a failed read where the shelf's count rose, and else the one of the files
+-- a fault of reading is told. But `check` by several workers judges the lines that wait before it, and where one of
+-- them is rejected that is told, or that memory was refused
+abbrev pub IsReadNoticed : List (List ℕ) → Status → Type 0
+IsReadNoticed words status = (status ≡ ReadFault) ⊎ (IsCheckBySeveral words × ((status ≡ Other) ⊎ (status ≡ Memory)))
+
+-- a prefix of the report: the one of a failed read where the shelf's count rose, and else the one of the files. Or the
+-- shelf's count rose for `check` by several workers, and a line that waited before the failed read is rejected
 abbrev pub WritesPart : Option Files → List (List ℕ) → ℕ → ℕ → Option (List ℕ) → Option (List ℕ) → Type 0
 WritesPart told words before after old new =
     (r : Report) × AppendsPrefix old new r.text
-    × ((Rose before after × (r ≡ printed (codes "readfault") ReadFault)) ⊎ ((after ≡ before) × IsReport told words r))
+    × ((Rose before after × (r ≡ printed (codes "readfault") ReadFault)) ⊎ ((after ≡ before) × IsReport told words r)
+    ⊎ (Rose before after × IsCheckBySeveral words × (r.status ≡ Other) × IsReport told words r))
 
 -- the whole report, with its status
 abbrev pub WritesReport : Option Files → List (List ℕ) → Option (List ℕ) → Option (List ℕ) → Status → Type 0

@@ -39,7 +39,20 @@ ghost use Rattle.js_top.specs.Report.{
   IsNormReport,
   IsGenReport,
 };
-ghost use Rattle.js_top.specs.Preparing.{PreparedSays, ReportSays, IsNoReadFault, IsPrintable, report_of};
+ghost use Rattle.js_commands.specs.FileVerdicts.{SameOrRose};
+ghost use Rattle.js_top.specs.Preparing.{
+  AsJudged,
+  CountsOf,
+  CountsRefused,
+  PreparedSays,
+  ReportSays,
+  ReportSaysBy,
+  IsReadToReport,
+  IsReadOf,
+  IsNoReadFault,
+  IsPrintable,
+  report_of,
+};
 ghost use Rattle.js_top.specs.declared.status.Status.TheVariants.{Other, Refused};
 
 use crate::finding::answer_text;
@@ -103,7 +116,9 @@ pub(crate) fn prepare<R: Threads + Sync, G: Gate + Sync, H: Shelf>(
 ) -> Result<Prepared, Memory>
     ensures told { H.told shelf.new ≡ H.told shelf.old }
     ensures says { IfOk result (PreparedSays (H.told shelf.old) words.now (H.faults shelf.old) (H.faults shelf.new)) }
-    ensures memory { OnErr result (H.faults shelf.new ≡ H.faults shelf.old) }
+    ensures memory { OnErr result (CountsRefused (command words.now) (H.faults shelf.old) (H.faults shelf.new)) }
+    ensures read { IfOk result (λ p. IsReadOf (H.told shelf.old) (command words.now) (H.left shelf.new)
+        (report_of p)) }
     ensures plain { IfOk result (λ x. (p : Plain) → is_plain p ≡ true → words.now ≡ words_of p
         → command words.now ≡ Some (meant p)) }
     ensures fileless { file_names words.now ≡ [] → H.faults shelf.new ≡ H.faults shelf.old }
@@ -117,7 +132,7 @@ pub(crate) fn prepare<R: Threads + Sync, G: Gate + Sync, H: Shelf>(
     }
 }
 
-/// The report of a command. The search goes to as many workers as it has; a certificate is judged by one thread.
+/// The report of a command. The search, or the entries of a certificate, go to as many workers as it has.
 fn prepare_command<R: Threads + Sync, G: Gate + Sync, H: Shelf>(
     rt: &R,
     alloc: Global,
@@ -127,9 +142,13 @@ fn prepare_command<R: Threads + Sync, G: Gate + Sync, H: Shelf>(
 ) -> Result<Prepared, Memory>
     requires { IsInRange (command_view command.now) }
     ensures told { H.told shelf.new ≡ H.told shelf.old }
-    ensures says { IfOk result (ReportSays (IsReportOf (H.told shelf.old) (Some (command_view command.now)))
-        (H.faults shelf.old) (H.faults shelf.new)) }
-    ensures memory { OnErr result (H.faults shelf.new ≡ H.faults shelf.old) }
+    ensures says { IfOk result (ReportSaysBy (CountsOf (Some (command_view command.now)))
+        (IsReportOf (H.told shelf.old) (Some (command_view command.now))) (H.faults shelf.old)
+        (H.faults shelf.new)) }
+    ensures memory { OnErr result (CountsRefused (Some (command_view command.now)) (H.faults shelf.old)
+        (H.faults shelf.new)) }
+    ensures read { IfOk result (λ p. IsReadOf (H.told shelf.old) (Some (command_view command.now)) (H.left shelf.new)
+        (report_of p)) }
     ensures fileless { files_of (Some (command_view command.now)) ≡ [] → H.faults shelf.new ≡ H.faults shelf.old }
     ensures made { files_of (Some (command_view command.now)) ≡ [] → IfOk result IsNoReadFault }
     ensures begun { BeginsInOrder (H.told shelf.old) (files_of (Some (command_view command.now)))
@@ -145,8 +164,9 @@ fn prepare_command<R: Threads + Sync, G: Gate + Sync, H: Shelf>(
             prepare_compared(&workers, alloc, shelf, first, Some(second))
         }
         Command::Valid(schema, document) => prepare_valid(alloc, shelf, schema, document),
-        Command::Check(first, second, certificate, _) => {
-            prepare_check(alloc, shelf, first, second, certificate)
+        Command::Check(first, second, certificate, count) => {
+            let workers = Workers::new(rt, gate, *count);
+            prepare_check(&workers, alloc, shelf, first, second, certificate)
         }
         Command::Norm(schema) => prepare_norm(alloc, shelf, schema),
         Command::Gen(kind, number, count) => {
@@ -205,7 +225,8 @@ fn prepare_valid<H: Shelf>(
 }
 
 /// The report of `check`: the certificate is judged only where both schemas are read.
-fn prepare_check<H: Shelf>(
+fn prepare_check<R: Threads + Sync, G: Gate + Sync, H: Shelf>(
+    workers: &Workers<'_, R, G>,
     alloc: Global,
     shelf: &mut H,
     first: &Str,
@@ -213,14 +234,17 @@ fn prepare_check<H: Shelf>(
     certificate: &Str,
 ) -> Result<Prepared, Memory>
     ensures told { H.told shelf.new ≡ H.told shelf.old }
-    ensures says { IfOk result (ReportSays (IsCheckReport (H.told shelf.old) first.now second.now certificate.now)
-        (H.faults shelf.old) (H.faults shelf.new)) }
-    ensures memory { OnErr result (H.faults shelf.new ≡ H.faults shelf.old) }
+    ensures says { IfOk result (ReportSaysBy (AsJudged workers.now.count)
+        (IsCheckReport (H.told shelf.old) first.now second.now certificate.now) (H.faults shelf.old)
+        (H.faults shelf.new)) }
+    ensures memory { OnErr result (SameOrRose workers.now.count (H.faults shelf.old) (H.faults shelf.new)) }
+    ensures read { IfOk result (λ p. IsReadToReport (H.told shelf.old) certificate.now workers.now.count
+        (H.left shelf.new) (report_of p)) }
     ensures begun { BeginsInOrder (H.told shelf.old)
         (encode_utf8_all first.now ∷ encode_utf8_all second.now ∷ encode_utf8_all certificate.now ∷ [])
         (H.begun shelf.old) (H.begun shelf.new) }
 {
-    match check_files(alloc, shelf, first, second, certificate)? {
+    match check_files(workers, alloc, shelf, first, second, certificate)? {
         Checking::Accepted => made(alloc, "accepted\n", Status::Done),
         Checking::Rejected(line, rule) => rejected(alloc, line, rule),
         Checking::FirstRefused(words) => refused(alloc, "first", words),

@@ -7,16 +7,16 @@ ghost use Rattle.js_outside.specs.Told.{CountsMisses};
 ghost use Rattle.js_input.specs.OrderOfFiles.{BeginsInOrder};
 ghost use Rattle.js_words.specs.Commands.{command};
 ghost use Rattle.js_words.specs.PlainWords.{Plain, is_plain, words_of, meant};
-ghost use Rattle.js_top.specs.Names.{IsInclude, IsSat, IsCompared, IsValid, IsCheck, IsNorm, IsGen, file_names, MissesFile};
+ghost use Rattle.js_top.specs.Names.{IsInclude, IsSat, IsCompared, IsValid, IsCheck, IsCheckBySeveral, IsNorm, IsGen, file_names, MissesFile};
 ghost use Rattle.js_commands.specs.IncludeMeaning.{IsCertificate};
 ghost use Rattle.js_top.specs.Correct.{IsCorrect};
 ghost use Rattle.js_top.specs.Judging.{WritesJudgement, WritesDecision, WritesJudgedRefusal};
 ghost use Rattle.verdicts.specs.Verdict.{Accepted};
-ghost use Rattle.js_top.specs.Checking.{IsVerdictWritten, WritesRejection, WritesCheckRefusal};
+ghost use Rattle.js_top.specs.Checking.{IsVerdictWritten, WritesRejection, IsReadNoFurther, WritesCheckRefusal};
 ghost use Rattle.js_top.specs.Generating.{WritesSummary};
 ghost use Rattle.js_top.specs.Listing.{WritesNamedTable, WritesListing, WritesNormRefusal};
 ghost use Rattle.js_report.specs.Lines.{line};
-ghost use Rattle.js_top.specs.Running.{WritesPart, WritesReport, WritesMeaning, WritesAsked, WritesRefusal};
+ghost use Rattle.js_top.specs.Running.{IsReadNoticed, WritesPart, WritesReport, WritesMeaning, WritesAsked, WritesRefusal};
 ghost use Rattle.js_top.specs.Meaning.{IsCounterexample, IsWitness, IsRefutation, IsLimit, PassLimit, WhereTold};
 
 use crate::prepare::prepare;
@@ -60,9 +60,13 @@ pub fn run<R: Threads + Sync, G: Gate + Sync, H: Shelf, K: Sink>(
         → command words.now ≡ Some (meant p) }
     ensures no_read_fault { file_names words.now ≡ [] → H.faults shelf.new ≡ H.faults shelf.old }
 
-    // A count that rose is told.
+    // A count that rose is told. Only `check` by several workers judges lines that came before a failed read first:
+    // with one no line waits.
     ensures write_noticed { K.faults sink.old < K.faults sink.new → result ≡ Status.WriteFault }
     ensures read_noticed { H.faults shelf.old < H.faults shelf.new → Stays (K.faults sink.old) (K.faults sink.new)
+        → IsReadNoticed words.now result }
+    ensures read_noticed_alone { H.faults shelf.old < H.faults shelf.new
+        → Stays (K.faults sink.old) (K.faults sink.new) → (IsCheckBySeveral words.now → ⊥)
         → result ≡ Status.ReadFault }
 
     // What was written then.
@@ -120,6 +124,10 @@ pub fn run<R: Threads + Sync, G: Gate + Sync, H: Shelf, K: Sink>(
         → WritesRejection (H.told shelf.old) words.now (K.written sink.old) (K.written sink.new) }
     ensures check_refusal { result ≡ Status.Refused → IsCheck words.now
         → WritesCheckRefusal (H.told shelf.old) words.now (K.written sink.old) (K.written sink.new) }
+
+    // Where a line is rejected, nothing is read behind the piece with which it is whole, or the batch that has it.
+    ensures not_read_behind { result ≡ Status.Other
+        → IsReadNoFurther (H.told shelf.old) words.now (H.left shelf.new) (K.written sink.old) (K.written sink.new) }
 
     // The headline of `norm`: where files are told, no fault is counted and memory suffices, a schema gets the text of
     // its core table, of which position 0 holds exactly of the documents that are valid for it.

@@ -53,7 +53,7 @@ module _ (T : List Position) (S : List Signed) (t : Table (List ℕ)) (h : AreSt
       cells_are characters (different 0x110000) (scalars 0x110000) far 0 T S t.words rowed
       (λ c l. absurd (omega (arith, l)))
 
-  -- which literal is told, and of what cell, hangs on names and vectors alone
+  -- which literal is true of which cell depends on names and vectors alone
   pub stated_cells : AreCells T S (table_cells T S t)
   stated_cells = record { known = bare_cells.known; exact = bare_cells.exact }
 

@@ -362,6 +362,7 @@ module _ (T : List Position) (ok : IsTable T)
   after_claim (OfPlan form frame p left) l es e h = plan_claim form frame p left l es e h
   after_claim _ _ es e h = cc
 
+  -- what the duties that are left claim makes true what the duties claimed
   pub run_claims : (ds : List Duty) (ls : List Line) (es : List Duty) → run T cite ds ls ≡ Ok es → Claims es
       → Claims ds
   run_claims ds [] es e h = let q : ds ≡ es = cc in subst Claims (sym q) h

@@ -178,6 +178,7 @@ module _ (limit : ℕ) (g : Group) (x : ℤ) (met : is_met g x ≡ true) where
   in_none [] h e = multiples_none e
   in_none (s ∷ ss) h e = found_in (is_met g) s x met (and_parts (has s x) (list_all (λ s. has s x) ss) h).0 e
 
+  -- a group whose outcome is that no number meets it is met by none
   pub outcome_none : outcome limit g ≡ Empty → ⊥
   outcome_none e = go (is_crossed g.low g.high) refl where
     go : (b : Bool) → is_crossed g.low g.high ≡ b → ⊥

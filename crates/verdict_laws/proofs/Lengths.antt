@@ -61,6 +61,7 @@ module _ (T : List Position) (S : List Signed) (t : Table (List ℕ)) (h : AreSt
       (class_below (string_atoms T S) t.words (stated t) h.leads c a))) in
       omega (arith, l, climbs (stated t r k) (u ++ c ∷ []) w one b)
 
+  -- where least lengths are past the bound, each wanted word is too long
   pub wanted_past : least_past T S t ds ≡ true → (w : List ℕ) → list_all is_scalar w ≡ true → is_wanted T S w ≡ true
       → is_at_end (length w) (below T S) ≡ true
   wanted_past past w s want =

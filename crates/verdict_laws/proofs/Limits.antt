@@ -44,6 +44,7 @@ module _ (most : ℕ) (atoms : List Atom) where
         go true false e f h = cc
         go false c e f h = cc
 
+  -- atoms past the limits pass that on positions or that on classes
   pub past_limits : are_within_limits atoms ≡ false
       → (limit_passed characters most atoms ≡ Some Positions) ⊎ (limit_passed characters most atoms ≡ Some Classes)
   past_limits h =

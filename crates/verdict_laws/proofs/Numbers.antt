@@ -19,6 +19,7 @@ is_empty (Found n) e = cc
 is_empty LimitMultiples e = cc
 is_empty LimitCandidates e = cc
 
+-- where deciding says that there is no number, none meets the set
 pub no_number : (T : List Position) → IsTable T → (S : List Signed) → has_no_number T S ≡ true → (x : ℤ)
     → meets T S (number x) ≡ true → ⊥
 no_number T ok S e x m =

@@ -18,6 +18,7 @@ module _ (T : List Position) (cite : ℕ → List Signed → Bool) where
     go (Ok xs) h more = subst (λ z. run T cite z ls ≡ Ok (es ++ fs)) (append_assoc xs ds fs) (more xs h)
     go (Err r) h more = cc
 
+  -- lines that leave some duties go on as further lines do with these
   pub run_on : (ds es : List Duty) (ls ms : List Line) → run T cite ds ls ≡ Ok es
       → run T cite ds (ls ++ ms) ≡ run T cite es ms
   run_on ds es [] ms e = let q : ds ≡ es = cc in ap (λ z. run T cite z ms) q

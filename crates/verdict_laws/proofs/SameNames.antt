@@ -99,6 +99,7 @@ module _ (v w : List ℕ) where
   says_all T [] h = refl
   says_all T (x ∷ xs) h = ap₂ (λ a b. a ∷ b) (h x (inl refl)) (says_all T xs (λ y i. h y (inr i)))
 
+  -- words of one state have one vector
   pub vector_same : (T : List Position) (S : List Signed) → have_same_state (atoms_of_names T S) v w ≡ true
       → vector T (naming T S) v ≡ vector T (naming T S) w
   vector_same T S same =

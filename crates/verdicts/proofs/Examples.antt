@@ -116,7 +116,7 @@ rule_of_none : shows Text (LengthMin 2) (LengthMax 1) (L.Rule (Minus 0) ∷ []) 
 unfolding leaf_table header trees shows follow
 rule_of_none = refl
 
--- a set may be told again
+-- a set may be stated again
 twice : shows Text (LengthMin 2) (LengthMax 1) (L.Rule (Plus 0) ∷ L.Count ∷ []) ≡ Accepted
 unfolding leaf_table header trees shows follow
 twice = refl
@@ -203,7 +203,7 @@ no_goals : strings (L.Version ∷ L.Goals 0 ∷ L.End ∷ []) ≡ Rejected 2 roo
 unfolding leaf_table strings follow
 no_goals = refl
 
--- told at the last goal
+-- reported at the last goal
 not_the_root : strings (L.Version ∷ L.Goals 2 ∷ L.Goal (Plus 1 ∷ []) ∷ L.Goal (Plus 2 ∷ []) ∷ [])
     ≡ Rejected 4 root_not_listed
 unfolding leaf_table strings follow
@@ -366,12 +366,12 @@ part_behind : of_bytes (codes "certificate 1\ngoals 0\nend\nen") ≡ Rejected 4 
 unfolding array_table of_bytes follow digits
 part_behind = refl
 
--- a whole line that isn't in the grammar is told as such, behind `end` too
+-- a whole line that isn't in the grammar is reported as such, behind `end` too
 no_line_behind : of_bytes (codes "certificate 1\ngoals 0\nend\nen\n") ≡ Rejected 4 not_a_line
 unfolding array_table of_bytes follow digits
 no_line_behind = refl
 
--- the line before a faulty one is told first
+-- the line before a faulty one is reported first
 earlier_line : of_bytes (codes "certificate 1\nend\nen\n") ≡ Rejected 2 out_of_place
 unfolding array_table of_bytes follow digits
 earlier_line = refl

@@ -33,7 +33,7 @@ pub data Purpose : Type 0 where
 pub data Duty : Type 0 where
   -- no document meets the goal, which has that number
   OfGoal : ℕ → List Signed → Duty
-  -- no document of the kind meets the goal, told by the kind's line
+  -- no document of the kind meets the goal, said by the kind's line
   AtKind : Kind → List Signed → Duty
   -- no document of the kind meets the set
   OfSet : Kind → List Signed → Duty

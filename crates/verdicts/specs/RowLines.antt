@@ -30,8 +30,8 @@ if_so r false x = Err r
 
 -- `extend`: what a row leads to, class by class; `start`: the first row
 module _ {A : Type 0} (same : A → A → Bool) (extend : A → List A) (start : A) where
-  -- a target of x is a row that was mentioned, with the state of x, or the next number below the count: that row is then
-  -- x's
+  -- a target of x is a row that was mentioned, with the state of x, or the next number below the count: that row is
+  -- then x's
   abbrev pub target : ℕ → List A → A → ℕ → Result (List A) ℕ
   target count ws x t =
       cond (nat_lt t (length ws)) (if_so wrong_target (same x (get_or ws t start)) ws)

@@ -1,5 +1,5 @@
 -- The rules that a certificate can break, by the numbers that are printed. Where a line breaks several, the least is
--- told; so what a line is tested for stands in the order of these numbers.
+-- reported; so what a line is tested for stands in the order of these numbers.
 use Rattle.std.specs.Prelude.{ℕ}
 
 -- a whole line that isn't too long and isn't in the grammar
@@ -22,7 +22,7 @@ out_of_place = 4
 abbrev pub no_goal : ℕ
 no_goal = 5
 
--- the root neither clashes nor contains a listed goal; told at the last goal line, or where no goals are to follow
+-- the root neither clashes nor contains a listed goal; reported at the last goal line, or where no goals are to follow
 abbrev pub root_not_listed : ℕ
 root_not_listed = 6
 
@@ -58,7 +58,7 @@ bounds_meet = 13
 abbrev pub truth_left : ℕ
 truth_left = 14
 
--- it isn't so that there is no number
+-- a number is left, or a limit is passed in deciding that none is
 abbrev pub number_left : ℕ
 number_left = 15
 
@@ -87,7 +87,7 @@ wanted_left = 20
 abbrev pub wrong_bound : ℕ
 wrong_bound = 21
 
--- lines of plans: their numbers are told by `frames`
+-- lines of plans: their numbers are stated in `frames`
 
 -- no demand is left
 abbrev pub no_demand : ℕ

@@ -1,10 +1,11 @@
-use Rattle.std.proofs.Common.{[], ◌∷◌, encode_utf8_all, string_bytes, subst, ◌∙◌}
+use Rattle.std.proofs.Common.{[], ◌∷◌, IfOk, OnErr, encode_utf8_all, string_bytes, subst, ◌∙◌}
 use Rattle.js_report.specs.WholeFile.{HasBytes}
 use Rattle.js_guard.specs.RankedView.{entries_of}
 use Rattle.js_input.specs.OrderOfFiles.{IsSchemaOn}
 use Rattle.js_input.proofs.OrderLaws.{begins_two}
 use Rattle.std.proofs.lemmas.Result.{IfOk-weaker}
-use Rattle.js_commands.specs.CheckSaying.{CertificateSays}
+use Rattle.js_certificate.specs.FileVerdicts.{SameOrRose}
+use Rattle.js_commands.specs.CheckSaying.{CertificateSays, IsReadWith}
 use Rattle.js_commands.proofs.CheckOutcomeLemmas.{checking-first_refused, checking-second_refused, says-checked, says-after, begins_three}
 use Rattle.js_commands.proofs.check.check_files.Goals as goal
 
@@ -42,15 +43,30 @@ returns-clause-says g c =
     let has' : HasBytes told (encode_utf8_all c.args.second.now) others =
     subst (λ t. HasBytes t (encode_utf8_all c.args.second.now) others) c.in_ok-schema.ensures.told has_others in
     IfOk-weaker c.check_certificate.result _ _ (λ r h.
-    says-after told c.args.first.now c.args.second.now c.args.certificate.now _ _ _ r (again ∙ same)
+    says-after told c.args.first.now c.args.second.now c.args.certificate.now _ _ _ _ r (again ∙ same)
     (says-checked told c.args.first.now c.args.second.now c.args.certificate.now bytes others x y has has' is is'
     (entries_of c.in-Some-Read.schema) (entries_of c.in-Some-Read-2.schema)
     (record { well_formed = of.well_formed; entries = of.entries })
-    (record { well_formed = of'.well_formed; entries = of'.entries }) _ _ r
+    (record { well_formed = of'.well_formed; entries = of'.entries }) _ _ _ r
     (subst (λ t. CertificateSays (entries_of c.in-Some-Read.schema) (entries_of c.in-Some-Read-2.schema) t
-    (encode_utf8_all c.args.certificate.now) (g.H.Shelf.faults c.load_schema-2.new.shelf)
+    (encode_utf8_all c.args.certificate.now) c.args.workers.now.count (g.H.Shelf.faults c.load_schema-2.new.shelf)
     (g.H.Shelf.faults c.check_certificate.new.shelf) r)
     (c.in_ok-schema-2.ensures.told ∙ c.in_ok-schema.ensures.told) h))) c.check_certificate.ensures.says
+
+pub returns-clause-memory : goal.returns-clause-memory
+returns-clause-memory g c =
+    let first = rw c.in-Some-Read.is at c.in_ok-schema.ensures.says in
+    let (same, read) = rw c.in-Some-Read.field-0-is at first in
+    let second = rw c.in-Some-Read-2.is at c.in_ok-schema-2.ensures.says in
+    let (again, others) = rw c.in-Some-Read-2.field-0-is at second in
+    subst (λ n. OnErr c.check_certificate.result (SameOrRose c.args.workers.now.count n
+    (g.H.Shelf.faults c.check_certificate.new.shelf))) (again ∙ same) c.check_certificate.ensures.memory
+
+pub returns-clause-read : goal.returns-clause-read
+returns-clause-read g c =
+    subst (λ t. IfOk c.check_certificate.result (IsReadWith t (encode_utf8_all c.args.certificate.now)
+    (g.H.Shelf.left c.check_certificate.new.shelf) c.args.workers.now.count))
+    (c.in_ok-schema-2.ensures.told ∙ c.in_ok-schema.ensures.told) c.check_certificate.ensures.read
 
 pub returns-in_err-schema-2-clause-begun : goal.returns-in_err-schema-2-clause-begun
 returns-in_err-schema-2-clause-begun g c =

@@ -3,10 +3,11 @@ use Rattle.js_top.specs.declared.status.Status.TheVariants.{Other, Done, Limit, 
 use Rattle.js_top.proofs.FileLaws.{prepared-document, prepared-inclusion, prepared-satisfied, prepared-unsatisfied, prepared-limit, prepared-report, prepared-part, prepared-correct, prepared-limited, means-refusal}
 use Rattle.js_top.proofs.JudgingLaws.{means-judgement, prepared-decision, means-judged_refusal}
 use Rattle.js_top.proofs.CheckingLaws.{means-acceptance, means-rejection, means-check_refusal}
-use Rattle.js_top.proofs.Includes.{no_read_fault}
+use Rattle.js_top.proofs.Includes.{no_read_fault, refused-noticed, prepared-noticed, noticed-alone, written-read}
 use Rattle.js_top.proofs.GeneratingLaws.{gen-fileless, means-summary}
 use Rattle.js_top.proofs.ListingLaws.{means-table, prepared-listing, means-norm_refusal}
 use Rattle.js_top.proofs.MissingLaws.{prepared-missing, prepared-only_missing}
+use Rattle.js_words.specs.Commands.{command}
 use Rattle.js_top.specs.Judging.{WritesDecision}
 use Rattle.js_top.specs.Correct.{IsCorrect}
 use Rattle.js_top.specs.Listing.{WritesListing}
@@ -189,3 +190,21 @@ returns-in-Ok-write_report-clause-generated g c = λ w m i.
     (λ r. no_read_fault (g.H.Shelf.told c.args.shelf.now) c.args.words.now _ _ c.in-Ok.prepared c.in-Ok.ensures.says
     (rw c.in-Ok.is at c.prepare.ensures.made (gen-fileless c.args.words.now i)) (sym c.status.ensures ∙ r))) i
     c.in-Ok-write_report.ensures.whole
+
+pub returns-in-Ok-write_report-clause-not_read_behind : goal.returns-in-Ok-write_report-clause-not_read_behind
+returns-in-Ok-write_report-clause-not_read_behind g c = λ e.
+    written-read (g.H.Shelf.told c.args.shelf.now) (command c.args.words.now) (g.H.Shelf.left c.prepare.new.shelf) _ _
+    (report_of c.in-Ok.prepared) c.text.result.now c.in-Ok.ensures.read c.text.ensures (sym c.status.ensures ∙ e)
+    c.in-Ok-write_report.ensures.whole
+
+-- with one worker a count that rose is told
+
+pub returns-in-Ok-write_report-clause-read_noticed_alone : goal.returns-in-Ok-write_report-clause-read_noticed_alone
+returns-in-Ok-write_report-clause-read_noticed_alone g c = λ less stays alone.
+    c.status.ensures
+    ∙ noticed-alone c.args.words.now _ (prepared-noticed (g.H.Shelf.told c.args.shelf.now) c.args.words.now _ _
+    c.in-Ok.prepared c.in-Ok.ensures.says less) alone
+
+pub returns-in-Err-clause-read_noticed_alone : goal.returns-in-Err-clause-read_noticed_alone
+returns-in-Err-clause-read_noticed_alone g c = λ less stays alone.
+    noticed-alone c.args.words.now _ (refused-noticed c.args.words.now _ _ c.in-Err.ensures.memory less) alone

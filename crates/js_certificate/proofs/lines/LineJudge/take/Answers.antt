@@ -4,7 +4,7 @@ use Rattle.js_certificate.proofs.PartLemmas.{passed, rest-shorter, broken_rest, 
 use Rattle.js_certificate.proofs.lines.LineJudge.take.Goals as goal
 
 pub returns-in_err-count-clause-broken : goal.returns-in_err-count-clause-broken
-returns-in_err-count-clause-broken c =
+returns-in_err-count-clause-broken g c =
     let read = c.loop-read.read in
     passed _ c.from_residual.result c.in_err-count.field-0.0 c.from_residual.ensures.1 (λ bytes h.
     broken_same _ _ _ _ _ _ _ (bytes ++ c.args.piece.now) c.loop-read.invariant.table
@@ -15,13 +15,14 @@ returns-in_err-count-clause-broken c =
     (c.loop-read.invariant.stands bytes h))))
 
 pub loop-read-preserved : goal.loop-read-preserved
-loop-read-preserved c =
+loop-read-preserved g c =
     let read = c.loop-read.read in
     let piece = c.args.piece.now in
     let rest = rest-shorter read piece c.loop-read.invariant.within in
     record {
       within = omega (arith, rest, c.in_ok-count.ensures.within);
       well = c.in_ok-count.ensures.well;
+      waits = λ h. c.in_ok-count.ensures.waits (c.loop-read.invariant.waits h);
       stands = λ bytes h.
           subst (AreJudged c.take_part.new.self) (part_taken bytes piece read c.in_ok-count.count)
           (c.in_ok-count.ensures.stands (bytes ++ take read piece) (c.loop-read.invariant.stands bytes h));

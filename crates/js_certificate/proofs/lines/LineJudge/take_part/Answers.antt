@@ -1,52 +1,43 @@
--- A part of a piece was read, and the line that waited was judged.
-use Rattle.std.proofs.Common.{◌++◌, is_none, arith, ap, ◌∙◌}
+-- A part of a piece was read, and the line that waited was judged, or waits with others. Where the reader met a fault,
+-- those that wait are judged first.
+use Rattle.std.proofs.Common.{◌++◌, refl, arith}
 use Rattle.std.specs.Prelude.{option_to_list}
 use Rattle.certificate_lines.specs.Reader.{read_count}
-use Rattle.js_checker.specs.CheckerView.{fault_of}
-use Rattle.js_certificate.proofs.PartLemmas.{passed, none_of, read-some, read_breaks, line_breaks, broken_same, reader_on}
+use Rattle.verdicts.specs.Verdict.{Start}
+use Rattle.js_certificate.proofs.PartLemmas.{passed, none_of, read_breaks, line_breaks, checker_breaks, broken_longer, broken_same, reader_on}
+use Rattle.js_certificate.proofs.BatchLemmas.{settled}
 use Rattle.js_certificate.proofs.lines.LineJudge.take_part.Goals as goal
 
-pub returns-in_err-count-clause-broken : goal.returns-in_err-count-clause-broken
-returns-in_err-count-clause-broken c =
-    passed _ c.from_residual.result c.in_err-count.field-0.0 c.from_residual.ensures.1 (λ bytes h.
-    read_breaks _ _ _ bytes c.args.piece.now h.lines c.args.self.now.reader (fault_of c.args.self.now.checker) _ _ _
-    (none_of _ c.requires.well.idle) (none_of _ c.requires.well.sound) (none_of _ c.requires.well.going)
-    h.reader h.checker c.in_err-count.ensures.broken)
-
-pub returns-in_err-judge_line-clause-broken : goal.returns-in_err-judge_line-clause-broken
-returns-in_err-judge_line-clause-broken c =
-    passed _ c.from_residual-in_err-judge_line.result c.in_err-judge_line.field-0.0
-    c.from_residual-in_err-judge_line.ensures.1 (λ bytes h.
-    broken_same _ _ _ _ _ _ _ (bytes ++ c.args.piece.now) c.in_err-judge_line.ensures.table
-    c.in_err-judge_line.ensures.premise c.in_err-judge_line.ensures.conclusion
-    (line_breaks _ _ _ bytes c.args.piece.now (read_count c.args.piece.now) _ _ _ _ _ _
-    c.in_err-judge_line.ensures.stopped (c.in_ok-count.ensures.stands bytes h.lines h.reader)
-    (c.in_err-judge_line.ensures.stands h.lines h.checker)))
+pub returns-in_err-judge_line-in-Ok-clause-broken : goal.returns-in_err-judge_line-in-Ok-clause-broken
+returns-in_err-judge_line-in-Ok-clause-broken g c =
+    passed _ c.from_residual.result c.in_err-judge_line-in-Ok.field-0.0 c.from_residual.ensures.1 (λ bytes h.
+    line_breaks _ _ _ bytes c.args.piece.now (read_count c.args.piece.now) _ _ _ Start 0 _ refl
+    (c.in-Ok.ensures.stands bytes h.lines h.reader) (c.in_err-judge_line-in-Ok.ensures.broken h.lines h.batch))
 
 pub overflow_add-self : goal.overflow_add-self
-overflow_add-self c =
-    omega (arith, c.in_ok-judge_line.ensures.bytes, c.in_ok-count.ensures.within, c.requires.few)
+overflow_add-self g c = omega (arith, c.in_ok-judge_line-in-Ok.ensures.bytes, c.in-Ok.ensures.within, c.requires.few)
 
-pub returns-clause-stands : goal.returns-clause-stands
-returns-clause-stands c = λ bytes h. record {
+pub returns-in_ok-judge_line-in-Ok-clause-stands : goal.returns-in_ok-judge_line-in-Ok-clause-stands
+returns-in_ok-judge_line-in-Ok-clause-stands g c = λ bytes h. record {
   lines = h.lines ++ option_to_list c.read_part.new.reader.waiting;
-  reader = reader_on bytes c.args.piece.now _ _ _ _ c.in_ok-count.ensures.count c.in_ok-judge_line.ensures.reader
-      (c.in_ok-count.ensures.stands bytes h.lines h.reader);
-  checker = c.in_ok-judge_line.ensures.stands h.lines h.checker;
+  reader = reader_on bytes c.args.piece.now _ _ _ _ c.in-Ok.ensures.count c.in_ok-judge_line-in-Ok.ensures.reader
+      (c.in-Ok.ensures.stands bytes h.lines h.reader);
+  batch = c.in_ok-judge_line-in-Ok.ensures.stands h.lines h.batch;
 }
 
-pub returns-clause-well : goal.returns-clause-well
-returns-clause-well c =
-    let bytes = c.in_ok-judge_line.ensures.bytes in
-    let count = c.in_ok-count.ensures.count in
-    let within = c.in_ok-count.ensures.within in
-    let some = read-some c.args.piece.now c.requires.some in
-    let same = ap (λ r. r.taken) c.in_ok-judge_line.ensures.reader in
-    record {
-      idle = ap (λ r. is_none r.waiting) c.in_ok-judge_line.ensures.reader;
-      sound = ap (λ r. is_none r.fault) c.in_ok-judge_line.ensures.reader ∙ c.in_ok-count.ensures.sound;
-      going = c.in_ok-judge_line.ensures.going c.requires.well.going;
-      taken = omega (arith, bytes, count, some, same, c.in_ok-count.ensures.taken, c.requires.well.taken);
-      lines = omega (arith, bytes, count, some, c.in_ok-judge_line.ensures.lines, c.requires.well.lines);
-      few = omega (arith, bytes, within, c.requires.few);
-    }
+pub returns-in_err-hand_over-in-Err-clause-broken : goal.returns-in_err-hand_over-in-Err-clause-broken
+returns-in_err-hand_over-in-Err-clause-broken g c =
+    passed _ c.from_residual-in_err-hand_over-in-Err.result c.in_err-hand_over-in-Err.field-0.0
+    c.from_residual-in_err-hand_over-in-Err.ensures.1 (λ bytes h.
+    broken_longer _ _ _ c.in_err-hand_over-in-Err.field-0.0 bytes c.args.piece.now
+    (checker_breaks _ _ _ bytes h.lines _ _ Start 0 c.in_err-hand_over-in-Err.field-0.0 refl h.reader
+    (c.in_err-hand_over-in-Err.ensures.broken h.lines h.batch)))
+
+pub returns-in_ok-hand_over-in-Err-clause-broken : goal.returns-in_ok-hand_over-in-Err-clause-broken
+returns-in_ok-hand_over-in-Err-clause-broken g c = λ bytes h.
+    broken_same _ _ _ _ _ _ c.in-Err.fault (bytes ++ c.args.piece.now) c.hand_over.ensures.table
+    c.hand_over.ensures.premise c.hand_over.ensures.conclusion
+    (read_breaks _ _ _ bytes c.args.piece.now h.lines c.args.self.now.reader _ _ _ c.in-Err.fault
+    (none_of _ c.requires.well.idle) (none_of _ c.requires.well.sound) c.in_ok-hand_over-in-Err.ensures.going h.reader
+    (settled c.hand_over.new.self h.lines c.hand_over.ensures.waiting
+    (c.in_ok-hand_over-in-Err.ensures.stands h.lines h.batch)) c.in-Err.ensures.broken)

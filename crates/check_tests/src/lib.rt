@@ -1,0 +1,8 @@
+//! Tests of the checker's public calls, and of the threads that it asks for.
+//!
+//! They stand beside the crate that they test, as only what is public is tested: so it isn't proved once more for its
+//! tests.
+#![tactic(auto)]
+
+#[cfg(test)]
+mod entries;
