@@ -1,7 +1,9 @@
-//! Numbers of workers: what is printed is the same for each, and goals are expanded by as many threads at once.
+//! Numbers of workers: what is printed is the same for each, and goals are expanded and entries of certificates judged
+//! by as many threads at once.
 
 use crate::setting::{
-    CERTIFICATE, ROOM, STRING, STRING_OR_NULL, expect, expect_written, two_files, words_of,
+    CERTIFICATE, ROOM, STRING, STRING_OR_NULL, add, expect, expect_written, status_of, two_files,
+    words_of,
 };
 use js_doc::Memory;
 use js_outside::{MemoryShelf, MemorySink};
@@ -65,6 +67,32 @@ fn goals_of_a_wave_meet(rt: HostRuntime) -> Result<(), Memory> {
     let status = run(&rt, alloc, words.as_slice(), &gate, &mut shelf, &mut sink).code();
     let wanted = (0, "document\n{\"p0\":0,\"p1\":1}\n");
     expect_written(&rt, (status, sink.written()), wanted);
+    assert!(rt; gate.was_met());
+    Ok(())
+}
+
+/// That arrays whose elements are strings are such arrays, whichever way it is said: a certificate of two entries.
+const STRINGS: (&str, &str) = (
+    r#"{"type":"array","items":{"type":"string"},"additionalItems":false}"#,
+    r#"{"type":"array","items":{"type":"string"}}"#,
+);
+
+#[test]
+fn entries_of_a_certificate_meet(rt: HostRuntime) -> Result<(), Memory> {
+    let alloc = rt.alloc();
+    let (a, b) = STRINGS;
+    let mut shelf = MemoryShelf::new(two_files(alloc, a.as_bytes(), b.as_bytes())?);
+    let mut printed = MemorySink::new(alloc, ROOM)?;
+    let status = status_of(&rt, alloc, "include a b", &mut shelf, &mut printed)?;
+    assert_eq!(rt; status, 0);
+    let mut files = two_files(alloc, a.as_bytes(), b.as_bytes())?;
+    add(alloc, &mut files, "c", printed.written())?;
+    let words = words_of(alloc, "check a b c --workers 2")?;
+    let mut shelf = MemoryShelf::new(files);
+    let mut sink = MemorySink::new(alloc, ROOM)?;
+    let gate = Meeting::new(0, 2);
+    let status = run(&rt, alloc, words.as_slice(), &gate, &mut shelf, &mut sink).code();
+    expect_written(&rt, (status, sink.written()), (0, "accepted\n"));
     assert!(rt; gate.was_met());
     Ok(())
 }

@@ -1,7 +1,9 @@
 //! What no clause says: that ample memory is enough for each call.
 
-use js_doc::{Json, depth};
-use js_json::{JsonFault, Pointer, RefFault, at_pointer, member, read_json, target, to_doc};
+use js_doc::{Json, depth, equal};
+use js_json::{
+    JsonFault, Pointer, RefFault, at_pointer, member, read_doc, read_json, target, to_doc,
+};
 use std::alloc::{AllocError, Global};
 use std::test::Fail;
 
@@ -82,11 +84,39 @@ fn makes_documents(rt: HostRuntime) -> Result<(), Fail> {
     ];
     for (text, expected) in cases {
         let json = read_json(alloc, text.as_bytes())?;
-        match to_doc(alloc, &json) {
-            Ok(doc) => assert!(rt; expected.is_empty() && depth(&doc) == 3, "{text}"),
-            Err(JsonFault::NotWhole(place)) => {
-                assert_eq!(rt; place.text(alloc)?.as_str(), expected, "{text}");
+        for made in [to_doc(alloc, &json), read_doc(alloc, text.as_bytes())] {
+            match made {
+                Ok(doc) => assert!(rt; expected.is_empty() && depth(&doc) == 3, "{text}"),
+                Err(JsonFault::NotWhole(place)) => {
+                    assert_eq!(rt; place.text(alloc)?.as_str(), expected, "{text}");
+                }
+                Err(fault) => return Err(fault.into()),
             }
+        }
+    }
+    Ok(())
+}
+
+#[test]
+fn reads_documents_at_once(rt: HostRuntime) -> Result<(), Fail> {
+    let alloc = rt.alloc();
+    let cases = [
+        (
+            "{\"b\":1,\"a\":[-9223372036854775808,18446744073709551615],\"b\":\"\\u00e9\"}",
+            true,
+        ),
+        ("{\"a\":0.5,\"a\":1}", true),
+        ("{\"a\":1,}", false),
+        ("[0.5,]", false),
+        ("[1e999]", false),
+    ];
+    for (text, expected) in cases {
+        match read_doc(alloc, text.as_bytes()) {
+            Ok(doc) => {
+                let json = read_json(alloc, text.as_bytes())?;
+                assert!(rt; expected && equal(&doc, &to_doc(alloc, &json)?), "{text}");
+            }
+            Err(JsonFault::NotJson) => assert!(rt; !expected, "{text}"),
             Err(fault) => return Err(fault.into()),
         }
     }

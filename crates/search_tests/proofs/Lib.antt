@@ -6,3 +6,5 @@ mod TestWords
 -- Tables and sets that tests make.
 mod Truths
 mod TestSets
+-- Names of cells.
+mod TestNames

@@ -1,5 +1,5 @@
 //! Branches over one table: first elements and what one element has to be, counts that cross or are too large, and many
-//! elements that are asked for.
+//! elements that are required.
 
 ghost use Rattle.std.specs.Prelude.{◌≡◌, ◌<◌, ◌≤◌, IfOk, length, nat_lt, true};
 ghost use Rattle.documents.specs.Tests.{every};
@@ -91,7 +91,7 @@ fn numbers(alloc: Global, alternatives: &[Alternative]) -> Result<Vec<u32>, Memo
     Ok(all)
 }
 
-/// An index is told from a position.
+/// An index as a number from 1,000 on, so that it isn't taken for a position.
 fn slot(slot: Slot) -> u32 {
     match slot {
         Slot::Index(i) if i < 1_000 => 1_000 + i,
@@ -166,7 +166,7 @@ fn many_first_elements(rt: HostRuntime) -> Result<(), Fail> {
     Ok(())
 }
 
-/// Sixteen demands are served by one element or by up to sixteen, in more ways than may be told.
+/// Sixteen demands are served by one element or by up to sixteen, in more ways than may be listed.
 #[test]
 fn many_demands(rt: HostRuntime) -> Result<(), Fail> {
     let first = strings(rt.alloc(), 0)?;

@@ -165,7 +165,7 @@ fn goals(alloc: Global, count: u32) -> Result<Vec<Goal>, Fail> {
     Ok(goals)
 }
 
-/// What is told: for each part of a document the numbers that it names; the number of a goal among all that there are.
+/// What is answered: for each part of a document the numbers that it names; the number of a goal among all.
 #[derive(Drop)]
 enum Told {
     Document(&'static [&'static [u32]]),

@@ -17,7 +17,7 @@ fn kinds(alloc: Global, kind: JsonKind) -> Result<KindList, Memory> {
     Ok(KindList::from_vec(vec![in alloc; kind]?))
 }
 
-/// Kinds, and what is asked at each of them; two choices at 14 and 15. The divisors at 10 and 11 are primes.
+/// Kinds, and what is required at each of them; two choices at 14 and 15. The divisors at 10 and 11 are primes.
 fn table(alloc: Global) -> Result<Core, Fail> {
     let either = vec![in alloc; Pos(6), Pos(7)]?;
     let numbers = vec![in alloc; Pos(1), Pos(12)]?;
@@ -146,7 +146,7 @@ fn all_kinds(rt: HostRuntime) -> Result<(), Fail> {
     ];
     assert!(rt; shapes_are(&any, &shapes));
     assert!(rt; any.hole.is_none());
-    // At numbers and at arrays a limit is passed: the first one is told, and the rest is kept.
+    // At numbers and at arrays a limit is passed: the first one is reported, and the rest is kept.
     let limits = expanded(rt.alloc(), &core, &[(true, 10), (true, 11), (true, 13)])?;
     let rest = [
         Shape::Null,

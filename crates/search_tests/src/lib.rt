@@ -13,6 +13,12 @@ mod expander;
 #[cfg(test)]
 mod expansion;
 #[cfg(test)]
+mod name_cells;
+#[cfg(test)]
+mod objects;
+#[cfg(test)]
+mod refutation;
+#[cfg(test)]
 mod rounds;
 #[cfg(test)]
 mod scalars;
