@@ -13,10 +13,11 @@
 #
 #   pass NAME DIRECTION FILE       the certificate, which `jsat check` accepted
 #   breaks NAME DIRECTION DOCUMENT a document that only the schema that has to be included accepts
-#   open NAME DIRECTION WORDS      a limit was passed, a schema was refused, or a file couldn't be read
+#   open NAME DIRECTION WORDS      a limit was passed, a schema was refused, or a file couldn't be read or stored
 #   added NAME, removed NAME       only NEW has it, only OLD has it
 #
-# Status 0: all pass. 1: something breaks or was removed. 2: other words. 3: nothing breaks, but something is open.
+# Status 0: all pass. 1: something breaks or was removed. 2: other words, or no schema in either folder. 3: nothing breaks,
+# but something is open.
 # JSAT names the program; without it, `jsat` is looked for as a command.
 set -u
 
@@ -35,7 +36,10 @@ compare() {
         first=$new/$name second=$old/$name
     fi
     local kept=$stored/${name%.json}.$direction
-    mkdir -p "$(dirname "$kept")" || exit 3
+    if ! mkdir -p "$(dirname "$kept")" || ! : >"$kept.text"; then
+        echo "open $name $direction nothing can be stored: $kept"
+        return
+    fi
     "$program" include "$first" "$second" >"$kept.text"
     case $? in
         0)
@@ -61,8 +65,14 @@ compare() {
     esac
 }
 
+# The file of the line that is found of one schema in one direction.
+result_of() {
+    echo "$results/$(printf %s "$1" | tr / :).$2"
+}
+
 if [ "${1-}" = --one ]; then
-    compare "$2" "$3" "$4" "$6" "$7" >"$5/$(printf %s "$6" | tr / :).$7"
+    results=$5
+    compare "$2" "$3" "$4" "$6" "$7" >"$(result_of "$6" "$7")"
     exit 0
 fi
 
@@ -93,15 +103,26 @@ schemas() {
     (cd "$1" && find . -type f -name '*.json' | sed 's|^\./||' | LC_ALL=C sort)
 }
 both=$(LC_ALL=C comm -12 <(schemas "$old") <(schemas "$new"))
+if [ -z "$(schemas "$old")$(schemas "$new")" ]; then
+    echo "gate.sh: no schema *.json below $old or $new" >&2
+    exit 2
+fi
 
-# Words end with null bytes, so that names may have blanks.
-if [ -n "$both" ]; then
+# Each pair and direction to compare, ended by null bytes, so that names may have blanks.
+comparisons() {
+    [ -n "$both" ] || return
     printf '%s\n' "$both" | while IFS= read -r name; do
         for direction in $directions; do
             printf '%s\0%s\0' "$name" "$direction"
         done
-    done | xargs -0 -n 2 -P "$jobs" bash "$0" --one "$old" "$new" "$stored" "$results"
-fi
+    done
+}
+comparisons | xargs -0 -r -n 2 -P "$jobs" bash "$0" --one "$old" "$new" "$stored" "$results"
+# What was killed has no line, and isn't taken for what passes.
+comparisons | while IFS= read -r -d '' name && IFS= read -r -d '' direction; do
+    result=$(result_of "$name" "$direction")
+    [ -s "$result" ] || echo "open $name $direction the comparison didn't come to its end" >"$result"
+done
 
 LC_ALL=C comm -13 <(schemas "$old") <(schemas "$new") | sed 's/^/added /' >"$results/.added"
 LC_ALL=C comm -23 <(schemas "$old") <(schemas "$new") | sed 's/^/removed /' >"$results/.removed"

@@ -62,4 +62,10 @@ breaks manifest.json backward
 breaks service.json backward
 removed new one.json" backward "$work/compatible" "$work/old"
 expect 2 "" sideways "$work/old" "$work/compatible" 2>"$work/usage"
+mkdir "$work/nothing" "$work/one"
+expect 2 "" backward "$work/nothing" "$work/nothing" 2>"$work/usage"
+echo true >"$work/one/a.json"
+# What can't be stored, and a program that can't be started, are no pass.
+expect 3 "open a.json backward" -c /dev/null/none backward "$work/one" "$work/one" 2>"$work/errors"
+JSAT=/dev/null/none expect 3 "open a.json backward" backward "$work/one" "$work/one" 2>"$work/errors"
 exit $status

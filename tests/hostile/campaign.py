@@ -210,6 +210,16 @@ class Campaign:
             if text is table and run.status != status:
                 yield run, 'a document in parts is judged otherwise'
 
+    def listing(self):
+        run = self.run(['norm', 'a'], a=self.schema())
+        yield from ((run, fault) for fault in run.faults())
+
+    def family(self):
+        kind, most = self.random.choice([('chain', 200), ('wide', 25), ('patterns', 6), ('tree', 100)])
+        words = ['gen', kind, str(self.random.randint(1, most)), '--workers', self.random.choice(['1', '2', '4'])]
+        run = self.run(words)
+        yield from ((run, fault) for fault in run.faults())
+
     def deep_parts(self):
         """A table whose document doubles with each part."""
         count = self.random.choice([1, 2, 30, 200])
@@ -218,7 +228,8 @@ class Campaign:
         yield from self.parts(self.random.choice([b'true', b'{"type":["array","null"],"items":{"$ref":"#"}}']), text, 0)
 
     def turn(self):
-        kinds = [self.search] * 6 + [self.bad_bytes] * 2 + [self.validity] * 2 + [self.other_words, self.deep_parts]
+        kinds = [self.search] * 12 + [self.bad_bytes] * 4 + [self.validity] * 4
+        kinds += [self.other_words, self.deep_parts] * 2 + [self.listing, self.family]
         return self.random.choice(kinds)()
 
 

@@ -5,10 +5,11 @@ import random
 NAMES = ['a', 'b', 'ab', 'c']
 PATTERNS = ['^a', 'b$', '^[ab]+$', 'c']
 KINDS = ['null', 'boolean', 'integer', 'string', 'array', 'object']
-KEYWORDS = ['type', 'type', 'enum', 'const', 'minimum', 'maximum', 'multipleOf', 'minLength', 'maxLength', 'pattern',
-            'items', 'items', 'contains', 'minItems', 'maxItems', 'properties', 'properties', 'patternProperties',
-            'additionalProperties', 'propertyNames', 'required', 'minProperties', 'maxProperties', 'dependencies',
-            'allOf', 'anyOf', 'oneOf', 'not', '$ref']
+KEYWORDS = ['type', 'type', 'enum', 'const', 'minimum', 'maximum', 'exclusiveMinimum', 'exclusiveMaximum',
+            'multipleOf', 'minLength', 'maxLength', 'pattern', 'items', 'items', 'additionalItems', 'contains',
+            'minItems', 'maxItems', 'properties', 'properties', 'patternProperties', 'additionalProperties',
+            'propertyNames', 'required', 'minProperties', 'maxProperties', 'dependencies', 'allOf', 'anyOf', 'oneOf',
+            'not', '$ref']
 COUNTS = ['minLength', 'maxLength', 'minItems', 'maxItems', 'minProperties', 'maxProperties']
 
 
@@ -41,7 +42,7 @@ class Chooser:
             return [self.document(1) for _ in range(choose.randint(1, 3))]
         if keyword == 'const':
             return self.document(1)
-        if keyword in ('minimum', 'maximum'):
+        if keyword in ('minimum', 'maximum', 'exclusiveMinimum', 'exclusiveMaximum'):
             return choose.randint(-3, 5)
         if keyword == 'multipleOf':
             return choose.randint(1, 4)
@@ -77,6 +78,9 @@ class Chooser:
                 schema[keyword] = self.value(keyword, depth)
             elif choose.random() < 0.3:
                 return {'$ref': '#/definitions/r'}
+        if isinstance(schema.get('items'), bool):
+            # the package fails on both
+            schema.pop('additionalItems', None)
         return schema
 
     def root(self):
