@@ -1,3 +1,3 @@
--- The goal of a table is taken, and the word of a text may be asked for.
+-- The goal of a table is taken, and the word of a text may be requested.
 mod Taken
 mod Words

@@ -1,4 +1,4 @@
--- The word of an alternative that is a text may be asked for: its branch is named, and has a first cell with a word.
+-- The word of an alternative that is a text may be requested: its branch is named, and has a first cell with a word.
 use Rattle.std.proofs.Common.{◌≡◌, ℕ, zero, suc, ◌<◌, ◌≤◌, true, ◌&&◌, nat_eq, List, [], ◌∷◌, map, length, get_or, refl, ap, ◌∙◌, subst, arith}
 use Rattle.std.proofs.lemmas.Bool.{and_parts, and_from, eq-eqb, ltb-true}
 use Rattle.documents.specs.Tests.{every}

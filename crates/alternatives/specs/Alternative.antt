@@ -45,7 +45,7 @@ pub record Alternative : Type 0 where
 abbrev pub named_by : Alternative → List (List Signed)
 named_by a = map (λ m. m.goal) a.members ++ map (λ f. f.goal) a.fillers
 
--- the same of alternatives in order
+-- the goals that alternatives name, one alternative after another
 abbrev pub named : List Alternative → List (List Signed)
 named alternatives = flat_map named_by alternatives
 

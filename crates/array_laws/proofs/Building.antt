@@ -288,6 +288,7 @@ module _ (T : List Position) (ok : IsTable T) (S : List Signed) (d : ℕ) (q : P
       zero_more : (i : ℕ) → 0 + i ≡ i
       zero_more i = omega arith
 
+  -- the array that is built is arranged as the frame asks
   pub built_arranged : IsArranged T (array_frame T S) (arrangement T (longest T S) es)
   built_arranged = record {
     low = omega (arith, count_is);

@@ -1,3 +1,5 @@
+-- Elements of an array by their places: which item of a frame speaks of the element at a place, and that a list meets
+-- `items` exactly where the element at each place meets the item that speaks of it.
 use Rattle.std.proofs.Common.{◌≡◌, ℕ, zero, suc, ◌<◌, ◌≤◌, inl, inr, Bool, true, false, ◌&&◌, cond, nat_lt, List, [], ◌∷◌, drop, length, refl, sym, ◌∙◌, arith}
 use Rattle.std.proofs.lemmas.Bool.{and_parts, and_from, ltb-false}
 use Rattle.documents.specs.Tests.{every}
@@ -8,6 +10,7 @@ use Rattle.frames.specs.ArrayFrame.{item_at, index_of}
 use Rattle.list_laws.specs.In.{IsIn}
 use Rattle.array_laws.specs.ArrayValues.{stand, doc_at}
 
+-- the element at a place within the list is in the list
 pub doc_in : (ds : List Document) (j : ℕ) → j < length ds → IsIn (doc_at ds j) ds
 doc_in [] j l = absurd (omega (arith, l))
 doc_in (d ∷ ds) zero l = inl refl
@@ -18,7 +21,7 @@ in_doc d [] i = absurd i
 in_doc d (x ∷ ds) (inl e) = (0, omega arith, sym e)
 in_doc d (x ∷ ds) (inr i) = let (j, l, e) = in_doc d ds i in (suc j, omega (arith, l), e)
 
--- past every prefix the number of the place tells the same item
+-- past every prefix each place has the item of the rest
 pub item_past : (ps : List ℕ) (r i : ℕ) → length ps ≤ i → item_at ps r i ≡ r
 item_past [] r i l = refl
 item_past (p ∷ ps) r zero l = absurd (omega (arith, l))

@@ -112,6 +112,7 @@ module _ (T : List Position) (here : ℕ → Bool) (ds : D.Items) (n : ℕ) wher
 
   -- towards an array that meets it
 
+  -- an array that has what the literal says meets the position
   pub from_plus : (P : Position) → prefix_of P ≤ n → plus_choices K.Array P ≡ None → plus_wrong K.Array P ≡ false
       → IsPlus P → Asks P ≡ true
   from_plus (Types ts) p c w k = not-false (some (same_kind K.Array) ts) w
@@ -134,6 +135,7 @@ module _ (T : List Position) (here : ℕ → Bool) (ds : D.Items) (n : ℕ) wher
   from_plus (Depends h q) p c w k = cc
   from_plus _ p c w k = refl
 
+  -- an array that has what the literal says doesn't meet the position
   pub from_minus : (P : Position) → prefix_of P ≤ n → minus_choices K.Array P ≡ None → minus_wrong K.Array P ≡ false
       → IsMinus P → not (Asks P) ≡ true
   from_minus (Types ts) p c w k = ap not w

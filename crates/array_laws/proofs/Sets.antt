@@ -148,6 +148,7 @@ module _ (T : List Position) (ok : IsTable T) (S : List Signed) (ds : D.Items) w
     served_at (Plus p) i w = (plus_at p i).served w
     served_at (Minus p) i w = (minus_at p i).served w
 
+    -- an array that meets the set has its elements arranged as the set's frame asks
     pub is_arranged : IsArranged T (array_frame T S) (arrangement T (longest T S) (elements ds))
     is_arranged = record {
       low = lower_from T S (length (elements ds)) low_at;

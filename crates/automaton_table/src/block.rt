@@ -1,7 +1,7 @@
 //! What is printed of the automaton of some atoms.
 //!
-//! Where there are more than 60 rows or classes, a sum over all targets stands for them, and for each atom the number of
-//! rows in which it is true.
+//! Where there are more than 60 rows or classes, a sum over all targets stands for them, and for each atom the number
+//! of rows in which it is true.
 
 ghost use Rattle.std.specs.Prelude.{◌≡◌, ◌<◌, ◌≤◌, length};
 ghost use Rattle.word_states.specs.Classes.{class_count};

@@ -1,7 +1,7 @@
 //! Reads the goals of its input and prints the branches of each at each kind.
 //!
-//! A line of the input has a schema, or two with a tab between them, as JSON texts. `cases.py` wrote the table, with the
-//! branches that are wanted.
+//! A line of the input has a schema, or two with a tab between them, as JSON texts. `cases.py` wrote the table, with
+//! the branches that are wanted.
 #![tactic(auto)]
 
 mod answer;

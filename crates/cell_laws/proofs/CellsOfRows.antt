@@ -109,8 +109,8 @@ told_is T w x (y ∷ S) h = go (is_some (formula_of (position_at T (position_of 
 
 module _ (characters : List ℕ) (different : Distinct characters)
     (scalars : (c : ℕ) → IsIn c characters → is_scalar c ≡ true) where
-  -- what has to come from rows and capacities: of each name there is a row of which the same is said; a cell whose words
-  -- that are shorter than `far` are fewer than the bound has no others
+  -- what has to come from rows and capacities: of each name there is a row of which the same is said; a cell whose
+  -- words that are shorter than `far` are fewer than the bound has no others
   module _ (far bound : ℕ) (T : List Position) (S : List Signed) (rows : List (List ℕ))
       (rowed : (w : List ℕ) → every is_scalar w ≡ true
       → (v : List ℕ) × IsIn v rows × (vector T (naming T S) w ≡ vector T (naming T S) v))
@@ -125,6 +125,7 @@ module _ (characters : List ℕ) (different : Distinct characters)
         mentions_have (vector T (naming T S) w) [] (map (vector T (naming T S)) rows)
         (subst (λ z. IsIn z (map (vector T (naming T S)) rows)) (sym e) (in_map (vector T (naming T S)) v rows i))
 
+    -- the cells of rows are cells of all names
     pub cells_are : AreCells T S (cells characters far bound T S rows)
     cells_are = record {
       known = λ w s. (place_at (vector T (naming T S) w) (vectors_of T (naming T S) rows) (in_vectors w s)).0;

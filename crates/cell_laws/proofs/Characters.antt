@@ -1,4 +1,4 @@
--- The characters of words meet what is asked of a list of them, and the numbers of the product are great enough.
+-- The characters of words meet what is required of a list of them, and the numbers of the product are great enough.
 use Rattle.std.proofs.Common.{◌≡◌, ℕ, ◌+◌, ◌*◌, ◌<◌, ◌≤◌, inl, inr, List, [], ◌∷◌, true, refl, arith}
 use Rattle.std.proofs.lemmas.Bool.{cases_lt}
 use Rattle.patterns.specs.CharSet.{is_scalar, group_of}
@@ -9,6 +9,7 @@ use Rattle.word_laws.proofs.Firsts.{Rising, ordered_rising}
 use Rattle.cell_laws.specs.FirstWords.{IsOrdered}
 use Rattle.list_laws.specs.In.{IsIn, Distinct}
 
+-- each listed character is a scalar value
 pub scalars : (n c : ℕ) → IsIn c (ordered_below n) → is_scalar c ≡ true
 scalars n c i = ordered_only n c i
 
@@ -23,6 +24,7 @@ rising_differ : (cs : List ℕ) → Rising cs → Distinct cs
 rising_differ [] r = tt
 rising_differ (c ∷ cs) r = ((λ i. never c (r.0 c i)), rising_differ cs r.1)
 
+-- the characters are listed without repeats
 pub different : (n : ℕ) → Distinct (ordered_below n)
 different n = rising_differ (ordered_below n) (ordered_rising n)
 

@@ -28,7 +28,7 @@ asked_by_like rows classes width target in_cell within f g h r l =
     (sum_to_same classes (λ k. width k * f (target r k)) (λ k. width k * g (target r k))
     (λ k m. ap (λ z. width k * z) (h (target r k) (within r k l m))))
 
--- and so do widths that are the same of classes, and tests that are the same of rows
+-- equal widths of classes, and tests that agree on rows, require the same
 pub asked_widths : (classes : ℕ) (v w : ℕ → ℕ) (target : ℕ → ℕ → ℕ) (p q : ℕ → Bool) (f : ℕ → ℕ)
     → ((k : ℕ) → k < classes → v k ≡ w k)
     → ((r : ℕ) → p r ≡ q r) → (r : ℕ) → asked_by classes v target p f r ≡ asked_by classes w target q f r
@@ -62,7 +62,7 @@ module _ (letters : List ℕ) (class : ℕ → ℕ) (target : ℕ → ℕ → �
   closed : (r c : ℕ) → r < rows → IsIn c letters → to r c < rows
   closed r c l i = within r (class c) l (classed c i)
 
-  -- what is asked by letters is asked by classes
+  -- what is required by letters is what is required by classes
   pub asked_same : (label : ℕ → ℕ) (r : ℕ)
       → asked letters to in_cell label r ≡ asked_by classes (width class letters) target in_cell label r
   asked_same label r =
@@ -164,7 +164,7 @@ module _ (letters : List ℕ) (class : ℕ → ℕ) (target : ℕ → ℕ → �
           (number letters to in_cell bound far)
       printed_keep r l = let e = printed_equal r l in omega (arith, e)
 
-      -- nothing below them keeps it
+      -- no labels below these keep the rule
       pub printed_least : (label : ℕ → ℕ) → KeepsRule rows classes (width class letters) target in_cell label
           → (r : ℕ) → r < rows → number letters to in_cell bound far r ≤ label r
       printed_least label k r l = label_number label k bound far r l

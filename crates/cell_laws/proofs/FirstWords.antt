@@ -102,6 +102,7 @@ module _ (atoms : List Atom) (L : List (List ℕ)) (target : ℕ → ℕ → ℕ
       pub first_ordered : (n : ℕ) → IsOrdered (Before rank) (take n passing)
       first_ordered n = (are_first n).0
 
+      -- a word that passes the test and is before one of the first words is one of them
       pub first_down : (n : ℕ) (v w : List ℕ) → IsIn w (take n passing) → list_all is_scalar v ≡ true → p v ≡ true
           → Before rank v w
           → IsIn v (take n passing)
@@ -112,7 +113,7 @@ module _ (atoms : List Atom) (L : List (List ℕ)) (target : ℕ → ℕ → ℕ
           ) b
 
     module _ (bound : ℕ) (enough : length L * bound ≤ far) where
-      -- up to the cut number there are as many as are asked for
+      -- up to the cut number there are as many as requested
       pub first_length : (n : ℕ) → n ≤ min bound (length passing) → length (take n passing) ≡ n
       first_length n l = let e = length-take n passing in grind (arith, e, l)
 
@@ -136,7 +137,7 @@ module _ (atoms : List Atom) (L : List (List ℕ)) (target : ℕ → ℕ → ℕ
             absurd (omega (arith, q))
       ]
 
-      -- so the first words are all words, where so many are asked for as there are
+      -- so the first words are all words, where as many are requested as there are
       pub first_all : (n : ℕ) → n ≡ min bound (length passing) → n < bound → (w : List ℕ)
           → list_all is_scalar w ≡ true → p w ≡ true
           → IsIn w (take n passing)
@@ -152,6 +153,7 @@ module _ (atoms : List Atom) (L : List (List ℕ)) (target : ℕ → ℕ → ℕ
 
       -- where some word passes, the first word is no longer
       module _ (rank : ℕ → ℕ) (ordered : IsOrdered (λ c d. rank c < rank d) characters) (some : 0 < bound) where
+        -- where a word passes the test, the first word is there and no longer than it
         pub first_shortest : (w : List ℕ) → list_all is_scalar w ≡ true → p w ≡ true
             → (v : List ℕ) × (take 1 passing ≡ v ∷ []) × (length v ≤ length w)
         first_shortest w s t = go passing refl where

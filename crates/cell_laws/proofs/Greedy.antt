@@ -1,3 +1,5 @@
+-- The first word of a cell, letter by letter. Distances to the cell that no relaxation lowers are the lengths of
+-- shortest words; so the first letter whose target is nearer begins the first word.
 use Rattle.std.proofs.Common.{◌≡◌, ℕ, suc, ◌≤◌, ◌<◌, ◌⊎◌, inl, inr, List, [], ◌∷◌, Bool, length, refl, ap, sym, subst, arith}
 use Rattle.cell_laws.specs.Leading.{Leads}
 use Rattle.cell_laws.specs.FirstWords.{IsRelaxed, IsLeast, IsGreedy}

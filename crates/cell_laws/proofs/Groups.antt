@@ -1,3 +1,5 @@
+-- A sum over letters whose terms depend on the class of the letter alone is a sum over classes, each times its number
+-- of letters. So what is required of labels is computed class by class.
 use Rattle.std.proofs.Common.{◌≡◌, ℕ, zero, suc, ◌+◌, ◌*◌, ◌≤◌, ◌<◌, inl, inr, List, [], ◌∷◌, Bool, true, false, cond, nat_eq, refl, ap, sym, ◌∙◌, arith}
 use Rattle.std.proofs.lemmas.Bool.{eqb-true, eqb-false}
 use Rattle.list_laws.proofs.Counts.{sum_over}

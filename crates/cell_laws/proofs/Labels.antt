@@ -89,7 +89,7 @@ module _ (atoms : List Atom) (L : List (List ℕ)) (target : ℕ → ℕ → ℕ
       lettered r l = let (w, s, e) =
           reached r l in (w, T.letters_of atoms L target leads p shared characters different scalars whole w s, e)
 
-      -- none is cut
+      -- no printed number is cut: each is a number of words, below the bound
       pub printed_down : (r : ℕ) → r < length L → (printed r ≤ length (filter p (shorter characters far)))
           × (printed r < bound)
       printed_down r l =

@@ -6,7 +6,7 @@ use Rattle.cell_laws.specs.FirstWords as F
 use Rattle.list_laws.specs.In.{IsIn}
 use Rattle.cells.specs.WordsInOrder.{of_length, shorter}
 
--- the same test of members picks the same
+-- tests that agree on the members of a list pick the same ones
 pub filter_same : {A : Type 0} (p q : A → Bool) (xs : List A) → ((x : A) → IsIn x xs → p x ≡ q x)
     → filter p xs ≡ filter q xs
 filter_same p q [] h = refl

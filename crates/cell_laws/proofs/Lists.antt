@@ -1,3 +1,5 @@
+-- Lists without repeats, and lists of words that all lead into the cell: their fronts, two of them joined, and a letter
+-- before each word.
 use Rattle.std.proofs.Common.{ℕ, zero, suc, ◌⊎◌, inl, inr, ⊎_elim, List, [], ◌∷◌, ◌++◌, map, take, Bool, refl, sym, subst}
 use Rattle.cell_laws.specs.Leading.{Leads, AllLead}
 use Rattle.list_laws.specs.In.{Distinct, IsIn}
@@ -8,6 +10,7 @@ distinct_take zero xs d = tt
 distinct_take (suc n) [] d = tt
 distinct_take (suc n) (a ∷ xs) d = ((λ i. d.0 (in_take n a xs i)), distinct_take n xs d.1)
 
+-- two lists without repeats that share no element make one without repeats
 pub distinct_append : {A : Type 0} (xs ys : List A) → Distinct xs → Distinct ys
     → ((x : A) → IsIn x xs → IsIn x ys → ⊥) → Distinct (xs ++ ys)
 distinct_append [] ys d e h = e

@@ -1,3 +1,6 @@
+-- A row has as many different words as its label where its targets have: words of the targets, each behind its letter,
+-- are different. Rows on loops have words without end. So labels that no sweep raises, each with its words, are the
+-- capacities.
 use Rattle.std.proofs.Common.{◌≡◌, ℕ, zero, suc, ◌+◌, ◌≤◌, ◌<◌, ◌⊎◌, inl, inr, ⊎_elim, List, [], ◌∷◌, ◌++◌, map, take, min, Bool, true, false, cond, length, refl, ap, ap₂, sym, ◌∙◌, subst, arith}
 use Rattle.std.proofs.lemmas.List.{length-take, length-append, length-map}
 use Rattle.cell_laws.specs.Leading.{Leads, AllLead, HasWords, AtMost, IsCapacity, asked, IsStable}
@@ -62,7 +65,7 @@ module _ (letters : List ℕ) (to : ℕ → ℕ → ℕ) (in_cell : ℕ → Bool
             (λ j. let (a, u, q, s) = b w j in (a, u, q, inr s)) (in_append w (map (λ w. c ∷ w) ws) vs i)),
       )
 
-  -- where each target has as many words as its label, the row has as many as are asked of it
+  -- where each target has as many words as its label, the row has as many as are required of it
   pub step : (label : ℕ → ℕ) (r : ℕ) → Distinct letters → ((c : ℕ) → Words (to r c) (label (to r c)))
       → Words r (asked letters to in_cell label r)
   step label r d have = go (in_cell r) refl where

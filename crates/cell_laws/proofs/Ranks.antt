@@ -1,3 +1,5 @@
+-- The k-th word of a list by counts alone: the words that begin with earlier letters are passed, letter by letter. And
+-- the order of words is total, so there is one list of first words of each length.
 use Rattle.std.proofs.Common.{◌≡◌, ℕ, zero, suc, ◌+◌, ◌-◌, ◌≤◌, ◌<◌, ◌⊎◌, inl, inr, ⊎_elim, List, [], ◌∷◌, ◌++◌, map, get_or, nat_lt, Bool, true, false, cond, length, refl, ap, ap₂, sym, ◌∙◌, subst, arith}
 use Rattle.std.specs.List.{flat_map}
 use Rattle.std.proofs.lemmas.List.{length-append, length-map, append_assoc, get_or_append_left, get_or-map}

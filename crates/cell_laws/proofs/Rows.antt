@@ -43,7 +43,7 @@ module _ (atoms : List Atom) (L : List (List ℕ)) (rows : AreRows atoms L) wher
       (all_end v f (rows_words atoms L rows v (in_get L r [] l))
       (firsts_scalar atoms f (in_get (class_firsts atoms) k 0 m))))
 
-  -- it has no other
+  -- a word has no other row
   pub one_row : (w : List ℕ) (r q : ℕ) → IsRowOf atoms L w r → IsRowOf atoms L w q → r ≡ q
   one_row w r q i j = elim (cases_lt r q) [
     | inl m ↦ absurd (apart r q m i j)

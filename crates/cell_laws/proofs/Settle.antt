@@ -63,6 +63,7 @@ module _ (rows bound : ℕ) (at : ℕ → ℕ → ℕ)
       ]
     ]
 
+    -- after as many steps as rows times the bound the numbers rise no more
     pub settled : (n : ℕ) → rows * bound ≤ n → IsSettled n
     settled n l = elim (by_then (rows * bound)) [
       | inl (i, h, s) ↦ subst IsSettled (minus n i h l) (stays i (n - i) s)

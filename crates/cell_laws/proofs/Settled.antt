@@ -31,7 +31,7 @@ module _ (letters : List ℕ) (to : ℕ → ℕ → ℕ) (in_cell : ℕ → Bool
       letters in
       omega (arith, e, f)
 
-  -- and so many there are
+  -- there are as many words as are counted
   pub has_count : Distinct letters → (m r : ℕ) → HasWords letters to in_cell r (count letters to in_cell m r)
   has_count d zero r = L.none letters to in_cell r
   has_count d (suc m) r =

@@ -1,3 +1,5 @@
+-- Sums over a list: of nothing, of two functions, of functions that agree, and up to a bound. A sum is known up to a
+-- bound where its terms are, so numbers that are cut can be added.
 use Rattle.std.proofs.Common.{◌≡◌, ℕ, ◌+◌, ◌≤◌, min, inl, inr, List, [], ◌∷◌, refl, ap₂, arith}
 use Rattle.list_laws.proofs.Counts.{sum_over}
 use Rattle.list_laws.specs.In.{IsIn}

@@ -22,7 +22,7 @@ use Rattle.cell_laws.specs.RowTables.{IsRowOf, LeadsOn}
 use Rattle.cell_laws.proofs.Listed.{filter_same, listed}
 use Rattle.cell_laws.proofs.Settled.{count_is, at_most}
 
--- what is told by the truths of the atoms is such a test
+-- what the truths of the atoms determine is such a test
 pub told_shared : (atoms : List Atom) (f : List Bool → Bool) (v w : List ℕ) → have_same_state atoms v w ≡ true
     → f (signature_of atoms v) ≡ f (signature_of atoms w)
 told_shared atoms f v w e =

@@ -1,3 +1,6 @@
+-- Labels of which no row requires more bound the numbers of words. Different words of a row are parted by their first
+-- letters, what follows a letter leads from its target, and the target's label bounds that, by induction over the
+-- length of the words.
 use Rattle.std.proofs.Common.{◌≡◌, ℕ, zero, suc, ◌+◌, ◌≤◌, ◌<◌, ◌⊎◌, inl, inr, ⊎_elim, List, [], ◌∷◌, Bool, true, false, cond, length, nat_eq, refl, ap, ap₂, sym, subst, arith}
 use Rattle.std.proofs.lemmas.Bool.{eqb-true, eq-eqb}
 use Rattle.cell_laws.specs.Leading.{AllIn, walk, Leads, AtMost, asked, IsStable}

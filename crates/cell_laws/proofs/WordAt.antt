@@ -21,6 +21,7 @@ module _ (letters : List ℕ) (to : ℕ → ℕ → ℕ) (in_cell : ℕ → Bool
   module _ (counts : ℕ → ℕ → ℕ) (bound : ℕ)
       (cut : (m r : ℕ) → (counts m r ≡ count_of letters to in_cell m r)
       ⊎ ((counts m r ≡ bound) × (bound ≤ count_of letters to in_cell m r))) where
+    -- the k-th word of the list, whose length m the counts give, is the one that is built letter by letter
     pub nth : (n m r k : ℕ) → m < n → count letters to in_cell m r ≤ k → k < count letters to in_cell (suc m) r
         → k - count letters to in_cell m r < bound
         → get_or (shorter letters to in_cell n r) k [] ≡ word_at letters to counts m r

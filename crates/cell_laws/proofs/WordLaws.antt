@@ -1,3 +1,5 @@
+-- The order of words, by length and then by the ranks of their letters. Words listed by length stand in it, the first n
+-- of them are the first words of the cell, and no word of the cell is before a greedy one.
 use Rattle.std.proofs.Common.{◌≡◌, ℕ, zero, suc, ◌≤◌, ◌<◌, ◌⊎◌, inl, inr, ⊎_elim, List, [], ◌∷◌, ◌++◌, map, take, Bool, true, false, cond, length, refl, ap, sym, subst, arith}
 use Rattle.std.specs.List.{flat_map}
 use Rattle.cell_laws.specs.Leading.{walk, Leads}
@@ -173,6 +175,7 @@ module _ (rank : ℕ → ℕ) where
 
     module _ (rows : ℕ) (far : ℕ → ℕ) (closed : (r c : ℕ) → r < rows → IsIn c letters → to r c < rows)
         (relaxed : IsRelaxed rows letters to in_cell far) where
+      -- no word of a row's cell is shorter than the row's distance
       pub no_shorter : (r : ℕ) (w : List ℕ) → r < rows → Leads letters to in_cell r w → far r ≤ length w
       no_shorter r [] l h = let e : far r ≡ 0 = (relaxed r l).0 h.1 in omega (arith, e)
       no_shorter r (c ∷ w) l h =

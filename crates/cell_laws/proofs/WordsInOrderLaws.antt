@@ -64,6 +64,7 @@ module _ (characters : List ℕ) (different : Distinct characters)
         let r : c ≡ b = cc in
         d.0 (subst (λ z. IsIn z cs) (sym r) h))
 
+  -- each word of the list is shorter than n and made of scalar values
   pub shorter_is : (n : ℕ) (w : List ℕ) → IsIn w (shorter characters n) → (length w < n) × (every is_scalar w ≡ true)
   shorter_is zero w i = absurd i
   shorter_is (suc n) w i = ⊎_elim

@@ -8,7 +8,7 @@ module _ (letters : List ℕ) (to : ℕ → ℕ → ℕ) (in_cell : ℕ → Bool
   count zero r = 0
   count (suc m) r = count m r + count_of letters to in_cell m r
 
-  -- the same, cut
+  -- the number of words, cut at a bound
   abbrev pub number : (bound m r : ℕ) → ℕ
   number bound m r = min bound (count m r)
 

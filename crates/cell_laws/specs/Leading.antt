@@ -37,7 +37,7 @@ IsCapacity letters to in_cell bound r k = (k ≤ bound) × HasWords letters to i
 abbrev pub asked : (letters : List ℕ) (to : ℕ → ℕ → ℕ) (in_cell : ℕ → Bool) (label : ℕ → ℕ) (r : ℕ) → ℕ
 asked letters to in_cell label r = cond (in_cell r) 1 0 + sum_over (λ c. label (to r c)) letters
 
--- a label below the bound is at least what is asked of it
+-- a label below the bound is at least what is required of it
 abbrev pub IsStable : (rows : ℕ) (letters : List ℕ) (to : ℕ → ℕ → ℕ) (in_cell : ℕ → Bool) (bound : ℕ) (label : ℕ → ℕ)
     → Type 0
 IsStable rows letters to in_cell bound label = (r : ℕ) → r < rows → label r < bound

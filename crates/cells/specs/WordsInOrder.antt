@@ -1,7 +1,7 @@
 -- Words in order: by length, and then by the order of their characters.
 use Rattle.std.specs.Prelude.{ℕ, zero, suc, List, [], ◌∷◌, ◌++◌, map, flat_map}
 
--- one more character
+-- the words of length n, in the order of their characters
 abbrev pub of_length : List ℕ → ℕ → List (List ℕ)
 of_length cs zero = [] ∷ []
 of_length cs (suc n) = flat_map (λ c. map (λ w. c ∷ w) (of_length cs n)) cs

@@ -152,7 +152,7 @@ module _ (F : Finders) (T : List Position) (most most_places a b : ℕ) where
               last = place_last (by_branch T (words_of F)) E f 0 reached ∙ sym many;
             }
 
-      -- a document that is told is one, and shows that the first position isn't included in the second one
+      -- a document that is reported is one, and shows that the first position isn't included in the second one
       pub document_right : (ps : List Part) (i : ℕ) → Decision.verdict ≡ Document ps i → IsCounterexample T a b ps i
       document_right ps i e =
           go (root_of T a b) refl (subst (λ v. RootSays (root_of T a b) v) e (root_says (root_of T a b))) where

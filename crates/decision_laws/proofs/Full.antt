@@ -35,7 +35,7 @@ module _ (most most_total : ℕ) (expansion : List Signed → Expansion) (good :
     pub differ : Distinct s.goals
     pub are_good : every good s.goals ≡ true
 
-  -- one more limit
+  -- one more limit, which is `Goals` or `Total`
 
   with_goals : (o : Option LimitKind) → ((k : LimitKind) → o ≡ Some k → (k ≡ Goals) ⊎ (k ≡ Total))
       → (k : LimitKind) → first_limit o Goals ≡ Some k → (k ≡ Goals) ⊎ (k ≡ Total)
@@ -109,6 +109,7 @@ module _ (most most_total : ℕ) (expansion : List Signed → Expansion) (good :
   kept_after zero s h = h
   kept_after (suc n) s h = stepped (after most most_total expansion n s) (kept_after n s h)
 
+  -- the goals that are explored are different and good, and only the limits on goals or on places stop them
   pub explored_kept : (root : List Signed) → good root ≡ true → IsKept (explored most most_total expansion root)
   unfolding explored
   explored_kept root e = kept_after most (found (root ∷ []) 0 0 None) (record {

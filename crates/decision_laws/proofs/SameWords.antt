@@ -1,5 +1,5 @@
--- The words of a branch by its cells are those by its set, where an alternative names them: so parts and decisions are the
--- same by either.
+-- The words of a branch by its cells are those by its set, where an alternative names them: so parts and decisions are
+-- the same by either.
 use Rattle.std.proofs.Common.{◌≡◌, ℕ, ◌<◌, ◌≤◌, ◌⊎◌, inl, inr, Bool, true, false, cond, nat_lt, List, [], ◌∷◌, map, length, take, get_or, Option, Some, None, Result, Ok, Err, is_some, slice_get, refl, ap, ap₂, sym, ◌∙◌, subst, arith}
 use Rattle.std.proofs.lemmas.Bool.{cases_lt}
 use Rattle.std.proofs.lemmas.List.{get_or_past}

@@ -55,7 +55,7 @@ one_place : decide 4 1 T 3 4 ≡ decided (Limit Total None) 1 0
 unfolding T F expansion G.steps plan_steps GG.follow explored
 one_place = refl
 
--- a count that is too large is a hole of the root, told before the limit on goals
+-- a count that is too large is a hole of the root, reported before the limit on goals
 U : List Position
 U = Types (K.Array ∷ []) ∷ CountMin 65537 ∷ All (0 ∷ 1 ∷ []) ∷ False ∷ []
 

@@ -47,7 +47,7 @@ first_hole expansion (g ∷ gs) = or_later g (expansion g).hole (first_hole expa
 
 -- `words`: word k of cell c of a branch of a goal, by the branch's kind and number
 module _ (words : List Signed → Kind → ℕ → ℕ → ℕ → List ℕ) (expansion : List Signed → Expansion) where
-  -- goal 0 has a document where some round has it; else a hole of a goal that was taken is told before the limit on all
+  -- goal 0 has a document where some round has it; else a hole of a goal that was taken comes before the limit on all
   abbrev pub verdict_of : Found → Verdict
   verdict_of f =
       cond (is_some (satisfied expansion f 0))

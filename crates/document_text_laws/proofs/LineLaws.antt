@@ -204,6 +204,7 @@ count-whole n l =
     (within-append (codes "parts ") (decimal n) (within-test (codes "parts ") refl)
     (within-decimal n (omega (arith, l))))
 
+-- the lines of parts are whole: each has one line feed, at its end
 pub lines-whole : (i : ℕ) (ps : List Part) → i + length ps ≤ 4294967296 → every is_told ps ≡ true
     → Whole (length ps) (lines_text i ps)
 lines-whole i [] l h = whole-none

@@ -33,6 +33,7 @@ number_on-ends n (d ∷ ds) h = go (is_ascii_digit d) h where
   go true h = cc
   go false h = refl
 
+-- a number's text is read back, with what comes behind it
 pub number-read : (n : ℕ) (rest : List ℕ) → n < 10 ^ 64 → ends rest ≡ true → number_on 0 (decimal n ++ rest) ≡ (n, rest)
 number-read n rest l h = (decimal-read n l).read rest ∙ number_on-ends n rest h
 

@@ -278,6 +278,7 @@ line-ended : (i : ℕ) (p : Part) (r : List ℕ) → line_text i p ++ r ≡ deci
 line-ended i p r =
     append_assoc (decimal i ++ 32 ∷ part_text p) (10 ∷ []) r ∙ append_assoc (decimal i) (32 ∷ part_text p) (10 ∷ r)
 
+-- two lines of parts that begin one text are of the same number and part, and the same comes behind them
 pub same-line : (i j : ℕ) (p q : Part) (r u : List ℕ) → is_named i ≡ true → is_named j ≡ true → is_told p ≡ true
     → is_told q ≡ true → line_text i p ++ r ≡ line_text j q ++ u → (i ≡ j) × Same p q r u
 same-line i j p q r u hi hj hp hq e =
@@ -312,6 +313,7 @@ behind_word xs = tail_of (tail_of (tail_of (tail_of (tail_of (tail_of xs)))))
 counted : (n : ℕ) (r : List ℕ) → behind_word (count_text n ++ r) ≡ decimal n ++ 10 ∷ r
 counted n r = append_assoc (decimal n) (10 ∷ []) r
 
+-- two lines of counts that begin one text count the same, and the same comes behind them
 pub same-count : (m n : ℕ) (r u : List ℕ) → m ≤ 4294967295 → n ≤ 4294967295 → count_text m ++ r ≡ count_text n ++ u
     → Same m n r u
 same-count m n r u lm ln e =

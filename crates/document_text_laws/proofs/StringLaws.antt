@@ -201,7 +201,7 @@ behind-text : (s rest : List ℕ) → behind (string_text s ++ rest) ≡ Some (e
 behind-text s rest =
     ap (read_on plain []) (append_assoc (flat_map character_text s) (34 ∷ []) rest) ∙ read_on-text s [] rest
 
--- the same by what stands behind the first quote
+-- a string is read back from what stands behind its first quote
 pub read_on-string : (s rest : List ℕ)
     → read_on plain [] (drop 1 (string_text s ++ rest)) ≡ Some (encode_utf8_all s, rest)
 read_on-string s rest = behind-text s rest
@@ -217,6 +217,7 @@ scalars-of (c ∷ s) h =
     one : (c : ℕ) → is_scalar c ≡ true → scalar c ≡ true
     one c h = grind (arith, h)
 
+-- the characters of a word's bytes are the word, where it is made of scalar values
 pub chars-text : (s : List ℕ) → every is_scalar s ≡ true → chars (encode_utf8_all s) ≡ s
 chars-text s h = chars-encodes s (scalars-of s h)
 

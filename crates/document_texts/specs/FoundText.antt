@@ -1,4 +1,5 @@
--- What is printed of a document that was found: its text in a line behind the line `document`, or the table of its parts.
+-- What is printed of a document that was found: its text in a line behind the line `document`, or the table of its
+-- parts.
 use Rattle.std.specs.Prelude.{ℕ, List, [], ◌∷◌, ◌++◌, Bool, ◌&&◌, cond, nat_le, codes}
 use Rattle.shared_documents.specs.Part.{Part}
 use Rattle.shared_documents.specs.Unshared.{unshared}

@@ -3,7 +3,7 @@
 pub mod Scalars
 pub mod DocumentText
 pub mod PartsText
--- which bytes are a table's text, and where others are told
+-- which bytes are a table's text, and at which line others are refused
 pub mod PartsRead
 pub mod Measured
 -- which of the two texts is printed of a document that was found

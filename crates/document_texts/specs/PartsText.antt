@@ -1,4 +1,4 @@
--- The text of a table of parts: a line that tells how many there are, and then a line for each, lowest first.
+-- The text of a table of parts: a line that says how many there are, and then a line for each, lowest first.
 use Rattle.std.specs.Prelude.{ℕ, suc, List, [], ◌∷◌, ◌++◌, length, map, codes}
 use Rattle.std.specs.Fmt.{decimal, signed_decimal}
 use Rattle.shared_documents.specs.Part.{Part, null, boolean, number, string, array, object}

@@ -8,5 +8,5 @@ pub mod WellFormed
 pub mod Place
 -- The tests that keywords and positions ask of documents.
 pub mod Measures
--- And what is asked of a list of whole numbers.
+-- And membership in a list of whole numbers.
 pub mod Numbers

@@ -1,4 +1,4 @@
--- What is asked of documents of one kind, as tests that compute: of numbers, elements and members; and JSON equality.
+-- Requirements on documents of one kind, as tests that compute: on numbers, elements and members; and JSON equality.
 use Rattle.std.specs.Prelude.{ℕ, ◌%◌, ◌==◌, ℤ, unsigned_abs, List, [], ◌∷◌, Bool, true, false, ◌&&◌, ◌||◌, not, cond}
 use Rattle.std.specs.Ordering.{int_eq}
 use Rattle.documents.specs.Tests.{every, some, same_word}
@@ -13,7 +13,7 @@ exactly_one p (x ∷ xs) = cond (p x) (not (some p xs)) (exactly_one p xs)
 abbrev pub is_multiple : ℕ → ℤ → Bool
 is_multiple m x = unsigned_abs x % m == 0
 
--- what is asked of documents of one kind asks nothing of the others
+-- a requirement on documents of one kind, which all documents of other kinds meet
 abbrev pub at_number : (ℤ → Bool) → Document → Bool
 at_number p (number n) = p n
 at_number p _ = true

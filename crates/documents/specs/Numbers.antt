@@ -1,4 +1,4 @@
--- What is asked of a list of whole numbers.
+-- Whether a number is in a list of whole numbers.
 use Rattle.std.specs.Prelude.{List, Bool, ℤ}
 use Rattle.std.specs.List.{list_any}
 use Rattle.std.specs.Ordering.{int_eq}

@@ -241,6 +241,7 @@ module _ (T : List Position) (C : Cells) (words : AreWords T C) where
 -- by kinds
 
 module _ (F : Finders) (T : List Position) where
+  -- an alternative has the kind and the number of the branch that it comes from
   pub of_branch : (t : Kind) (k : ℕ) (S : List Signed) (a : Alternative) → IsFrom F T t k S a
       → (a.kind ≡ t) × (a.branch ≡ k)
   of_branch K.Null k S a h = (ap (λ z. z.kind) h.is, ap (λ z. z.branch) h.is)

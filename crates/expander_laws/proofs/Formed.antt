@@ -14,6 +14,7 @@ no_one : {A : Type 0} (o : Option A) → is_none o ≡ true → o ≡ None
 no_one None e = refl
 no_one (Some x) e = cc
 
+-- a goal that passes the test is formed
 pub is_formed-true : (T : List Position) (g : List Signed) → is_formed T g ≡ true → IsFormed T g
 is_formed-true T g e =
     let (front, each) =

@@ -1,4 +1,4 @@
--- What is asked of elements and members names positions of the table, so goals of them are in it.
+-- What is required of elements and members names positions of the table, so goals of them are in it.
 use Rattle.std.proofs.Common.{◌≡◌, ℕ, zero, suc, ◌<◌, Bool, true, false, ◌&&◌, nat_lt, List, [], ◌∷◌, ◌++◌, flat_map, length, Some, refl, sym, subst}
 use Rattle.std.proofs.lemmas.Bool.{and_from, and_parts, lt-ltb}
 use Rattle.std.specs.List.{AllByRecursion}

@@ -1,5 +1,5 @@
--- The laws of an expander, of the goals that it takes: whatever finds numbers, words and cells, but that cells are found
--- rightly where words are named.
+-- The laws of an expander, of the goals that it takes: whatever finds numbers, words and cells, but that cells are
+-- found rightly where words are named.
 use Rattle.std.proofs.Common.{◌≡◌, ℕ, ◌<◌, Bool, true, ◌&&◌, nat_lt, List, [], length, Some, Ok, slice_get, get_or, sym, subst}
 use Rattle.std.proofs.lemmas.Bool.{and_parts, and_from, ltb-true, lt-ltb}
 use Rattle.std.proofs.lemmas.Option.{slice_get_within}

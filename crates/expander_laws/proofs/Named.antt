@@ -1,4 +1,4 @@
--- A branch of which a goal has an alternative: it is told, and at texts and objects its words were found.
+-- A branch of which a goal has an alternative: it is among the branches, and at texts and objects its words were found.
 use Rattle.std.proofs.Common.{◌≡◌, ℕ, ◌≤◌, true, ◌&&◌, nat_eq, List, [], Some, Ok, slice_get, refl, ap, sym, ◌∙◌, subst}
 use Rattle.std.proofs.lemmas.Bool.{and_parts, eqb-true}
 use Rattle.documents.specs.Kind as K
@@ -48,6 +48,7 @@ module _ (F : Finders) (T : List Position) where
     pub found : IsFound t branch
     pub cells : branch_cells F T g t k ≡ set_cells F t branch
 
+  -- a branch that is named by an alternative is one of the goal's, and its words were found
   pub named_branch : (g : List Signed) (t : Kind) (k : ℕ) → names_branch (expansion T (leaf F T) g) t k ≡ true
       → IsNamed g t k
   named_branch g t k e =

@@ -155,6 +155,7 @@ module _ (T : List Position) (ok : IsTable T) where
     object_bounds = not_crossed (O.lower T S) (length (entries ms)) (O.below T S)
         (lower_from T S (length (entries ms)) low_at) (below_from T S (length (entries ms)) high_at)
 
+  -- the cells of a set are cells of all names, with words, counted up to 65,537
   pub record IsCells (S : List Signed) (C : Cells) : Type 0 where
     pub cells : AreCells T S C
     pub words : AreWords T C

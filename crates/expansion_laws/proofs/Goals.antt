@@ -36,6 +36,7 @@ get_in {A = A} x (y ∷ xs) zero e = inl (sym (same y x e)) where
   same y x e = cc
 get_in x (y ∷ xs) (suc n) e = inr (get_in x xs n e)
 
+-- what stands at a place of a list is there whatever default is given
 pub get_is : {A : Type 0} (d x : A) (xs : List A) (n : ℕ) → slice_get xs n ≡ Some x → get_or xs n d ≡ x
 get_is d x [] n e = cc
 get_is d x (y ∷ xs) zero e = cc

@@ -1,4 +1,5 @@
--- A hole means that a count of the goal passes its limit: which one, of which kind and branch, and that none did before.
+-- A hole means that a count of the goal passes its limit: which one, of which kind and branch, and that none did
+-- before.
 use Rattle.std.proofs.Common.{◌≡◌, ℕ, ◌+◌, ◌<◌, ◌≤◌, ◌⊎◌, inl, inr, Bool, true, false, cond, nat_lt, List, [], ◌∷◌, ◌++◌, map, flat_map, Option, Some, None, Result, Ok, Err, slice_get, refl, ap, sym, ◌∙◌, subst, arith}
 use Rattle.std.proofs.lemmas.Bool.{ltb-true, ltb-false}
 use Rattle.documents.specs.Tests.{some}

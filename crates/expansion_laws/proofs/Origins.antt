@@ -111,10 +111,11 @@ module _ (F : Finders) (T : List Position) where
     pub number : ℕ
     pub branch : List Signed
     pub at : slice_get (G.branches (G.steps T kind g)) number ≡ Some branch
-    -- so the branches of its kind are told
+    -- so the branches of its kind are few enough to be listed
     pub few : G.ends (G.steps T kind g) ≤ most_ends
     pub from : IsFrom kind number branch a
 
+  -- each alternative of a goal has a branch of the goal and, there, a scalar or a complete plan
   pub origin : (g : List Signed) (a : Alternative) → IsIn a (expansion T (leaf F T) g).alternatives → HasOrigin g a
   origin g a i =
       let (t, (k, (S, p, few, (more, e, l)))) = expansion_from T (leaf F T) g a i in

@@ -82,6 +82,7 @@ module _ (make : Frame → Plan → Alternative) (T : List Position) (lower : �
   with_is (Ok frame) more l e = planned_is frame more l e
   with_is (Err k) more l e = cc
 
+  -- a leaf of plans has no alternative where the bounds cross, and else those of the frame's complete plans
   pub leaf_is : (fr : Result Frame LimitKind) (more : List Alternative) → plan_leaf make T lower below fr ≡ Ok more
       → ((is_at_end lower below ≡ true) × (more ≡ []))
       ⊎ ((is_at_end lower below ≡ false) × IsOpen make T lower fr more)

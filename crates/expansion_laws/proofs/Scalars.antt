@@ -53,7 +53,7 @@ module _ {A : Type 0} (T : List Position) (t : Kind) (shape : A → Shape)
         (ap (λ z. z.kind) s, ap (λ z. z.branch) s);
   }
 
--- and so does a finder
+-- a finder of one scalar, or of none, makes a leaf
 module _ {A : Type 0} (T : List Position) (t : Kind) (shape : A → Shape)
     (find : List Signed → Result (Option A) LimitKind) where
   abbrev list : List Signed → Result (List A) LimitKind
@@ -88,6 +88,7 @@ module _ {A : Type 0} (T : List Position) (t : Kind) (shape : A → Shape)
         (one_found (find S) xs e).1;
   }
 
+  -- a finder that keeps its laws makes a leaf that does
   pub finder_leaf : (words : List Signed → ℕ → ℕ → List ℕ) → IsFinder T t words shape find
       → IsLeaf T t words (λ k S. scalar_leaf t shape k (find S))
   finder_leaf words f =

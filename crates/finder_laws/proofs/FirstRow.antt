@@ -57,6 +57,7 @@ module _ (T : List Position) (S : List Signed) (L : List (List ℕ)) (rows : Are
         subst (λ z. NoLater z w) e h.no_later,
       )
 
+  -- where no row's word is wanted, no word is
   pub none_first : ((j : ℕ) → j < length L → is_wanted T S (get_or L j []) ≡ false)
       → first_of (wanted_words T S) ≡ None
   none_first none = go (wanted_words T S) (λ w i. i) where
@@ -66,6 +67,7 @@ module _ (T : List Position) (S : List Signed) (L : List (List ℕ)) (rows : Are
         let (l, s, t) = wanted_is T S w (k w (inl refl)) in
         let (j, m, u, n) = wanted_row w s t in absurd (true≢false (sym u ∙ none j m))
 
+  -- the word of the first wanted row is the first wanted word
   pub row_first : (i : ℕ) → i < length L → is_wanted T S (get_or L i []) ≡ true
       → ((j : ℕ) → j < i → is_wanted T S (get_or L j []) ≡ false)
       → first_of (wanted_words T S) ≡ Some (get_or L i [])

@@ -52,7 +52,7 @@ module _ {A : Type 0} (same : A → A → Bool) (laws : IsEquivalence same) (ext
   grow_rows n l =
       grow_through n ∙ ap (λ z. R.mentioned same laws extend start z) (take_all n (grow same extend start n) l)
 
-  -- and nothing stands twice in it
+  -- nothing stands twice in a list that is grown
   pub grow_distinct : (n : ℕ) → IsDistinct same (grow same extend start n)
   unfolding IsDistinct
   grow_distinct n =

@@ -70,7 +70,7 @@ module _ (here : ℕ → Bool) (below : ℕ → Document → Bool) (w : List ℕ
   wanted_minus (Match r) e = and_end (not (is_true (W.Match r.tree) w)) ∙ e
   wanted_minus _ e = refl
 
-  -- and back, where it is a literal that isn't wrong
+  -- the converse: what is said is met, where it is a literal that isn't wrong
 
   from_plus : (P : Position) → plus_choices K.Text P ≡ None → plus_wrong K.Text P ≡ false → plus_lower P ≤ length w
       → is_at_end (length w) (plus_below P) ≡ false → wants_plus P ≡ true
@@ -125,6 +125,7 @@ module _ (T : List Position) (ok : IsTable T) (w : List ℕ) where
         wanted = wanted_minus here (holds T) w (position_at T p) a;
       }
 
+  -- a word that has what a literal says meets it
   pub literal_met : (x : Signed) → choices T K.Text x ≡ None → is_wrong T K.Text x ≡ false → IsLiteral x
       → met here x ≡ true
   literal_met (Plus p) c v k =

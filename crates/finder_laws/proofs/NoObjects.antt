@@ -226,6 +226,7 @@ module _ (T : List Position) (none : speaks_of_objects T ≡ false) where
   abbrev found : List Signed → Cells
   found S = cells characters far most_words T S (rows_found characters most_states (atoms_of_names T S))
 
+  -- the cells of a set are one, of all names
   pub cells_found : (S : List Signed) → cells_of T S ≡ Ok (found S)
   cells_found S =
       ap (λ o. unless_passed o (found S))
@@ -251,6 +252,7 @@ module _ (T : List Position) (none : speaks_of_objects T ≡ false) where
       filter_all true (λ v. nat_eq (cell_of T (found S) v) c) (shorter characters far) same in
       absurd (let e = ap length all in let m = enough_words in omega (arith, l, e, m))
 
+  -- the one cell is right: each name is in it, and its words are names
   pub right : (ok : IsTable T) (S : List Signed) (C : Cells) → cells_of T S ≡ Ok C → IsCells T ok S C
   right ok S C e =
       let same : found S ≡ C = ok_same (found S) C (cells_of T S) (cells_found S) e in
@@ -288,6 +290,7 @@ module _ (T : List Position) (none : speaks_of_objects T ≡ false) where
       ∙ ap (λ b. plan_leaf (plan_alternative by_name K.Object k T) T 0 b (Ok (object_frame T C S))) (no_below S)
       ∙ ap (λ f. plan_leaf (plan_alternative by_name K.Object k T) T 0 None (Ok f)) (same_frame S C)
 
+  -- a set at objects has one alternative, the object without members
   pub one_object : (k : ℕ) (S : List Signed)
       → object_leaf T k S (cells_of T S) ≡ Ok (scalar K.Object k Alt.Members ∷ [])
   one_object k S = ap (λ r. object_leaf T k S r) (cells_found S) ∙ of_cells k S (found S)

@@ -93,6 +93,7 @@ first_take : {A : Type 0} (x : A) (xs : List A) → take 1 xs ≡ x ∷ [] → f
 first_take x [] e = cc e
 first_take x (y ∷ xs) e = cc e
 
+-- the two tests that a word is made of scalar values agree
 pub scalars_same : (w : List ℕ) → every D.is_scalar w ≡ list_all is_scalar w
 scalars_same [] = refl
 scalars_same (c ∷ w) = ap (λ b. is_scalar c && b) (scalars_same w)

@@ -1,5 +1,5 @@
--- A string meets a saturated set exactly where its word is wanted and not too long; and which words are wanted is told
--- by the atoms of the set.
+-- A string meets a saturated set exactly where its word is wanted and not too long; and which words are wanted is
+-- determined by the atoms of the set.
 use Rattle.std.proofs.Common.{◌++◌, ◌≡◌, ℕ, ◌≤◌, inl, inr, ⊎_elim, Bool, true, false, ◌&&◌, not, cond, List, [], ◌∷◌, map, flat_map, length, nat_eq, nat_le, refl, ap, ap₂, sym, ◌∙◌, subst, arith}
 use Rattle.std.proofs.lemmas.Bool.{and_parts, and_from, or_parts, or_from, leb-true, le-leb, eqb-true}
 use Rattle.documents.specs.Tests.{every}
@@ -125,5 +125,6 @@ module _ (T : List Position) (S : List Signed) where
           (length_atom_in (W.LengthMin (lower T S))
           (subst (λ b. IsIn (W.LengthMin (lower T S)) (cond b [] (W.LengthMin (lower T S) ∷ []))) (sym e) (inl refl)))
 
+    -- of two words with one state either both are wanted or neither
     pub wanted_same : is_wanted T S v ≡ is_wanted T S w
     wanted_same = ap₂ (λ a b. a && b) (every_same (wants T v) (wants T w) S wants_same) length_same

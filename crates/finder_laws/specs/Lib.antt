@@ -1,2 +1,2 @@
--- Tables without positions of objects: no name has to be told from another one.
+-- Tables without positions of objects: no name has to be distinguished from another one.
 pub mod Objects

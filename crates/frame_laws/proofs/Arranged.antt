@@ -26,6 +26,7 @@ abbrev pub IsInside : Frame → Signed → Place → Type 0
 IsInside frame d (Head i) = Unit {0}
 IsInside frame d (In c) = frame.inside d c ≡ true
 
+-- what stands where fits the frame: the count, first places, cells, and what serves demands
 pub record IsArranged (T : List Position) (frame : Frame) (A : Arrangement) : Type 0 where
   pub low : frame.lower ≤ A.count
   pub floor : frame.floor ≤ A.count

@@ -250,6 +250,7 @@ module _ (T : List Position) (frame : Frame) where
 
   -- complete plans
 
+  -- a plan that serves all demands, within bounds and without a clash
   pub record IsComplete (q : Plan) : Type 0 where
     pub kept : IsKept [] q
     pub under : is_at_end (size frame q) frame.below ≡ false

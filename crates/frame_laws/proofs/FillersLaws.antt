@@ -1,4 +1,4 @@
--- What is taken from fillers: as many as asked for where their rooms suffice, from each no more than its room.
+-- What is taken from fillers: as many as requested where their rooms suffice, from each no more than its room.
 use Rattle.std.proofs.Common.{◌≡◌, ℕ, zero, suc, ◌+◌, ◌-◌, ◌≤◌, min, inl, inr, ⊎_elim, Bool, true, false, cond, List, [], ◌∷◌, ◌++◌, flat_map, length, nat_eq, replicate, Option, Some, None, refl, ap, sym, ◌∙◌, subst, arith, length-append}
 use Rattle.std.proofs.Math.ListN.{length-replicate}
 use Rattle.std.proofs.lemmas.Bool.{eqb-true}
@@ -35,6 +35,7 @@ filler_is T frame q c f i = go (goal_of T frame (In c, [])) (frame.room c (count
   }
   go (Some g) (suc n) e h (inr i) = absurd i
 
+-- each filler of a plan is that of one of the frame's cells
 pub fillers_from : (T : List Position) (frame : Frame) (q : Plan) (f : Filler) → IsIn f (fillers T frame q)
     → (c : ℕ) × IsIn c frame.cells × IsFiller T frame q c f
 fillers_from T frame q f i = go (nat_eq (need frame q) 0) i where

@@ -3,6 +3,7 @@ use Rattle.std.proofs.Common.{◌≡◌, ℕ, suc, ◌+◌, Bool, true, false, c
 use Rattle.documents.specs.Document.{Document}
 use Rattle.frames.specs.Fillers.{times}
 
+-- a cell occurs in two lists joined as often as in both together
 pub times_append : (c : ℕ) (xs ys : List ℕ) → times c (xs ++ ys) ≡ times c xs + times c ys
 times_append c [] ys = omega arith
 times_append c (x ∷ xs) ys = go (nat_eq x c) (times_append c xs ys) where

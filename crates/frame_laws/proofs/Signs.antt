@@ -9,6 +9,7 @@ in_has x [] i = absurd i
 in_has x (y ∷ S) (inl e) = subst (λ z. has x (z ∷ S) ≡ true) e (has-here x S)
 in_has x (y ∷ S) (inr i) = has-there x y S (in_has x S i)
 
+-- what a set has by its test is in its list
 pub has_in : (x : Signed) (S : List Signed) → has x S ≡ true → IsIn x S
 has_in x [] e = cc
 has_in x (y ∷ S) e = elim (has-cases x y S e) [

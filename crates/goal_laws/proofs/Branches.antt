@@ -39,7 +39,7 @@ pub meets-add_all : (T : List Position) (C S : List Signed) (J : Document)
     → meets T (add_all C S) J ≡ (meets T C J && meets T S J)
 meets-add_all T C S J = every-add_all (met (λ p. holds T p J)) C S
 
--- a test of the set may be asked once for all choices
+-- a test of the set may be made once for all choices
 some-and : {A : Type 0} (p : A → Bool) (b : Bool) (xs : List A) → (some p xs && b) ≡ some (λ x. p x && b) xs
 some-and p b [] = refl
 some-and p b (x ∷ xs) = split (p x) (some p xs) b ∙ ap (λ c. (p x && b) || c) (some-and p b xs) where
@@ -54,7 +54,7 @@ module _ (T : List Position) (ok : IsTable T) (J : Document) where
   abbrev Agrees : List Signed → List Step → Type 0
   Agrees S ss = meets T S J ≡ some (λ B. meets T B J) (branches ss)
 
-  -- a signed position of a set may be asked for besides
+  -- to require a member of the set once more changes nothing
   meets-and : (S : List Signed) (x : Signed) → has x S ≡ true
       → meets T S J ≡ (met (λ p. holds T p J) x && meets T S J)
   meets-and S x i = go (meets T S J) refl where
@@ -116,5 +116,6 @@ module _ (T : List Position) (ok : IsTable T) (t : Kind) where
       (all-flat_map _ (λ C. branches (steps T t (add_all C S))) cs
       (all-weaker _ _ cs (λ C k. all-weaker _ _ _ (λ B b. branch-smaller C S B b) k) h))
 
+  -- each branch of a set is saturated and contains the set
   pub branches-are : (S : List Signed) → AllByRecursion (IsBranch S) (branches (steps T t S))
   branches-are S = steps-induction T ok t HasBranches branch-up S

@@ -3,6 +3,7 @@ use Rattle.std.proofs.Common.{◌≡◌, suc, Bool, true, false, cond, List, [],
 use Rattle.std.specs.List.{AllByRecursion}
 use Rattle.goals.specs.Tree.{first}
 
+-- the first element that passes is in the list and passes
 pub first-some : {A : Type 0} (p : A → Bool) (xs : List A) (x : A) → first p xs ≡ Some x
     → Contains xs x × (p x ≡ true)
 first-some p [] x e = cc
@@ -12,6 +13,7 @@ first-some p (y ∷ xs) x e = go (p y) refl e (first-some p xs x) where
   go true h e more = let same : y ≡ x = cc in ((0, omega arith, same), subst (λ z. p z ≡ true) same h)
   go false h e more = let ((k, l, same), i) = more e in ((suc k, omega arith, same), i)
 
+-- where there is no first element that passes, none passes
 pub first-none : {A : Type 0} (p : A → Bool) (xs : List A) → first p xs ≡ None
     → AllByRecursion (λ x. p x ≡ false) xs
 first-none p [] e = tt

@@ -158,6 +158,7 @@ module _ (T : List Position) (ok : IsTable T) (J : Document) where
         | inr both ↦ meets-clash T ok J S x i both
       ]
 
+  -- a document meets a list exactly where it meets the goal that the list forms
   pub meets-form : (xs : List Signed) → meets T xs J ≡ meets_goal T (form T xs) J
   meets-form xs =
       sym (followed-met xs)

@@ -21,10 +21,12 @@ module _ (p : Signed → Bool) where
   some-single f [] = refl
   some-single f (q ∷ qs) = ap₂ (λ a b. a || b) (and-true (p (f q))) (some-single f qs)
 
+  -- exactly one of a list: the first alone, or not the first and exactly one of the others
   pub one_plus-some : (q : ℕ) (qs : List ℕ) → some (every p) (one_plus (q ∷ qs))
       ≡ ((p (Plus q) && every p (map Minus qs)) || (p (Minus q) && some (every p) (one_plus qs)))
   one_plus-some q qs = ap (λ b. (p (Plus q) && every p (map Minus qs)) || b) (some-put (Minus q) (one_plus qs))
 
+  -- two of a list: the first and one of the others, or two of the others
   pub two_plus-some : (q : ℕ) (qs : List ℕ) → some (every p) (two_plus (q ∷ qs))
       ≡ ((p (Plus q) && some (λ r. p (Plus r)) qs) || some (every p) (two_plus qs))
   two_plus-some q qs =

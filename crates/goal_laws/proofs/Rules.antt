@@ -142,6 +142,7 @@ module _ (here : ℕ → Bool) where
 
 -- what is true of the in-place names of a position is true of those of its choices
 module _ (Q : ℕ → Type 0) (t : Kind) where
+  -- Q holds of each position that the choices name
   abbrev pub AreNames : List (List Signed) → Type 0
   AreNames cs = AllByRecursion (λ C. AllByRecursion (λ x. Q (position_of x)) C) cs
 
@@ -200,7 +201,7 @@ pub unmet : (b : Bool) → (b ≡ true → ⊥) → b ≡ false
 unmet true f = absurd (f refl)
 unmet false f = refl
 
--- the same in a table, of what a document meets
+-- of a table: a document meets a choice exactly where it meets the signed position
 module _ (T : List Position) (ok : IsTable T) (J : Document) where
   pub choices-met : (x : Signed)
       → IfSome (choices T (kind_of J) x) (λ cs. some (λ C. meets T C J) cs ≡ met (λ p. holds T p J) x)

@@ -49,6 +49,7 @@ module _ (T : List Position) (ok : IsTable T) (J : Document) (S : List Signed)
             (has-every (met (λ p. holds T p J)) C
             (λ y j. more y (all-has _ C y lower j) (every-has (λ y. has y S) C y h j)))
 
+  -- a document of the kind that meets the literals of a saturated set meets all of it
   pub meets-saturated : meets T S J ≡ true
   meets-saturated =
       has-every (met (λ p. holds T p J)) S (λ x i. all_met (suc (ok.rank (position_of x))) x (omega arith) i)

@@ -98,6 +98,7 @@ pub contains-has : (S : List Signed) (x : Signed) → Contains S x → has x S �
 contains-has S x i = some-contains (same_signed x) S x i (same_signed-itself x)
 
 module _ (p : Signed → Bool) where
+  -- a test that all of a set pass is passed by what the set has
   pub every-has : (S : List Signed) (x : Signed) → every p S ≡ true → has x S ≡ true → p x ≡ true
   every-has [] x e i = cc
   every-has (y ∷ S) x e i =

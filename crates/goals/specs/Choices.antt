@@ -32,7 +32,7 @@ plus_choices t (One qs) = Some (one_plus qs)
 plus_choices t (Depends h q) = Some (for_objects t ((Minus h ∷ []) ∷ (Plus q ∷ []) ∷ []) ([] ∷ []))
 plus_choices t _ = None
 
--- the same of a position that is not to hold
+-- the choices of a position that is not to hold
 abbrev pub minus_choices : Kind → Position → Option (List (List Signed))
 minus_choices t True = Some []
 minus_choices t False = Some ([] ∷ [])

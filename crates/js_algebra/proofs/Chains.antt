@@ -64,6 +64,7 @@ ranks_fall-append ranks k (x ∷ xs) ys g h =
 
 -- one condition on strings, and so many links
 module _ (link : ℕ → Position) where
+  -- one condition, and n links behind it
   abbrev pub chain : ℕ → List Position
   chain zero = LengthMin 1 ∷ []
   chain (suc n) = chain n ++ link n ∷ []

@@ -159,6 +159,7 @@ pub apart-at : (s : Bool) (ps : List Pos) (i : ℕ) → i < length ps
     → get_or (map (λ q. with_sign s q ∷ []) (places ps)) i [] ≡ with_sign s (get_or (places ps) i 0) ∷ []
 apart-at s ps i l = get_or-map (λ q. with_sign s q ∷ []) (places ps) i 0 [] (omega (arith, length-places ps))
 
+-- not exactly one of n positions has one choice and one for each pair
 pub length-not_one : (ps : List Pos)
     → length (map Minus (places ps) ∷ two_plus (places ps)) ≡ 1 + pairs (length ps)
 length-not_one ps =

@@ -85,5 +85,6 @@ module _ (T : List Position) where
       (λ b. or_right (clash_in R x) _ (anywhere S R more b))
       (or_cases (is_never T x || begins_with (opposite x) S) (clashes_nearby T S) e)
 
+  -- a rising list clashes exactly where a test of neighbours says so
   pub clashes-nearby : (S : List Signed) → is_rising S ≡ true → clashes T S ≡ clashes_nearby T S
   clashes-nearby S e = same_test _ _ (nearby S e) (anywhere S S (λ z h. h))

@@ -258,6 +258,7 @@ NodeList-sync : IsSync C-NodeList.the_row
 NodeList-sync =
     view_sync _ _ _ _ _ (declared_sync C-NodeList-Inside.the_type (Vec_field-sync C-Node.the_row Node-sync, tt))
 
+-- threads may share a core table
 pub Core-sync : IsSync C-Core.the_row
 Core-sync =
     let nodes = as_row_sync C-NodeList.the_field NodeList-sync in

@@ -152,7 +152,7 @@ module _ (T : List Position) (ends : List Signed) (known : MayBeEnds T ends) whe
         (λ s. absurd (true≢false (sym (same-itself (Plus p)) ∙ ap (λ z. same_signed z (Plus p)) (sym s) ∙ h)))
         (λ s. let same : y ≡ signed_by b (get_or ends p (Plus p)) = cc in found s same) (known.each p l)
 
-  -- with the end of one more position
+  -- where the end of one more position is set
   pub set-kept : (q p : ℕ) (y : Signed) → y ≡ follow T (Plus q) → p < length T
       → get_or ends p (Plus p) ≡ follow T (Plus p)
       → get_or (set ends q y) p (Plus p) ≡ follow T (Plus p)

@@ -9,6 +9,7 @@ use Rattle.js_algebra.specs.View.{signed_view, with_sign}
 use Rattle.js_algebra.specs.Equality.{same_goal, signed_writes, goal_writes}
 use Rattle.js_algebra.specs.declared.signed.Signed.{Signed}
 
+-- comparing signed positions one by one compares the lists that they stand for
 pub pointwise-signed : (E : Signed → Signed → Bool)
     → ((x y : Signed) → E x y ≡ same_signed (signed_view x) (signed_view y))
     → (xs ys : List Signed) → pointwise E xs ys ≡ same_goal (map signed_view xs) (map signed_view ys)

@@ -84,6 +84,7 @@ has-take (suc k) (x ∷ xs) z h =
 
 -- in the table
 
+-- where a set and a choice are in the table, so is a front of the set with the choice added
 pub members_in_table : (T : List Position) (C xs : List G.Signed) (k : ℕ) → are_in_table T C ≡ true
     → are_in_table T xs ≡ true
     → are_in_table T (with_members C (take k xs)) ≡ true

@@ -24,6 +24,7 @@ table : (T : List Position) (ranks : List ℕ) → is_table T ranks ≡ true →
     → IsTable T
 table T ranks e x i = is_table-IsTable T ranks e (let low = ltb-true (position_of x) (length T) i in omega arith)
 
+-- a document meets a list exactly where it meets the goal that was formed of it
 pub meets-formed : (T : List Position) (ranks : List ℕ) → is_table T ranks ≡ true → (xs : List Signed)
     → are_in_table T xs ≡ true
     → (o : Option (List Signed)) → o ≡ form T xs → (J : Document) → meets T xs J ≡ meets_goal T o J
@@ -41,6 +42,7 @@ meets-chosen T ranks e x i t o f J k =
     (ap (λ u. choices T u x) k ∙ sym f)
     (choices-met T (table T ranks e x i) J x)
 
+-- a document of the kind meets one of the choices exactly where it meets the signed position
 pub choices-meaning : (T : List Position) (ranks : List ℕ) → is_table T ranks ≡ true → (x : Signed)
     → is_in_table T x ≡ true → (t : Kind)
     → (r : Result (Option (List (List Signed))) Memory) → IfOk r (λ o. o ≡ choices T t x)

@@ -49,13 +49,14 @@ ne_same x y n = same-order x y ∙ ne_eqb _ _ n
 pub same_ne : (x y : Signed) → same_signed x y ≡ false → order_of x ≡ order_of y → ⊥
 same_ne x y e = eqb-false _ _ (sym (same-order x y) ∙ e)
 
--- the number tells the signed position
+-- the number determines the signed position
 pub order-same : (x y : Signed) → order_of x ≡ order_of y → x ≡ y
 order-same (Plus p) (Plus q) e = ap Plus (omega (arith, e))
 order-same (Plus p) (Minus q) e = absurd (omega (arith, e))
 order-same (Minus p) (Plus q) e = absurd (omega (arith, e))
 order-same (Minus p) (Minus q) e = ap Minus (omega (arith, e))
 
+-- signed positions that the test calls the same are equal
 pub same-true : (x y : Signed) → same_signed x y ≡ true → x ≡ y
 same-true x y e = order-same x y (same_eq x y e)
 

@@ -88,6 +88,7 @@ rising-add x (y ∷ S) e =
         let l : order_of y < order_of x = omega (arith, not_before_le x y f, same_ne x y d) in
         and_from _ _ (every-add (comes_before y) x S ∙ and_from _ _ (lt_before y x l) a) more
 
+-- members that are added to a rising list leave it rising
 pub rising-add_all : (C S : List Signed) → is_rising S ≡ true → is_rising (add_all C S) ≡ true
 rising-add_all [] S e = e
 rising-add_all (x ∷ C) S e = rising-add x (add_all C S) (rising-add_all C S e)

@@ -33,7 +33,7 @@ pub record HasEnds (T : List Position) : Type 0 where
   pub named : every (names_below (length T)) T ≡ true
   pub ended : (x : Signed) → reference T (follow T x) ≡ None
 
--- the same with that sign, or its opposite without
+-- the signed position itself with plus, and its opposite with minus
 abbrev pub signed_by : Bool → Signed → Signed
 signed_by true y = y
 signed_by false y = opposite y

@@ -1,7 +1,7 @@
 //! Rules: the choices of a signed position, each by its number, without a copy of a list.
 //!
-//! A rule borrows the positions that its table lists, so it takes no memory. A choice comes from its number in one step;
-//! where the choices are pairs of positions, in as many steps as the number of positions has binary digits.
+//! A rule borrows the positions that its table lists, so it takes no memory. A choice comes from its number in one
+//! step; where the choices are pairs of positions, in as many steps as the number of positions has binary digits.
 
 ghost use Rattle.std.specs.Prelude.{◌≡◌, ◌<◌, ◌≤◌, ◌+◌, ◌^◌, length, get_or, [], ◌∷◌, is_none};
 ghost use Rattle.goals.specs.Tree.{choice_list};
@@ -16,7 +16,7 @@ use crate::signed::Signed;
 pub enum Rule<'a> {
     /// A literal, which has nothing to choose.
     Literal,
-    /// One choice, of all of them with that sign.
+    /// One choice, of all of the positions with that sign.
     Together(&'a [Pos], bool),
     /// A choice for each, with that sign.
     Apart(&'a [Pos], bool),
@@ -33,7 +33,7 @@ pub enum Rule<'a> {
 /// One of the choices; `choice_view` is the list of signed positions that it stands for.
 #[derive(Clone, Copy)]
 pub enum Choice<'a> {
-    /// All of them with that sign.
+    /// All of the positions, with that sign.
     All(&'a [Pos], bool),
     /// The one at that index plus, and the others minus.
     Only(&'a [Pos], usize),
@@ -42,6 +42,7 @@ pub enum Choice<'a> {
 }
 
 impl<'a> Rule<'a> {
+    /// Whether nothing has to be chosen. A rule without any choice, such as `Apart` of no position, is no literal.
     pub fn is_literal(&self) -> bool
         ensures { result ≡ is_none (rule_view self.now) }
     {
@@ -87,6 +88,7 @@ impl<'a> Rule<'a> {
 }
 
 impl Choice<'_> {
+    /// How many signed positions the choice has, in constant time.
     pub fn len(&self) -> usize
         ensures { result ≡ length (choice_view self.now) }
     {
@@ -98,6 +100,7 @@ impl Choice<'_> {
         }
     }
 
+    /// The signed position at index `k`, counted from 0, made in constant time.
     pub fn at(self, k: usize) -> Signed
         requires { k < length (choice_view self) }
         ensures { signed_view result ≡ get_or (choice_view self.entry) k (signed_view result) }

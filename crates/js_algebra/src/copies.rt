@@ -10,6 +10,7 @@ use js_doc::Memory;
 use std::alloc::Global;
 
 impl PosList {
+    /// A copy, which takes memory of its own.
     pub fn copy(&self, alloc: Global) -> Result<PosList, Memory>
         ensures { IfOk result (λ l. l ≡ self.now) }
     {
@@ -18,6 +19,7 @@ impl PosList {
 }
 
 impl KindList {
+    /// A copy, which takes memory of its own.
     pub fn copy(&self, alloc: Global) -> Result<KindList, Memory>
         ensures { IfOk result (λ l. l ≡ self.now) }
     {
@@ -26,6 +28,7 @@ impl KindList {
 }
 
 impl Pattern {
+    /// A copy of the text and of its tree. An error comes only where memory is refused.
     pub fn copy(&self, alloc: Global) -> Result<Pattern, Memory>
         ensures { IfOk result (λ r. pattern_view r ≡ pattern_view self.now) }
     {
@@ -38,6 +41,7 @@ impl Pattern {
 }
 
 impl PatternList {
+    /// A copy with the text and the tree of each pattern.
     pub fn copy(&self, alloc: Global) -> Result<PatternList, Memory>
         ensures { IfOk result (λ l. map pattern_view l ≡ map pattern_view self.now) }
     {
@@ -50,6 +54,7 @@ impl PatternList {
 }
 
 impl NameSet {
+    /// A copy with the names and the patterns that it holds.
     pub fn copy(&self, alloc: Global) -> Result<NameSet, Memory>
         ensures { IfOk result (λ s. name_set_view s ≡ name_set_view self.now) }
     {
@@ -64,6 +69,7 @@ impl NameSet {
 }
 
 impl Node {
+    /// A copy with the lists, texts and pattern trees that it holds; positions in it stay the numbers that they are.
     pub fn copy(&self, alloc: Global) -> Result<Node, Memory>
         ensures { IfOk result (λ n. node_view n ≡ node_view self.now) }
     {

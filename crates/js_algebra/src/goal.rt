@@ -43,6 +43,7 @@ impl Model for Goal {
 }
 
 impl Goal {
+    /// The signed positions in rising order, lent without a copy: by position, plus before minus.
     pub fn as_slice(&self) -> &[Signed]
         ensures list { map signed_view result.now ≡ self.now }
         ensures rising { is_rising self.now ≡ true }

@@ -23,12 +23,14 @@ impl Model for PosList {
 }
 
 impl PosList {
+    /// Takes the vector over, without a copy.
     pub fn from_vec(items: Vec<Pos>) -> PosList
         ensures { result ≡ items.items }
     {
         PosList { items }
     }
 
+    /// Gives the vector back, without a copy.
     pub fn into_vec(self) -> Vec<Pos>
         ensures { result.items ≡ self }
     {
@@ -36,6 +38,7 @@ impl PosList {
         items
     }
 
+    /// The elements in order, lent without a copy.
     pub fn as_slice(&self) -> &[Pos]
         ensures { result.now ≡ self.now }
     {
@@ -59,12 +62,14 @@ impl Model for KindList {
 }
 
 impl KindList {
+    /// Takes the vector over, without a copy.
     pub fn from_vec(items: Vec<JsonKind>) -> KindList
         ensures { result ≡ items.items }
     {
         KindList { items }
     }
 
+    /// Gives the vector back, without a copy.
     pub fn into_vec(self) -> Vec<JsonKind>
         ensures { result.items ≡ self }
     {
@@ -72,6 +77,7 @@ impl KindList {
         items
     }
 
+    /// The elements in order, lent without a copy.
     pub fn as_slice(&self) -> &[JsonKind]
         ensures { result.now ≡ self.now }
     {
@@ -99,12 +105,14 @@ impl Model for NodeList {
 }
 
 impl NodeList {
+    /// Takes the vector over, without a copy.
     pub fn from_vec(items: Vec<Node>) -> NodeList
         ensures { result ≡ items.items }
     {
         NodeList { items }
     }
 
+    /// Gives the vector back, without a copy.
     pub fn into_vec(self) -> Vec<Node>
         ensures { result.items ≡ self }
     {
@@ -112,6 +120,7 @@ impl NodeList {
         items
     }
 
+    /// The elements in order, lent without a copy.
     pub fn as_slice(&self) -> &[Node]
         ensures { result.now ≡ self.now }
     {
@@ -134,12 +143,14 @@ impl Model for RankList {
 }
 
 impl RankList {
+    /// Takes the vector over, without a copy.
     pub fn from_vec(items: Vec<u64>) -> RankList
         ensures { result ≡ items.items }
     {
         RankList { items }
     }
 
+    /// Gives the vector back, without a copy.
     pub fn into_vec(self) -> Vec<u64>
         ensures { result.items ≡ self }
     {
@@ -147,6 +158,7 @@ impl RankList {
         items
     }
 
+    /// The elements in order, lent without a copy.
     pub fn as_slice(&self) -> &[u64]
         ensures { result.now ≡ self.now }
     {
@@ -174,12 +186,14 @@ impl Model for SignedList {
 impl SignedList {
     ghost use Rattle.js_algebra.specs.View.{signed_view};
 
+    /// Takes the vector over, without a copy.
     pub fn from_vec(items: Vec<Signed>) -> SignedList
         ensures { result ≡ map signed_view items.items }
     {
         SignedList { items }
     }
 
+    /// Gives the vector back, without a copy.
     pub fn into_vec(self) -> Vec<Signed>
         ensures { map signed_view result.items ≡ self }
     {
@@ -187,6 +201,7 @@ impl SignedList {
         items
     }
 
+    /// The elements in order, lent without a copy.
     pub fn as_slice(&self) -> &[Signed]
         ensures { map signed_view result.now ≡ self.now }
     {
@@ -210,12 +225,14 @@ impl Model for Choices {
 }
 
 impl Choices {
+    /// Takes the vector over, without a copy.
     pub fn from_vec(items: Vec<SignedList>) -> Choices
         ensures { result ≡ items.items }
     {
         Choices { items }
     }
 
+    /// Gives the vector back, without a copy.
     pub fn into_vec(self) -> Vec<SignedList>
         ensures { result.items ≡ self }
     {
@@ -223,6 +240,7 @@ impl Choices {
         items
     }
 
+    /// The elements in order, lent without a copy.
     pub fn as_slice(&self) -> &[SignedList]
         ensures { result.now ≡ self.now }
     {
@@ -250,12 +268,14 @@ impl Model for PatternList {
 }
 
 impl PatternList {
+    /// Takes the vector over, without a copy.
     pub fn from_vec(items: Vec<Pattern>) -> PatternList
         ensures { result ≡ items.items }
     {
         PatternList { items }
     }
 
+    /// Gives the vector back, without a copy.
     pub fn into_vec(self) -> Vec<Pattern>
         ensures { result.items ≡ self }
     {
@@ -263,6 +283,7 @@ impl PatternList {
         items
     }
 
+    /// The elements in order, lent without a copy.
     pub fn as_slice(&self) -> &[Pattern]
         ensures { result.now ≡ self.now }
     {

@@ -1,4 +1,4 @@
-//! Patterns, and what is asked of the names of members.
+//! Patterns, and what is required of the names of members.
 
 use crate::lists::PatternList;
 use crate::node::Pos;
@@ -24,7 +24,7 @@ pub enum NameSet {
     Others(NameList, PatternList),
 }
 
-/// What is asked of a name; `formula_view` is the formula that it stands for.
+/// What is required of a name; `formula_view` is the formula that it stands for.
 #[derive(Drop)]
 pub enum NameFormula {
     Is(Str),

@@ -31,7 +31,7 @@ pub enum Node {
     Not(Pos),
     All(PosList),
     Any(PosList),
-    /// Exactly one of them.
+    /// Exactly one of the positions holds.
     One(PosList),
     /// An object of which the first holds needs the second.
     Depends(Pos, Pos),

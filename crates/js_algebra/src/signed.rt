@@ -18,18 +18,21 @@ impl Signed {
     ghost use Rattle.js_algebra.specs.Order.{order_of};
     ghost use Rattle.js_algebra.specs.Numbers.{signed_at};
 
+    /// That the position holds.
     pub fn plus(pos: Pos) -> Signed
         ensures { signed_view result ≡ S.Plus pos.0 }
     {
         Signed { pos, plus: true }
     }
 
+    /// That the position does not hold.
     pub fn minus(pos: Pos) -> Signed
         ensures { signed_view result ≡ S.Minus pos.0 }
     {
         Signed { pos, plus: false }
     }
 
+    /// The position with the other sign: each document meets exactly one of the two.
     pub fn opposite(self) -> Signed
         ensures { signed_view result ≡ S.opposite (signed_view self) }
     {

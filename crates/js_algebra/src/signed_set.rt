@@ -1,7 +1,7 @@
 //! A set of signed positions that grows, and goes back to what it was.
 //!
-//! The members stand in the order in which they came, so to go back is to forget the later ones. A set costs what is put
-//! into it, whatever the size of the table: a member is found by a hash of its number, and going back costs what is
+//! The members stand in the order in which they came, so to go back is to forget the later ones. A set costs what is
+//! put into it, whatever the size of the table: a member is found by a hash of its number, and going back costs what is
 //! forgotten. The trees, the search and the checker keep the set of their path in one.
 
 ghost use Rattle.std.specs.Prelude.{◌≡◌, ◌<◌, [], map, take, length, get_or, IfOk, OnOk, OnErr};
@@ -47,6 +47,7 @@ impl SignedSet {
         }
     }
 
+    /// How many members there are. `go_back` of this number returns to the set as it is now.
     pub fn len(&self) -> usize
         ensures { result ≡ length self.now }
     {
@@ -61,6 +62,7 @@ impl SignedSet {
         Signed::from_order(self.numbers.as_slice()[i])
     }
 
+    /// Whether `x` is a member, by one hash.
     pub fn has(&self, x: Signed) -> bool
         ensures { result ≡ has (signed_view x) self.now }
     {

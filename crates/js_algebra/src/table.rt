@@ -52,6 +52,7 @@ impl Core {
         Ok(Core { nodes, ranks, ends })
     }
 
+    /// How many positions there are, in constant time. They are numbered from 0.
     pub fn len(&self) -> u32
         ensures value { result ≡ length self.now.positions }
         ensures table { is_table self.now.positions self.now.ranks ≡ true }
@@ -59,6 +60,7 @@ impl Core {
         self.nodes.as_slice().len() as u32
     }
 
+    /// The node at that position, lent in constant time.
     pub fn node(&self, p: Pos) -> &Node
         requires { p.0 < length self.now.positions }
         ensures value { node_view result.now ≡ position_at self.now.positions p.0 }
@@ -68,6 +70,7 @@ impl Core {
         &self.nodes.as_slice()[p.0 as usize]
     }
 
+    /// The rank of that position, in constant time. It is above those of the positions that it names in place.
     pub fn rank(&self, p: Pos) -> u64
         requires { p.0 < length self.now.positions }
         ensures { result ≡ get_or self.now.ranks p.0 0 }

@@ -13,7 +13,7 @@ pub enum ArrayFault {
     /// The tree of plans has more than 65,536 ends, dropped plans included.
     #[error("a tree of plans with more than 65536 ends")]
     LimitPlans,
-    /// Memory was asked for and refused.
+    /// Memory was requested and refused.
     #[error("out of memory")]
     Memory,
 }

@@ -1,4 +1,4 @@
--- One more truth that is asked for.
+-- One more required truth.
 use Rattle.std.proofs.Common.{◌≡◌, ℕ, ◌<◌, Bool, true, false, ◌&&◌, if◌then◌else◌, nat_lt, List, [], ◌∷◌, ◌++◌, map, length, get_or, Some, slice_get, refl, ap, ap₂, sym, ◌∙◌, append-nil, length-append, arith}
 use Rattle.std.specs.Bool.{beq}
 use Rattle.std.specs.List.{list_any}
@@ -34,7 +34,7 @@ every_end p (y ∷ xs) x = ap (λ b. p y && b) (every_end p xs x) ∙ sym (assoc
   assoc true b c = refl
   assoc false b c = refl
 
--- with further atoms the same is asked
+-- with further atoms the same is required
 met_more : (ks X : List Atom) (ws : List Wish) (w : List ℕ) → are_within ks ws ≡ true
     → are_met (map atom_view (ks ++ X)) ws w ≡ are_met (map atom_view ks) ws w
 met_more ks X [] w h = refl

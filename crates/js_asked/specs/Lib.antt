@@ -1,3 +1,3 @@
--- What a reader must believe: the truths that are asked for, and the words that have them.
+-- What a reader must believe: the required truths, and the words that have them.
 pub mod Wishes
 pub mod Asking

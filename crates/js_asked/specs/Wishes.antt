@@ -1,4 +1,4 @@
--- Truths that are asked for.
+-- Required truths: each of an atom, true or false.
 use Rattle.std.specs.Prelude.{ℕ, List, length, get_or, Bool, nat_lt}
 use Rattle.std.specs.Bool.{beq}
 use Rattle.documents.specs.Tests.{every}

@@ -1,5 +1,5 @@
 //! What the literals of a set ask of words. Contracts see the atoms by `atoms_in`, and of a word by `asks` whether it
-//! is as asked for.
+//! is as required.
 
 ghost use Rattle.std.specs.Prelude.{◌≡◌, ◌&&◌, ℕ, List, map, true, IfOk, OnOk};
 ghost use Rattle.std.specs.Bool.{beq};
@@ -82,7 +82,7 @@ impl Asked {
         self.atoms.as_slice()
     }
 
-    /// The truths that are asked for.
+    /// The required truths.
     pub fn wishes(&self) -> &[Wish]
         ensures value { result.now ≡ self.now.wishes.items }
         ensures within { are_within self.now.atoms.keys result.now ≡ true }

@@ -1,4 +1,4 @@
-//! What is asked of words: the atoms, and the truths that they are to have.
+//! What is required of words: the atoms, and the truths that they are to have.
 
 ghost use Rattle.std.specs.Prelude.{◌≡◌, true};
 ghost use Rattle.js_asked.specs.Wishes.{are_within};
@@ -13,7 +13,7 @@ pub struct Wish {
     pub truth: bool,
 }
 
-/// What is asked of words: the atoms, each once, and the truths that they are to have.
+/// What is required of words: the atoms, each once, and the truths that they are to have.
 #[derive(Drop)]
 pub struct Asked {
     pub(crate) atoms: IndexSet<Atom>,

@@ -182,7 +182,7 @@ dividing-all sets firsts left d e = firsts_one sets firsts (record {
   covered : (c : ℕ) → is_scalar c ≡ true → list_any (are_alike sets c) firsts ≡ true
   covered c s = whole (is_scalar c) (list_any (are_alike sets c) firsts) (sym (ap (λ l. has l c) e) ∙ d.left_is c) s
 
--- and before that they are no more than there are
+-- while characters are left, fewer classes were found than there are
 pub dividing-count : (sets : List (List (ℕ × ℕ))) (firsts : List ℕ) (left : List (ℕ × ℕ)) (x : ℕ)
     → Dividing sets firsts left → has left x ≡ true → length firsts < length (firsts_among characters sets)
 dividing-count sets firsts left x d member =

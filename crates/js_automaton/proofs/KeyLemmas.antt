@@ -47,7 +47,7 @@ bool-decides true false = ((λ e. cc e), (λ e. cc e))
 bool-decides false true = ((λ e. cc e), (λ e. cc e))
 bool-decides false false = ((λ e. refl), (λ e. refl))
 
--- the parts of words are told by the patterns' states and the node
+-- the parts of words are determined by the patterns' states and the node
 parts-same : (all : List (List ℕ)) (atoms : List Atom) (v w : List ℕ)
     → ((u : List ℕ) → IsIn u (listed atoms) → IsIn u all) → pattern_states atoms v ≡ pattern_states atoms w
     → node_of all v ≡ node_of all w → map (atom_state v) atoms ≡ map (atom_state w) atoms
@@ -61,6 +61,7 @@ parts-same all (Words ws ∷ atoms) v w inside p n =
 parts-same all (LengthMin m ∷ atoms) v w inside p n =
     ap (λ xs. atom_state w (LengthMin m) ∷ xs) (parts-same all atoms v w inside p n)
 
+-- the test of two kept states decides whether the states of their words are equal
 pub tuple-decides : (atoms : List Atom) (x y : TupleState) (v w : List ℕ) → IsStateOf atoms x v → IsStateOf atoms y w
     → Decides (same_tuple x y) (word_state atoms v ≡ word_state atoms w)
 tuple-decides atoms x y v w h k =

@@ -70,6 +70,7 @@ placed-length k (P.Match i ∷ ps) n m e =
 placed-length k (P.Words l ∷ ps) n m e = placed-length k ps n m e
 placed-length k (P.Length j ∷ ps) n m e = placed-length k ps n m e
 
+-- the pattern of a part is one of the patterns that are there
 pub placed-at : (k : ℕ) (ps : List Part) (n j i : ℕ) (x : Part) → are_placed k ps n ≡ true → j < length ps
     → get_or ps j x ≡ P.Match i → i < n
 placed-at k [] n j i x e l q = absurd (omega (arith, l))

@@ -18,6 +18,7 @@ use Rattle.js_automaton.specs.Pieces.{AreTogether, are_like, AreKept, HasEnds, H
 pub kept-together : (old new : List ℕ) (c d : ℕ) → AreKept old new → AreTogether new c d → AreTogether old c d
 kept-together old new c d k t = (t.0, t.1, λ x m. t.2 x (k x m))
 
+-- places that were kept are kept when one more comes behind them
 pub kept-push : (old new now : List ℕ) (x : ℕ) → AreKept old new → now ≡ new ++ x ∷ [] → AreKept old now
 kept-push old new now x k e y m = rw e (Contains-append_left new (x ∷ []) y (k y m))
 

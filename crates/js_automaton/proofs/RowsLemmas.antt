@@ -126,6 +126,7 @@ module _ (atoms : List Atom) where
   states-get (s ∷ keys) (w ∷ rows) zero d (j, h) l = j
   states-get (s ∷ keys) (w ∷ rows) (suc i) d (j, h) l = states-get keys rows i d h (omega (arith, l))
 
+  -- the state that is kept for a row is that of the row's word
   pub states-at : (keys : List TupleState) (rows : List (List ℕ)) (i : ℕ) (s : TupleState) → AreStates atoms keys rows
       → i < length rows → slice_get keys i ≡ Some s → IsStateOf atoms s (get_or rows i [])
   states-at keys rows i s h l e =

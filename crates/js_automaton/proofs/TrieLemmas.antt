@@ -134,7 +134,7 @@ walk-more E X (Some n) (c ∷ w) m e = go (child E n c) refl (λ k. walk-more E 
   go (Some k) f h =
       ap (λ x. walk (E ++ X) x w) (child-more E X n c k f) ∙ h k (sym (ap (λ x. walk E x w) f) ∙ e)
 
--- the same from the last character on
+-- the node of a word that is given from its last character on
 abbrev back : List (ℕ × ℕ) → List ℕ → Option ℕ
 back E [] = Some 0
 back E (c ∷ r) = child_of E (back E r) c
@@ -260,7 +260,7 @@ prefix-has ws u w i e =
       go None f x g = let q = sym (walk-none (edges_of ws) x) ∙ sym (ap (λ z. walk (edges_of ws) z x) f) ∙ g in cc q
       go (Some k) f x g = (k, f)
 
--- ---- and nothing else
+-- ---- no other words have nodes
 abbrev Bounded : List (ℕ × ℕ) → Type 0
 Bounded E = (i : ℕ) → i < length E → (get_or E i (0, 0)).0 ≤ length E
 

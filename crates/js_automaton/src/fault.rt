@@ -16,7 +16,7 @@ pub enum AutoFault {
     /// Words reach more than 65,536 states.
     #[error("more than 65536 states")]
     LimitStates,
-    /// Memory was asked for and refused.
+    /// Memory was requested and refused.
     #[error("out of memory")]
     Memory,
 }

@@ -88,7 +88,7 @@ module _ (T : List Position) (S : List Signed) (atoms : List Atom) (L : List (Li
   own : list_all is_scalar (get_or L r []) ≡ true
   own = rows_words atoms L rows (get_or L r []) (in_get L r [] within)
 
-  -- and the first name of the cell is as long
+  -- the first name of the cell is as long as its first row's word
   pub first_long : map length (take 1 (ends T S atoms L rows few same c [])) ≡ length (get_or L r []) ∷ []
   first_long =
       let p : List ℕ → Bool = λ w. nat_eq (cell_of T (kept T S atoms L rows few same) w) c in

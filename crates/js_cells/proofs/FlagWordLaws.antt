@@ -1,6 +1,6 @@
 -- Flags kept as the bits of words.
 --
--- Key: `words_are`, the words are told by the flags, so that equal flags are equal words.
+-- Key: `words_are`, the words are determined by the flags, so that equal flags are equal words.
 use Rattle.std.proofs.Common.{◌≡◌, ℕ, zero, suc, ◌+◌, ◌*◌, ◌/◌, ◌%◌, ◌^◌, ◌<◌, ◌≤◌, ◌≢◌, inl, inr, Bool, true, false, if◌then◌else◌, ◌&&◌, eqb, List, [], ◌∷◌, map, length, replicate, get_or, set, refl, sym, ◌∙◌, ap, ap₂, subst, arith, ext_get_or, get_or-set_same, get_or-set_other, eq-eqb}
 use Rattle.std.specs.Prelude.{slice_index}
 use Rattle.std.specs.Bool.{beq}

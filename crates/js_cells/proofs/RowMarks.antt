@@ -60,7 +60,7 @@ module _ (T : List Position) (xs : List Signed) (atoms : List Atom) (rows : List
       (sym (scalars_same w)
       ∙ (shorter_is characters (C.different 0x110000) (C.scalars 0x110000) far w i).1)))
 
-  -- where the numbers of words that lead to marked rows are told, by the same atoms and rows
+  -- numbers of words that lead to marked rows, counted with equal atoms and rows
   pub numbers_in : (A : List Atom) (L : List (List ℕ)) (ns : List ℕ) → A ≡ atoms → L ≡ rows
       → ((r : ℕ) → r < length L → get_or ns r 0 ≡ min 65537 (length (words_from A L marks r)))
       → (r : ℕ) → r < length rows
@@ -96,7 +96,7 @@ pub kept_vector : (ks new : List (List Bool)) (c : ℕ) (v : List Bool) (vs : Li
 kept_vector ks new c v vs e g i l =
     i ∙ ap (λ z. get_or z c v) (e ∙ g) ∙ sym (kept_at (λ u. u) vs c v l) ∙ ap (λ z. vector_at z c) (map-id vs)
 
--- what stands at a place doesn't depend on what is told where there is none
+-- what stands at a place doesn't depend on the default that is given for other places
 pub at_default : {A : Type 0} (x : A) (i : ℕ) (xs : List A) (d : A) → i < length xs → x ≡ get_or xs i x
     → x ≡ get_or xs i d
 at_default x i xs d l e = e ∙ sym (get_or-map (λ y. y) xs i x x l) ∙ get_or-map (λ y. y) xs i d x l

@@ -27,7 +27,7 @@ module _ (A : List Atom) (L lists : List (List ℕ)) (t : AreTruths A L lists)
       (λ r. some (is_true_at A (get_or L r [])) ks) old new
       (λ r l. some_told A L lists t r ks (omega (arith, l, count)) below) s
 
-  -- none of them is
+  -- the rows of a literal that says that none of the atoms is true
   pub none_set : (mid new : List (List Bool)) → HavePlace place old → AreBlank place old
       → AreSet (λ r. true) true place old mid
       → AreSet (λ r. some (λ k. list_any (nat_eq r) (get_or lists k [])) ks) false place mid new
@@ -38,7 +38,7 @@ module _ (A : List Atom) (L lists : List (List ℕ)) (t : AreTruths A L lists)
       (λ r l. ap not (some_told A L lists t r ks (omega (arith, l, count)) below))
       (set_turned place (λ r. some (λ k. list_any (nat_eq r) (get_or lists k [])) ks) old mid new have blank s u)
 
--- a plan tells it by the truths of the atoms of its leaves
+-- a plan gives the truth of a literal by the truths of the atoms of its leaves
 pub planned_told : (T : List Position) (A : List Atom) (plan : P.Plan) (ks : List ℕ) (w : List ℕ) (b : Bool)
     (asked truths : List Bool) → IsPlanned T A plan ks → asked ≡ truths → truths ≡ map (is_true_at A w) ks
     → (asked ≡ map (λ a. is_true a w) (P.atoms_of T plan.leaves) → b ≡ holds T plan.root (string w))

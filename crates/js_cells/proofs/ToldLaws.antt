@@ -204,7 +204,7 @@ module _ (flag : Bool) (place : ℕ) (old mid : List (List Bool)) where
       ∙ sym (list_any_more (nat_eq r) rows i d l))
       (set_more flag place (λ r. list_any (nat_eq r) (take i rows)) old mid row m s)
 
-  -- and lists of rows
+  -- flags that are set at the rows of one more list
   pub set_lists : (lists : List (List ℕ)) (numbers : List ℕ) (i d : ℕ) (new : List (List Bool)) → i < length numbers
       → AreSet (λ r. some (λ k. list_any (nat_eq r) (get_or lists k [])) (take i numbers)) flag place old mid
       → AreSet (λ r. list_any (nat_eq r) (get_or lists (get_or numbers i d) [])) flag place mid new

@@ -116,7 +116,7 @@ module _ (A : List Atom) (L : List (List ℕ)) (rows : AreRows A L) where
           (leads_to r) (is_led r m);
     }
 
--- rows that are asked one by one
+-- rows that are tested one by one
 
 pub where_truth : (A : List Atom) (L : List (List ℕ)) (k : ℕ)
     → IsTruth A L k (filter (λ r. is_true_at A (get_or L r []) k) (range_with_len 0 (length L)))
@@ -136,7 +136,7 @@ where_truth A L k = record {
   all : List ℕ
   all = range_with_len 0 (length L)
 
--- by the rows of atoms it is told what literals of atoms say
+-- the rows of atoms determine what literals of atoms say
 
 module _ (A : List Atom) (L lists : List (List ℕ)) (t : AreTruths A L lists) where
   pub all_within : AreWithin (length L) lists
@@ -152,7 +152,7 @@ module _ (A : List Atom) (L lists : List (List ℕ)) (t : AreTruths A L lists) w
       let (a, b) = and_parts (nat_lt k (length A)) (are_below A ks) h in
       ap₂ (λ x y. x || y) ((t.each k (ltb-true k (length A) a)).told r l) (some_told r ks l b)
 
--- rows that are asked so far
+-- rows that were tested so far
 pub where_more : (p : ℕ → Bool) (n : ℕ)
     → filter p (range_with_len 0 (n + 1)) ≡ filter p (range_with_len 0 n) ++ cond (p n) (n ∷ []) []
 where_more p n =

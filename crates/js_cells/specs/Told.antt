@@ -11,6 +11,6 @@ pub record AreSet (p : ℕ → Bool) (flag : Bool) (place : ℕ) (old new : List
 abbrev pub HavePlace : ℕ → List (List Bool) → Type 0
 HavePlace place told = (r : ℕ) → r < length told → place < length (get_or told r [])
 
--- and nothing is set there
+-- each row has nothing set at the place
 abbrev pub AreBlank : ℕ → List (List Bool) → Type 0
 AreBlank place told = (r : ℕ) → r < length told → get_or (get_or told r []) place false ≡ false

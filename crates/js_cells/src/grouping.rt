@@ -62,7 +62,7 @@ pub(crate) fn group(
     number(alloc, told)
 }
 
-/// Rows by what is told of them.
+/// Rows grouped by what is known of them.
 fn number(alloc: Global, told: Vec<Flags>) -> Result<Grouped, Memory>
     requires { length told.items < 2 ^ 32 }
     ensures vectors { IfOk result (λ g. g.vectors.keys ≡ mention_all same_vector [] told.items) }

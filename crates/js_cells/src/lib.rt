@@ -1,8 +1,8 @@
 //! The cells of the names of a set: names of which its literals say the same, with how many names a cell has, and the
 //! first of them in order.
 //!
-//! What the literals say of a name is told by the truths of their atoms. A row of the automaton of these atoms has
-//! words of which the same is said, so a cell is some of its rows.
+//! What the literals say of a name is determined by the truths of their atoms. A row of the automaton of these atoms
+//! has words of which the same is said, so a cell is some of its rows.
 #![tactic(auto)]
 
 mod flags;
@@ -10,8 +10,6 @@ mod grouping;
 mod name_cells;
 mod row_length;
 mod telling;
-#[cfg(test)]
-mod tests;
 mod truths;
 mod walk;
 

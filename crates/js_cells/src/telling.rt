@@ -1,7 +1,7 @@
 //! What is said of the words of rows, by the truths of atoms there.
 //!
-//! It is told literal by literal, at all rows: a literal of atoms costs the rows at which these are true, and one that
-//! says that none of them is true all rows besides. A plan is asked at each row.
+//! It is found literal by literal, at all rows: a literal of atoms costs the rows at which these are true, and one that
+//! says that none of them is true all rows besides. A plan is evaluated at each row.
 
 ghost use Rattle.std.specs.Prelude.{◌≡◌, ◌<◌, ◌≤◌, ℕ, [], map, length, get_or, nat_eq, nat_lt, replicate, true, false, IfOk, OnOk};
 ghost use Rattle.std.specs.List.{list_any};
@@ -48,8 +48,8 @@ pub(crate) fn tell_rows(
     Ok(told)
 }
 
-/// Room that is kept from row to row: for the truths that a plan is told by, and a place for each position once a plan
-/// is asked, and none before.
+/// Room that is kept from row to row: for the truths that a plan is evaluated by, and a place for each position once a
+/// plan is evaluated, and none before.
 #[derive(Drop)]
 struct Room {
     asked: Vec<bool>,

@@ -1,7 +1,7 @@
 //! For each atom the rows of whose words it is true.
 //!
 //! A list of words is true of the rows to which they lead, so it costs a walk for each word, whatever the number of
-//! rows. A pattern or a length is asked at each row.
+//! rows. A pattern or a length is tested at each row.
 
 ghost use Rattle.std.specs.Prelude.{◌≡◌, ◌<◌, ℕ, [], map, get_or, length, IfOk};
 ghost use Rattle.word_states.specs.Atom.{Words, LengthMin};

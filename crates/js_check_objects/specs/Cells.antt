@@ -1,4 +1,4 @@
--- The cells of a set of which only what literals say is asked, and the words of rows.
+-- The cells of a set, of which only what literals say counts, and the words of rows.
 use Rattle.std.specs.Prelude.{ℕ, List, [], map, Bool}
 use Rattle.goals.specs.Signed.{Signed}
 use Rattle.cells.specs.Cells.{Cells}

@@ -97,7 +97,7 @@ impl<'a> ObjectFrame<'a> {
         })
     }
 
-    /// Adds what is asked of the value of each name of a cell.
+    /// Adds what is required of the value of each name of a cell.
     fn add_values(&self, cell: u32, list: &mut Vec<Signed>) -> Result<(), Memory>
         ensures added { OnOk result (map signed_view list.new.items ≡ map signed_view list.old.items
             ++ flat_map (asks (cells_in self.now.cells) cell) self.now.values.items) }

@@ -110,7 +110,7 @@ impl<'a> OpenBounds<'a> {
         Ok(self.places.iter().map(|c| *c == cell).collect(alloc)?)
     }
 
-    /// With one more bound.
+    /// Takes one more stated bound, that of the next cell.
     pub(crate) fn state(
         self,
         alloc: Global,

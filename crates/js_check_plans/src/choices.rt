@@ -17,7 +17,7 @@ use js_plans::Server;
 use std::alloc::Global;
 
 /// What is tried for a demand, in this order: what stands at each first place, each member, and a new member in each
-/// cell, told by its place in the list of cells.
+/// cell, given by its place in the list of cells.
 #[derive(Clone, Copy)]
 pub(crate) enum Slot {
     Head(u32),

@@ -40,7 +40,7 @@ fn server_at<F: CheckFrame>(frame: &F, path: &[Server], number: u64) -> Option<S
     None
 }
 
-/// What is asked of what stands at a place and serves these demands.
+/// What is required of what stands at a place and serves these demands.
 pub(crate) fn list_at<F: CheckFrame>(
     alloc: Global,
     frame: &F,

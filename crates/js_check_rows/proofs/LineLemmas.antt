@@ -60,7 +60,7 @@ pub record IsAt (m n : Mentions) (row k : ℕ) (line : List ℕ) : Type 0 where
       (take k (extend (atoms_in m) (get_or (words_in m) row []))) (take k line)
       ≡ Ok (words_in n)
 
--- one more
+-- one more target of the line is taken
 pub line_next : (m n o : Mentions) (row k t : ℕ) (line : List ℕ) → IsAt m n row k line → t ≡ get_or line k 0
     → target (have_same_state (atoms_in n)) (extend (atoms_in n)) [] n.count (words_in n)
     (get_or (words_in n) row [] ++ get_or (class_firsts (atoms_in n)) k 0 ∷ []) t

@@ -40,7 +40,7 @@ module _ (atoms : List Atom) (count : ℕ) (t : Table (List ℕ)) (ts : List ℕ
       (lt-ltb (length t.targets) (length t.words) l) (eq-eqb (length ts) (length led) (e ∙ sym n)))
       ∙ ap (and_then (λ ws. Ok (table ws (t.targets ++ ts ∷ [])))) f
 
-  -- it has another
+  -- a row that wasn't mentioned, or has another number of targets, is refused
   pub row_refused : (length t.targets < length t.words → length ts ≡ class_count atoms → ⊥)
       → RowTells atoms count t ts R.Width
   row_refused none =
@@ -54,7 +54,7 @@ module _ (atoms : List Atom) (count : ℕ) (t : Table (List ℕ)) (ts : List ℕ
             absurd (none (ltb-true (length t.targets) (length t.words) a)
             (eqb-true (length ts) (length led) b ∙ led_length))
 
-  -- what a fault tells of the targets is what it tells of the line
+  -- what a fault says of the targets is what it says of the line
   pub row_tells : (fault : RowFault) → length t.targets < length t.words → length ts ≡ class_count atoms
       → LineTells atoms count t.words led ts fault → RowTells atoms count t ts fault
   row_tells R.Memory l e h = tt

@@ -60,7 +60,7 @@ module _ {A : Type 0} (same : A → A → Bool) (extend : A → List A) (start :
       (if_so wrong_target (nat_eq t (length ws) && nat_lt t count) (ws ++ x ∷ []))) (lt-ltb t (length ws) l)
       ∙ ap (λ b. if_so wrong_target b ws) e
 
-  -- with another one
+  -- a target with another state than the word is refused
   pub target_other : (ws : List A) (x : A) (t : ℕ) → t < length ws → same x (get_or ws t start) ≡ false
       → target same extend start count ws x t ≡ Err wrong_target
   target_other ws x t l e =

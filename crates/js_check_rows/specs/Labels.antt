@@ -1,4 +1,4 @@
--- Labels of rows, of which none is missing, one too many or wrong; and the first row of which this isn't so.
+-- Labels of rows, of which none is missing, one too many or wrong; and the first row of which this doesn't hold.
 use Rattle.std.specs.Prelude.{◌≡◌, ◌<◌, ◌≤◌, ◌+◌, ◌⊎◌, ℕ, List, [], length, get_or, Bool, false, ◌&&◌, nat_eq, nat_le}
 use Rattle.std.specs.List.{range_with_len}
 use Rattle.documents.specs.Tests.{every}
@@ -13,7 +13,7 @@ use Rattle.verdicts.specs.Leaves.{least_right}
 use Rattle.js_check_rows.specs.declared.fault.RowFault.{RowFault}
 use Rattle.js_check_rows.specs.declared.fault.RowFault.TheVariants as R
 
--- it is so of the number, and of no number before
+-- the property holds of the number, and of no number before
 abbrev pub IsFirst : (ℕ → Type 0) → ℕ → Type 0
 IsFirst holds r = holds r × ((q : ℕ) → q < r → holds q → ⊥)
 
@@ -43,7 +43,7 @@ module _ (atoms : List Atom) (t : Table (List ℕ)) where
   LeastTells labels _ = ⊥
 
   module _ (marks : List Bool) (labels : List ℕ) where
-    -- what is asked of the label of a row
+    -- what is required of the label of a row
     abbrev pub asked_of : ℕ → ℕ
     asked_of r =
         asked_by (class_count atoms) (width_of atoms) (stated t) (λ q. get_or marks q false) (λ q. get_or labels q 0) r

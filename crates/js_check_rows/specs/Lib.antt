@@ -1,4 +1,4 @@
--- What a reader must believe: what is seen of rows, and what faults tell.
+-- What a reader must believe: what is seen of rows, and what faults say.
 pub mod RowsView
 pub mod RowTaking
 pub mod Taking

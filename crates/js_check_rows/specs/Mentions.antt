@@ -30,7 +30,7 @@ AreMade atoms ms =
     (i : ℕ) (m : Mention) → i < length ms → m ≡ get_or ms i m
     → IsStateOf atoms m.state (get_or (words_of atoms ms) i [])
 
--- that this is so is a fact
+-- `AreMade` is a proposition: any two proofs of it are equal
 
 abbrev cases : PatternState → Unit {0} ⊎ List ℕ
 cases done = inl tt

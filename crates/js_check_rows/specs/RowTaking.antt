@@ -1,4 +1,4 @@
--- What faults tell of rows and of a line.
+-- What faults say of rows and of a line.
 use Rattle.std.specs.Prelude.{◌≡◌, ℕ, List, [], Bool, false, ◌&&◌, nat_lt, Err}
 use Rattle.word_states.specs.Atom.{Atom}
 use Rattle.word_states.specs.WordState.{have_same_state}
@@ -18,7 +18,7 @@ BeginTells atoms count R.Start = may_begin atoms count ≡ false
 BeginTells atoms count R.Memory = Unit {0}
 BeginTells atoms count _ = ⊥
 
--- of the line of the next row; a step tells the first class with a wrong target
+-- of the line of the next row; a step names the first class with a wrong target
 abbrev pub RowTells : List Atom → ℕ → Table (List ℕ) → List ℕ → RowFault → Type 0
 RowTells atoms count t ts R.Width =
     (is_row (have_same_state atoms) (extend atoms) [] t ts ≡ false) × (row_taken atoms count t ts ≡ Err no_row)

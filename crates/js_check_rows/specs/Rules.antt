@@ -1,4 +1,4 @@
--- The rules that faults of rows tell of.
+-- The rules that faults of rows stand for.
 use Rattle.js_check_rows.specs.declared.fault.RowFault.{RowFault}
 use Rattle.js_check_rows.specs.declared.fault.RowFault.TheVariants as R
 use Rattle.js_rules.specs.declared.rule.Rule.TheVariants as U

@@ -1,4 +1,4 @@
--- What faults tell of a line of a row.
+-- What faults say of a line of a row.
 use Rattle.std.specs.Prelude.{◌≡◌, ◌<◌, ℕ, List, [], take, length, get_or, Result, Ok, Err}
 use Rattle.word_states.specs.Atom.{Atom}
 use Rattle.word_states.specs.WordState.{have_same_state}

@@ -23,7 +23,7 @@ pub enum RowFault {
     /// The bound of this row, the first such, is missing, is one too many or is too small.
     #[error("a wrong bound of row {0}")]
     Capacity(u32),
-    /// Memory was asked for and refused.
+    /// Memory was requested and refused.
     #[error("out of memory")]
     Memory,
 }

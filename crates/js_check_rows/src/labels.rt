@@ -17,7 +17,7 @@ impl Rows {
     ghost use Rattle.js_check_rows.specs.Labels.{IsTooGreat, LeastTells, asked_of, are_kept, BoundTells, AreBounds};
 
     /// Whether each row's label may be the least length of the words that lead to it: that of the first row is 0, and
-    /// none is more than one above that of a row which leads there. A fault tells the first row whose label is missing,
+    /// none is more than one above that of a row which leads there. A fault names the first row whose label is missing,
     /// one too many or too great.
     pub fn least(&self, labels: &[u32]) -> Result<(), RowFault>
         requires whole { length (table_of self.now).targets ≡ count_of self.now }
@@ -62,7 +62,7 @@ impl Rows {
 
     /// Whether each row's label is enough for the labels of the rows to which it leads, each as often as its class has
     /// characters, and for one word more where the row is marked. Then no more words lead from the first row to marked
-    /// ones than its label, which is answered. A fault tells the first row whose label is missing, one too many or too
+    /// ones than its label, which is answered. A fault names the first row whose label is missing, one too many or too
     /// small. A mark that is missing is none.
     pub fn capacity(&self, labels: &[u32], marks: &[bool]) -> Result<u32, RowFault>
         requires whole { length (table_of self.now).targets ≡ count_of self.now }
@@ -86,7 +86,7 @@ impl Rows {
         Ok(label_at(labels, 0))
     }
 
-    /// What is asked of the label of a row. Its targets' labels are of 32 bits, and so are the widths of its classes.
+    /// What is required of the label of a row. Its targets' labels and its classes' widths have 32 bits.
     fn asked(&self, labels: &[u32], marks: &[bool], row: u32) -> u128
         requires whole { length (table_of self.now).targets ≡ count_of self.now }
         requires row { row < count_of self.now }

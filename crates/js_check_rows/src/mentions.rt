@@ -1,7 +1,7 @@
 //! The rows that were mentioned, with their states.
 //!
-//! A row's word is that of the row that first named it, with the first character of a class. So the words are told by
-//! the steps that are kept, and no word is.
+//! A row's word is that of the row that first named it, with the first character of a class. So the words follow from
+//! the steps that are kept, and no word is kept.
 
 ghost use Rattle.std.specs.Prelude.{◌<◌, ◌≤◌, length};
 ghost use Rattle.js_automaton.specs.TuplesView.{atoms_of};

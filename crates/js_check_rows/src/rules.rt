@@ -1,4 +1,4 @@
-//! The rules that faults of rows tell of.
+//! The rules that faults of rows stand for.
 
 ghost use Rattle.std.specs.Prelude.{◌≡◌};
 ghost use Rattle.js_check_rows.specs.Rules.{rule_of};

@@ -7,7 +7,7 @@ ghost use Rattle.js_asked.specs.Asking.{atoms_in, asks};
 use js_asked::Asked;
 use js_check_rows::Rows;
 
-/// Whether the words of a row that was mentioned are as asked for.
+/// Whether the words of a row that was mentioned are as required.
 pub(crate) fn is_as_asked(asked: &Asked, rows: &Rows, row: u32) -> bool
     requires atoms { atoms_of rows.now ≡ atoms_in asked.now }
     requires row { row < length (table_of rows.now).words }

@@ -54,7 +54,7 @@ module _ (T : List Position) (t : Kind) where
     pub back_fine : (ys : List G.Signed) → ys ≡ take e.members xs → are_fine T (length ys) (reverse es) ≡ true
     back_fine ys back = ap (λ n. are_fine T n (reverse es)) (ap length back ∙ length-back) ∙ tail_fine
 
-    -- it is put back with its next choice, and members are added
+    -- the rule is put back with its next choice, and members are added
     module _ (C ys zs : List G.Signed) (new : List Pending) (back : ys ≡ take e.members xs)
         (grown : zs ≡ with_members C ys)
         (put : new ≡ es ++ record { members = e.members; rule = e.rule; next = e.next + 1 } ∷ []) where

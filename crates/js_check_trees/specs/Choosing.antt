@@ -19,7 +19,7 @@ choice_duties t S cs = map (λ C. OfSet t (add_all C S)) cs
 abbrev pub choices_of : List Position → Kind → G.Signed → List (List G.Signed)
 choices_of T t x = choice_list (choices T t x)
 
--- one of them
+-- the choice of that number
 abbrev pub choice_at : List Position → Kind → G.Signed → ℕ → List G.Signed
 choice_at T t x i = get_or (choices_of T t x) i []
 

@@ -2,5 +2,5 @@
 pub mod Choosing
 pub mod OpenSetsView
 pub mod Taking
--- Internal: what a step tells.
+-- Internal: what a step says.
 pub mod Told

@@ -21,6 +21,6 @@ begins_leaf t _ = false
 abbrev pub IsTaken : List Position → List Duty → Line → List Duty → Type 0
 IsTaken T ds l es = (cite : ℕ → List Signed → Bool) → run T cite ds (l ∷ []) ≡ Ok es
 
--- the line breaks a rule, which is told
+-- the line breaks this rule
 abbrev pub IsBroken : List Position → List Duty → Line → RuleFault → Type 0
 IsBroken T ds l fault = (cite : ℕ → List Signed → Bool) → Breaks (run T cite ds (l ∷ [])) fault

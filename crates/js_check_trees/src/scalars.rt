@@ -20,7 +20,7 @@ pub(crate) fn has_no_truth(alloc: Global, core: &Core, set: SignedList) -> Resul
     Ok(leaf.alternatives.as_slice().is_empty())
 }
 
-/// Whether it is so that no number meets what the set says of numbers; false where a limit is passed. It costs what
+/// Whether no number meets what the set says of numbers; false where a limit is passed. It costs what
 /// deciding costs.
 pub(crate) fn has_no_number(alloc: Global, core: &Core, set: SignedList) -> Result<bool, Memory>
     requires { are_in_table core.now.positions set ≡ true }

@@ -32,7 +32,7 @@ set_text (Others ks rs) =
     codes " others" ++ number_text (length ks) ++ strings_text ks ++ number_text (length rs)
     ++ strings_text (map (λ r. r.source) rs)
 
--- the word that tells the kind of a position
+-- the word for the kind of a position
 abbrev pub position_word : Position → List ℕ
 position_word True = codes "true"
 position_word False = codes "false"

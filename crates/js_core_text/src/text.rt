@@ -73,7 +73,7 @@ fn push_asked(alloc: Global, out: &mut String, node: &Node) -> Result<(), Memory
     }
 }
 
-/// The word that tells the kind of a position.
+/// The word for the kind of a position.
 fn word(node: &Node) -> &'static str
     ensures { result.now ≡ T.position_word (node_view node.now) }
 {

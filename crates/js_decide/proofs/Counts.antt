@@ -84,7 +84,7 @@ module _ (T : List Position) (ranks : List ℕ) (table : is_table T ranks ≡ tr
       (numbers_finder T ok right (words_of (finders T) K.Number)) (string_finder T ok)
       (λ S full C e. cells_found T S ok C e)
 
-  -- the same of what is answered
+  -- where an answer is the decision, it has what is proved of the decision
   module _ {E : Type 0} (r : Result Decided E)
       (told : IfOk r (λ d. decided_view d ≡ decision (finders T) T a b)) where
     abbrev IfTold : (D.Decided → Type 0) → Type 0

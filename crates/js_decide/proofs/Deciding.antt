@@ -1,4 +1,4 @@
--- What is told of a root by the words of cells is what is decided of two positions, and means what it says; and its
+-- What is answered of a root by the words of cells is what is decided of two positions, and means what it says; and its
 -- certificate is that of the two positions, which is accepted.
 use Rattle.std.proofs.Common.{◌≡◌, ℕ, ◌<◌, ◌≤◌, ◌&&◌, true, List, [], ◌∷◌, length, Option, Some, Result, Ok, Err, IfOk, nat_lt, refl, ap, sym, ◌∙◌, subst, arith}
 use Rattle.std.proofs.lemmas.Bool.{and_from, and_parts, lt-ltb}
@@ -104,7 +104,7 @@ module _ (T : List Position) (ranks : List ℕ) (table : is_table T ranks ≡ tr
   certificate_accepted few (V.Certificate bytes) e h =
       ap (verdict_of_bytes T a b) h ∙ written_accepted T is_ok a b a_in b_in (sym e) few
 
-  -- the same of what is answered, by what is told of the root
+  -- an answer that was found for the root is the decision on the two positions
   module _ {E : Type 0} (o : Option (List Signed)) (root : o ≡ root_of T a b) where
     pub answer_decided : (r : Result Decided E)
         → IfOk r (λ d. decided_view d ≡ of_root (words_by (cells_at T)) (goal_expansion T) most_goals most_total o)

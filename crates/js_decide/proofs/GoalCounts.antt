@@ -93,7 +93,7 @@ module _ (atoms : List Atom) where
         (mentions_only (have_same_state atoms) (same_laws atoms) (Rows n)
         (longer (class_firsts atoms) (get_or (Rows n) n [])) w i)
 
-  -- and no two of them have one state
+  -- no two rows have the same state
   rows_apart : (n : ℕ) → IsDistinct (have_same_state atoms) (Rows n)
   unfolding IsDistinct
   rows_apart zero = (tt, tt)

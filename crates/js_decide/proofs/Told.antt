@@ -1,4 +1,4 @@
--- What is told of the first goal.
+-- What is reported of the first goal.
 use Rattle.std.proofs.Common.{◌≡◌, ℕ, ◌+◌, true, false, cond, List, length, take, is_some, ap, ap₂, sym, ◌∙◌, arith}
 use Rattle.std.proofs.lemmas.List.{length-map}
 use Rattle.documents.specs.Kind.{Kind}

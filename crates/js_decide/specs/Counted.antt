@@ -125,8 +125,8 @@ module _ (expansion : List Signed → Expansion) where
   PassesAll most most_all f L.Total = most_all < all_places (take (suc f.taken) f.goals)
   PassesAll most most_all f k = ⊥
 
--- where a limit is told its count is over its number: at the goal that is told with it, or of all that were explored
--- from the root
+-- where a limit is reported its count is over its number: at the goal that is reported with it, or of all that were
+-- explored from the root
 abbrev pub IsCounted : List Position → (a b : ℕ) → Verdict → Type 0
 IsCounted T a b (D.Limit k (Some g)) = Passes T g k
 IsCounted T a b (D.Limit k None) =

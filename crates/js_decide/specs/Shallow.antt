@@ -24,7 +24,7 @@ module _ (F : Finders) (T : List Position) (most most_places a b : ℕ) where
     -- than the first round that has the root
     pub first : OfRoot F T most most_places a b (λ e f. (r : ℕ) × IsFirstRound e f r × (depth J ≤ r))
 
-  -- so is the document of a verdict, where that many rounds are told beside it
+  -- so is the document of a verdict, where that many rounds are reported beside it
   abbrev pub IsShallow : Verdict → ℕ → Type 0
   IsShallow (D.Document ps i) rounds = IsNoDeeper rounds (unshared ps i)
   IsShallow v rounds = Unit {0}

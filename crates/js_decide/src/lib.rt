@@ -1,7 +1,7 @@
 //! Whether some document meets one position of a core table and not another, by a search for goals.
 //!
 //! From the root, the goal of the two positions, goals are explored and rounds are run. Where a round has the root, its
-//! document is told in parts; else the first limit that may have hidden one, and else that there is none, with the
+//! document is given in parts; else the first limit that may have hidden one, and else that there is none, with the
 //! certificate of it.
 #![tactic(auto)]
 

@@ -47,8 +47,8 @@ pub fn decide<R: Threads + Sync, G: Gate + Sync>(
     ensures shallow { IfOk result (λ d. IsShallow (finders core.now.positions) core.now.positions most_goals most_total
         a.0 b.0 (decided_view d).verdict (decided_view d).rounds) }
 
-    // Where a limit is told, what it counts is more than its number: at the goal that is told with it, or else of all
-    // goals that were explored.
+    // Where a limit is reported, what it counts is more than its number: at the goal that is reported with it, or else
+    // of all goals that were explored.
     ensures counted { IfOk result (λ d. IsCounted core.now.positions a.0 b.0 (decided_view d).verdict) }
 
     // Ten positions have too few goals to pass the limit on goals.

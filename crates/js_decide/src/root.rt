@@ -24,7 +24,7 @@ use js_rounds::Rounds;
 use std::alloc::Global;
 use std::thread::Threads;
 
-/// Explores from a root, runs rounds, and tells what they show of it.
+/// Explores from a root, runs rounds, and answers what they show of it.
 ///
 /// It costs what `explore`, `Rounds::run` and `Rounds::witness` cost, of which the workers share the first.
 pub fn search_root<R: Threads + Sync, E: Expander + Sync, G: Gate + Sync>(

@@ -18,7 +18,7 @@ use Rattle.expander_laws.proofs.Alternatives.{cell_is, cells_many}
 use Rattle.expander_laws.proofs.Named.{named_branch}
 use Rattle.js_expander.specs.Found.{finders, goal_expansion, cells_at}
 
--- the same of another value
+-- what is answered is also an equal value
 pub told : {A E : Type 0} (r : Result A E) (x y : A) → x ≡ y → IfOk r (λ l. l ≡ x) → IfOk r (λ l. l ≡ y)
 told (Ok l) x y e h = h ∙ e
 told (Err m) x y e h = tt

@@ -20,7 +20,7 @@ finders T = record { numbers = numbers_of T; strings = strings_of T; cells = cel
 abbrev pub leaf_of : List Position → Kind → ℕ → List Signed → Result (List Alternative) LimitKind
 leaf_of T = leaf (finders T) T
 
--- the same of branches, the first of which has that number
+-- the answers of branches, the first of which has that number
 abbrev pub from_branches : List Position → Kind → ℕ → List (List Signed) → List (Result (List Alternative) LimitKind)
 from_branches T t k Ss = from_branch T (leaf_of T) t k Ss
 

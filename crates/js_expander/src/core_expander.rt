@@ -20,6 +20,7 @@ pub struct CoreExpander<'a> {
 }
 
 impl<'a> CoreExpander<'a> {
+    /// Borrows the table and computes nothing: each call expands the goal that it is given.
     pub fn new(core: &'a Core) -> CoreExpander<'a>
         ensures { result.core.now ≡ core.now }
     {

@@ -30,7 +30,7 @@ const MOST_WIDTH: usize = 65_536;
 #[derive(Drop)]
 pub(crate) struct Kept {
     alternatives: Vec<Alternative>,
-    /// Of all of them.
+    /// How many places the kept alternatives have together.
     places: u128,
     hole: Option<LimitKind>,
 }
@@ -50,7 +50,7 @@ impl Model for Kept {
 }
 
 impl Kept {
-    /// Without answers.
+    /// Before any answer: nothing is kept, and no limit was passed.
     pub fn new(alloc: Global) -> Kept
         ensures { result ≡ E.nothing }
     {
@@ -61,7 +61,7 @@ impl Kept {
         }
     }
 
-    /// With the answer of one more branch.
+    /// Takes the answer of one more branch.
     pub fn keep(&mut self, answer: Answer) -> Result<(), Memory>
         ensures { OnOk result (self.new ≡ E.keep self.old (answer_view answer)) }
     {
@@ -72,7 +72,7 @@ impl Kept {
         Ok(())
     }
 
-    /// With a limit that a branch passes.
+    /// Notes a limit that a branch passes. The first one stays.
     pub fn pass(&mut self, limit: LimitKind)
         ensures { self.new ≡ E.with_limit self.old (limit_view limit) }
     {
@@ -81,7 +81,7 @@ impl Kept {
         }
     }
 
-    /// With all alternatives of a branch, or none of them.
+    /// Takes all alternatives of a branch, or none of them where a limit would be passed.
     fn add(&mut self, more: AlternativeList) -> Result<(), Memory>
         ensures { OnOk result (self.new ≡ E.keep self.old (Ok more)) }
     {
@@ -100,6 +100,7 @@ impl Kept {
         Ok(())
     }
 
+    /// What was kept, with the first limit that was passed, if any.
     pub fn into_expansion(self) -> Expansion
         ensures { expansion_view result ≡ self }
     {

@@ -1,5 +1,5 @@
-//! Lists that contracts see as lists of what their elements stand for. Each is made of a `Vec` and gives it back without
-//! taking memory.
+//! Lists that contracts see as lists of what their elements stand for. Each is made of a `Vec` and gives it back
+//! without taking memory.
 
 ghost use Rattle.std.specs.Prelude.{◌≡◌, map};
 ghost use Rattle.alternatives.specs.Alternative.{places};
@@ -26,12 +26,14 @@ impl Model for PlacedList {
 }
 
 impl PlacedList {
+    /// Takes the vector over, without a copy.
     pub fn from_vec(items: Vec<Placed>) -> PlacedList
         ensures { result ≡ map placed_view items.items }
     {
         PlacedList { items }
     }
 
+    /// Gives the vector back, without a copy.
     pub fn into_vec(self) -> Vec<Placed>
         ensures { map placed_view result.items ≡ self }
     {
@@ -39,6 +41,7 @@ impl PlacedList {
         items
     }
 
+    /// The elements in order, lent without a copy.
     pub fn as_slice(&self) -> &[Placed]
         ensures { map placed_view result.now ≡ self.now }
     {
@@ -64,12 +67,14 @@ impl Model for FillerList {
 }
 
 impl FillerList {
+    /// Takes the vector over, without a copy.
     pub fn from_vec(items: Vec<Filler>) -> FillerList
         ensures { result ≡ map filler_view items.items }
     {
         FillerList { items }
     }
 
+    /// Gives the vector back, without a copy.
     pub fn into_vec(self) -> Vec<Filler>
         ensures { map filler_view result.items ≡ self }
     {
@@ -77,6 +82,7 @@ impl FillerList {
         items
     }
 
+    /// The elements in order, lent without a copy.
     pub fn as_slice(&self) -> &[Filler]
         ensures { map filler_view result.now ≡ self.now }
     {
@@ -104,12 +110,14 @@ impl Model for AlternativeList {
 impl AlternativeList {
     ghost use Rattle.js_expansion.specs.AlternativeView.{alternative_view};
 
+    /// Takes the vector over, without a copy.
     pub fn from_vec(items: Vec<Alternative>) -> AlternativeList
         ensures { result ≡ map alternative_view items.items }
     {
         AlternativeList { items }
     }
 
+    /// Gives the vector back, without a copy.
     pub fn into_vec(self) -> Vec<Alternative>
         ensures { map alternative_view result.items ≡ self }
     {
@@ -117,6 +125,7 @@ impl AlternativeList {
         items
     }
 
+    /// The elements in order, lent without a copy.
     pub fn as_slice(&self) -> &[Alternative]
         ensures { map alternative_view result.now ≡ self.now }
     {

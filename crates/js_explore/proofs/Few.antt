@@ -4,6 +4,7 @@ use Rattle.goals.specs.Signed.{Signed}
 use Rattle.alternatives.specs.Alternative.{Alternative, places_of, places}
 use Rattle.search.specs.Rounds.{NumberedPlaced, number_members, with_members, numbered}
 
+-- there are no more numbered alternatives than places
 pub few_numbered : (gs : List (List Signed)) (bs : List Alternative) → length (numbered gs bs) ≤ places bs
 few_numbered gs [] = omega arith
 few_numbered gs (a ∷ bs) = go (number_members gs a.members) (few_numbered gs bs) where

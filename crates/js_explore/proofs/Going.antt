@@ -12,6 +12,7 @@ use Rattle.search.specs.Rounds.{alternatives_at, hole_at}
 use Rattle.js_explore.specs.Exploration.{Exploration, Explores, GoesOn, exploration, answer_to, alternatives_in, hole_in, is_settled, with_answer}
 use Rattle.js_explore.proofs.Settled.{get_before, every_both, keeps_all, settles_all, every_settled, numbered_kept}
 
+-- what all of a list pass is passed by what stands at a place
 pub every_get : {A : Type 0} (p : A → Bool) (xs : List A) (i : ℕ) (x : A) → every p xs ≡ true
     → slice_get xs i ≡ Some x → p x ≡ true
 every_get p [] i x e f = cc

@@ -54,6 +54,7 @@ same_found : {gs ks : List (List Signed)} {t u p q : ℕ} {o r : Option LimitKin
 same_found a b c d = λ i. found (a i) (b i) (c i) (d i)
 
 module _ (most : ℕ) (gs ks : List (List Signed)) (g : List Signed) (t p : ℕ) (o : Option LimitKind) where
+  -- a goal that is there changes nothing
   pub mention_old : list_any (J.same_goal g) gs ≡ true → found gs t p o ≡ mention most (found gs t p o) g
   mention_old e = sym (ap (λ b. cond b (found gs t p o)
       (cond (nat_lt (length gs) most) (found (gs ++ g ∷ []) t p o) (found gs t p (first_limit o Goals))))
@@ -65,12 +66,14 @@ module _ (most : ℕ) (gs ks : List (List Signed)) (g : List Signed) (t p : ℕ)
       (cond (nat_lt (length gs) most) (found (gs ++ g ∷ []) t p o) (found gs t p (first_limit o Goals))))
       (sym (listed_is g gs) ∙ e)
 
+  -- a goal that isn't there is inserted, where fewer are there than may be
   pub mention_new : list_any (J.same_goal g) gs ≡ false → nat_lt (length gs) most ≡ true
       → ks ≡ insert_key J.same_goal gs g → found ks t p o ≡ mention most (found gs t p o) g
   mention_new e l k =
       ap (λ hs. found hs t p o) (k ∙ ap (λ b. cond b gs (gs ++ g ∷ [])) e)
       ∙ sym (not_listed e ∙ ap (λ b. cond b (found (gs ++ g ∷ []) t p o) (found gs t p (first_limit o Goals))) l)
 
+  -- a goal for which there is no room is left out, and the limit on goals is noted
   pub mention_past : list_any (J.same_goal g) gs ≡ false → nat_lt (length gs) most ≡ false
       → (u q : ℕ) (r : Option LimitKind) → ks ≡ gs → u ≡ t → q ≡ p → r ≡ first_limit o Goals
       → found ks u q r ≡ mention most (found gs t p o) g

@@ -88,6 +88,7 @@ module _ (most : ℕ) where
     go false true e = keeps_push s.goals g (ltb-true (length s.goals) most e)
     go false false e = keeps_same s.goals
 
+  -- mentioning a list of goals keeps the numbers of those that are there
   pub keeps_all : (s : Found) (xs : List (List Signed)) → Keeps s.goals (mention_goals most s xs).goals
   keeps_all s [] = keeps_same s.goals
   keeps_all s (x ∷ xs) =

@@ -4,6 +4,7 @@ use Rattle.std.proofs.lemmas.List.{drop_all}
 use Rattle.goals.specs.Signed.{Signed}
 use Rattle.search.specs.Explored.{Found, mention_goals}
 
+-- mentioning two lists joined mentions one after the other
 pub mention_both : (most : ℕ) (s : Found) (xs ys : List (List Signed))
     → mention_goals most s (xs ++ ys) ≡ mention_goals most (mention_goals most s xs) ys
 mention_both most s [] ys = refl

@@ -127,7 +127,7 @@ module _ (most : ℕ) where
           subst (λ o. IfOk a (λ x. expansion_view x ≡ expansion_in expansion o)) (sym goal)
           (subst (Gives expansion first.goals (first.taken + k)) (sym item) (all k a l))
 
--- the numbers that are asked for
+-- the numbers of the goals that a wave expands
 module _ (numbers : List ℕ) (from n : ℕ) (is : numbers ≡ range_with_len from n) where
   pub count : length numbers ≡ n
   count = ap length is ∙ length-range_with_len from n

@@ -29,8 +29,8 @@ pub const MOST_TOTAL: u32 = 16_777_216;
 /// the search ends: neither this goal nor a later one is taken. Where `over` is None all goals were taken. Each goal is
 /// expanded once, and what it names costs three hashes each at most.
 ///
-/// One worker expands one goal after another, and the gate isn't told. Several expand all goals that wait at once: the
-/// root, then all goals that it names, and so on. Memory holds the expansions of one such wave at once.
+/// One worker expands one goal after another, and the gate isn't called. Several expand all goals that wait at once:
+/// the root, then all goals that it names, and so on. Memory holds the expansions of one such wave at once.
 pub fn explore<R: Threads + Sync, E: Expander + Sync, G: Gate + Sync>(
     workers: &Workers<'_, R, G>,
     alloc: Global,
@@ -48,7 +48,7 @@ pub fn explore<R: Threads + Sync, E: Expander + Sync, G: Gate + Sync>(
     explore_within(workers, alloc, expander, root, MOST_GOALS, MOST_TOTAL)
 }
 
-/// The same within given limits.
+/// `explore` within given limits on goals and places.
 pub(crate) fn explore_within<R: Threads + Sync, E: Expander + Sync, G: Gate + Sync>(
     workers: &Workers<'_, R, G>,
     alloc: Global,
@@ -75,7 +75,7 @@ pub(crate) fn explore_within<R: Threads + Sync, E: Expander + Sync, G: Gate + Sy
     waves.explore(workers, root)
 }
 
-/// The same by one thread.
+/// Explores on the calling thread alone, one goal after another.
 fn explore_alone<E: Expander>(
     alloc: Global,
     expander: &E,

@@ -52,12 +52,14 @@ impl Model for NumberedPlacedList {
 }
 
 impl NumberedPlacedList {
+    /// Takes the vector over, without a copy.
     pub fn from_vec(items: Vec<NumberedPlaced>) -> NumberedPlacedList
         ensures { result ≡ map placed_view items.items }
     {
         NumberedPlacedList { items }
     }
 
+    /// The elements in order, lent without a copy.
     pub fn as_slice(&self) -> &[NumberedPlaced]
         ensures { map placed_view result.now ≡ self.now }
     {
@@ -83,12 +85,14 @@ impl Model for NumberedFillerList {
 }
 
 impl NumberedFillerList {
+    /// Takes the vector over, without a copy.
     pub fn from_vec(items: Vec<NumberedFiller>) -> NumberedFillerList
         ensures { result ≡ map filler_view items.items }
     {
         NumberedFillerList { items }
     }
 
+    /// The elements in order, lent without a copy.
     pub fn as_slice(&self) -> &[NumberedFiller]
         ensures { map filler_view result.now ≡ self.now }
     {

@@ -212,7 +212,7 @@ const CASES: [Case; 7] = [
         over: Some(LimitKind::Total),
         numbers: &[0],
     },
-    // The limit that is passed first is told.
+    // The limit that is passed first is reported.
     Case {
         most_goals: 2,
         most_total: 5,

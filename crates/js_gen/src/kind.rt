@@ -33,6 +33,7 @@ impl GenKind {
         }
     }
 
+    /// The word that `jsat gen` takes for the family, and that its report repeats.
     pub fn as_word(self) -> &'static str
         ensures { result.now ≡ family_word (kind_view self) }
     {

@@ -41,7 +41,7 @@ impl Members {
         Ok(())
     }
 
-    /// The same with a name that is written out.
+    /// Sets the member of a name that is given as program text, which is copied.
     pub(crate) fn set(&mut self, name: &str, value: Json) -> Result<(), Memory>
         requires { is_ascii name.now ≡ true }
         ensures { OnOk result (entries_of self.new ≡ with_member (entries_of self.old) (name.now, view value)) }

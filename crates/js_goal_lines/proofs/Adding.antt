@@ -27,7 +27,7 @@ pub two-pieces : (before now new first second : List Line) → now ≡ before ++
 two-pieces before now new first second a b =
     b ∙ ap (λ z. z ++ second) a ∙ append_assoc before first second
 
--- the same pieces
+-- lines that are added are also an equal list of lines
 pub same-piece : {A E : Type 0} (r : Result A E) (before new piece other : List Line) → piece ≡ other
     → OnOk r (new ≡ before ++ piece) → OnOk r (new ≡ before ++ other)
 same-piece r before new piece other e h = subst (λ z. OnOk r (new ≡ before ++ z)) e h

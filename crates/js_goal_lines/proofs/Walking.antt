@@ -15,7 +15,7 @@ use Rattle.js_tableau.specs.declared.visits.Tree.{Tree}
 use Rattle.js_goal_lines.proofs.Adding.{told-all}
 
 module _ (T : List Position) (t : Kind) where
-  -- the set that was told last is in the table
+  -- the set of the last step is in the table
   pub set-inside : (tree : Tree) → IsTree T t tree → are_in_table T (told_set tree) ≡ true
   set-inside tree is =
       every-add_all (is_in_table T) tree.walk.trail [] ∙ and_from _ _ is.stands.in_table refl

@@ -50,7 +50,7 @@ fn next_step(core: &Core, kind: JsonKind, tree: &mut Tree) -> Result<Option<Step
     }
 }
 
-/// Adds the lines of the step that was told last: one, or those of a saturated end.
+/// Adds the lines of the step that was given last: one, or those of a saturated end.
 fn add_step_lines<D: Dead>(
     alloc: Global,
     core: &Core,
@@ -81,7 +81,7 @@ fn add_line(line: CertLine, lines: &mut Vec<CertLine>) -> Result<(), Memory>
     Ok(())
 }
 
-/// Adds the lines of the set that was told last.
+/// Adds the lines of the set of the step that was given last.
 fn add_set_lines<D: Dead>(
     alloc: Global,
     core: &Core,

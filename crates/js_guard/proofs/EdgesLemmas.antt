@@ -25,7 +25,7 @@ edges-more es x f row g l h r e =
     ap₂ (λ a b. a ++ b ∷ []) e (r ∙ sym (edges-at es x f l h))
     ∙ sym (take_more (edges es) x [] (omega (arith, edges-length es)))
 
--- all of them
+-- the edges of all entries, where none is left
 pub edges-all : (es : List Entry) (x : ℕ) (g : List (List ℕ)) → length es ≤ x → g ≡ take x (edges es) → g ≡ edges es
 edges-all es x g l e = e ∙ take_all x (edges es) (omega (arith, edges-length es))
 

@@ -34,7 +34,7 @@ module _ (L : List (ℕ × ℕ)) (y : ℕ × ℕ) where
         ap (λ l. l.1) (pair-old q inside) ∙ u.last q f);
   }
 
-  -- one more that leads elsewhere
+  -- one more edge that leads elsewhere
   upto-other : (t p : ℕ) → (y.1 ≡ t → ⊥) → IsUpToLast L (length L) t p → IsUpToLast L' (length L') t p
   upto-other t p other u =
       let old = upto-more (length L) t p (omega arith) u in
@@ -48,7 +48,7 @@ module _ (L : List (ℕ × ℕ)) (y : ℕ × ℕ) where
         last = old.last;
       }
 
-  -- one more that leads there
+  -- one more edge that leads there
   upto-here : (t p : ℕ) → y.1 ≡ t → p ≡ length L + 1 → IsUpToLast L' (length L') t p
   upto-here t p same f = record {
     within = omega (arith, push-length L y no_pair);

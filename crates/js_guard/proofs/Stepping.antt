@@ -85,7 +85,7 @@ module _ (g : List (List ℕ)) (s s' : Search) (P : List Turn) (p n : ℕ)
   stops-at (Open j) h = absurd (true≢false (sym h.0))
   stops-at (Done r) h = absurd (true≢false (sym h.0))
 
-  -- one that isn't leads to a new entry
+  -- an edge that isn't passed leads to a new entry
   pub stops : (x : ℕ) (b : Bool) → x ≡ w → b ≡ false → PassesAt (mark s.marks.items x) s s' x b
       → (mark s.marks.items w ≡ New) × (s' ≡ s)
   stops x b e no_it h =

@@ -7,7 +7,8 @@ use Rattle.js_guard.specs.RankedView.{entries_of}
 use Rattle.js_guard.specs.declared.ranked.Guarded.{Guarded}
 use Rattle.js_guard.specs.declared.ranked.Guarded.TheVariants.{Ranked, Circular}
 
--- no cycle leads through them; or some lead in a circle, and this is the cycle that is told. The schema is handed back
+-- no cycle leads through them; or some lead in a circle, and this is the one reported. The schema is handed
+-- back
 abbrev pub Answers : List Entry → Guarded → Type 0
 Answers es (Ranked s) = (entries_of s ≡ es) × IsGuarded (edges es)
 Answers es (Circular s cycle) = (schema_view s ≡ es) × (IsGuarded (edges es) → ⊥) × IsLeastCycle (edges es) cycle

@@ -1,4 +1,4 @@
-//! The cycle that is told.
+//! The cycle that is reported.
 //!
 //! From an entry on a cycle the next is the target with the shortest way back. It costs time and memory in proportion
 //! to the entries and edges.

@@ -1,7 +1,7 @@
-//! Whether the entries of a schema are asked of the same document in a circle.
+//! Whether the entries of a schema apply to the same document in a circle.
 //!
-//! `guard` gives each entry a rank that falls along every in-place edge, or tells a cycle. What a cycle is and which
-//! one is told stands in `schemas` (`Guarded`), what an answer means in `specs/Answer.antt`. The validator and the
+//! `guard` gives each entry a rank that falls along every in-place edge, or reports a cycle. What a cycle is and which
+//! one is reported stands in `schemas` (`Guarded`), what an answer means in `specs/Answer.antt`. The validator and the
 //! normal form go down by ranks: they take a `RankedSchema`.
 #![tactic(auto)]
 
@@ -26,9 +26,9 @@ pub use ranked::{Guarded, RankedSchema};
 pub use ranks::Ranks;
 use std::alloc::Global;
 
-/// The schema with ranks for its entries, or the cycle that is told of it. In-place edges lead to the target of `$ref`
-/// and to the schemas under `allOf`, `anyOf`, `oneOf`, `not` and `dependencies`. It costs time and memory in proportion
-/// to the entries and these edges.
+/// The schema with ranks for its entries, or the cycle that is reported of it. In-place edges lead to the target of
+/// `$ref` and to the schemas under `allOf`, `anyOf`, `oneOf`, `not` and `dependencies`. It costs time and memory in
+/// proportion to the entries and these edges.
 pub fn guard(alloc: Global, schema: Schema) -> Result<Guarded, Memory>
     ensures { IfOk result (Answers (schema_view schema)) }
 {

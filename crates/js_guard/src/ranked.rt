@@ -19,9 +19,9 @@ pub struct RankedSchema {
 /// What is found of a schema.
 #[derive(Drop)]
 pub enum Guarded {
-    /// No entry is asked of the same document again.
+    /// No entry leads back to itself at the same document.
     Ranked(RankedSchema),
 
-    /// These entries of the schema are asked of the same document in a circle, each by the one before.
+    /// These entries of the schema apply to the same document in a circle, each by the one before.
     Circular(Schema, EntryList),
 }

@@ -25,6 +25,7 @@ impl Ranks {
         Ranks { ranks }
     }
 
+    /// The rank of an entry, in constant time. It is greater than that of each entry to which an in-place edge leads.
     pub fn rank(&self, entry: u32) -> u32
         requires { entry < length self.now }
         ensures { result ≡ get_or self.now entry 0 }
@@ -32,6 +33,7 @@ impl Ranks {
         self.ranks[entry as usize]
     }
 
+    /// The ranks in the order of entries, lent without a copy.
     pub fn as_slice(&self) -> &[u32]
         ensures { result.now ≡ self.now }
     {

@@ -19,7 +19,7 @@ use std::alloc::Global;
 #[derive(Clone, Copy)]
 pub(crate) enum Mark {
     New,
-    /// It stands among the open entries, at this place.
+    /// The entry stands among the open ones, at this place.
     Open(u32),
     /// All that it leads to is done, and this many entries were done before it.
     Done(u32),
@@ -144,8 +144,8 @@ impl Search {
         }
     }
 
-    /// Passes the edges of an entry up to one that leads to a new entry, and tells which that is; as many as there are,
-    /// where none does.
+    /// Passes the edges of an entry up to one that leads to a new entry, and answers which that is; as many as there
+    /// are, where none does.
     fn pass_edges(&mut self, edges: &Edges, turn: Turn) -> usize
         requires closed { AreClosed edges.now }
         requires search { IsSearchWith edges.now self.old (self.old.path.items ++ turn ∷ []) }

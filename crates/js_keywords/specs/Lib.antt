@@ -1,4 +1,4 @@
--- What a reader must believe: the keywords by their names, the faults that are told, and the rules of reading.
+-- What a reader must believe: the keywords by their names, the faults that are reported, and the rules of reading.
 pub mod Names
 pub mod TypeView
 pub mod Reading

@@ -19,7 +19,7 @@ abbrev pub shape_beside : Bool → List ℕ → Option Shape
 shape_beside listed w =
     cond (same_word w (codes "additionalItems")) (cond listed (shape_of w) None) (shape_of w)
 
--- the same of a keyword
+-- the shape of a keyword's value where `items` is a list, or isn't
 abbrev pub shape_given : Bool → Option Keyword → Option Shape
 shape_given listed None = None
 shape_given listed (Some K.AdditionalItems) = cond listed (shape_by K.AdditionalItems) None

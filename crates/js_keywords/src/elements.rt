@@ -1,4 +1,4 @@
-//! What is asked of each element of a list in a keyword's value.
+//! What is required of each element of a list in a keyword's value.
 
 ghost use Rattle.std.specs.Prelude.{◌≡◌};
 ghost use Rattle.js_doc.specs.JsonView.{view, list_view};

@@ -44,7 +44,7 @@ pub enum SchemaFault {
     /// With this place the schema weighs more than is read.
     #[error("too large at {0:?}")]
     TooLarge(Pointer),
-    /// Memory was asked for and refused.
+    /// Memory was requested and refused.
     #[error("out of memory")]
     Memory,
 }

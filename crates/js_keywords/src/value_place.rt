@@ -1,6 +1,6 @@
 //! Where the value of a keyword stands, and what stands in it.
 //!
-//! A pointer is made only where a fault is told. It takes memory in proportion to its length.
+//! A pointer is made only where a fault is reported. It takes memory in proportion to its length.
 
 ghost use Rattle.std.specs.Prelude.{◌≡◌, ◌++◌, ◌∷◌, [], Some, IfOk};
 ghost use Rattle.schemas.specs.Places.{index_token};

@@ -16,7 +16,7 @@ pub enum LineFault {
     /// The bytes end within a line.
     #[error("the last line has no line feed")]
     Unfinished,
-    /// Memory was asked for and refused.
+    /// Memory was requested and refused.
     #[error("out of memory")]
     Memory,
 }

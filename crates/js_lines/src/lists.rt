@@ -20,12 +20,14 @@ impl Model for NumberList {
 }
 
 impl NumberList {
+    /// Takes the vector over, without a copy.
     pub fn from_vec(items: Vec<u32>) -> NumberList
         ensures { result ≡ items.items }
     {
         NumberList { items }
     }
 
+    /// Gives the vector back, without a copy.
     pub fn into_vec(self) -> Vec<u32>
         ensures { result.items ≡ self }
     {
@@ -33,6 +35,7 @@ impl NumberList {
         items
     }
 
+    /// The elements in order, lent without a copy.
     pub fn as_slice(&self) -> &[u32]
         ensures { result.now ≡ self.now }
     {
@@ -60,12 +63,14 @@ impl Model for ShortEntryList {
 impl ShortEntryList {
     ghost use Rattle.js_lines.specs.View.{entry_view};
 
+    /// Takes the vector over, without a copy.
     pub fn from_vec(items: Vec<ShortEntry>) -> ShortEntryList
         ensures { result ≡ map entry_view items.items }
     {
         ShortEntryList { items }
     }
 
+    /// Gives the vector back, without a copy.
     pub fn into_vec(self) -> Vec<ShortEntry>
         ensures { map entry_view result.items ≡ self }
     {
@@ -73,6 +78,7 @@ impl ShortEntryList {
         items
     }
 
+    /// The elements in order, lent without a copy.
     pub fn as_slice(&self) -> &[ShortEntry]
         ensures { map entry_view result.now ≡ self.now }
     {
@@ -103,12 +109,14 @@ impl Model for CertLines {
 impl CertLines {
     ghost use Rattle.js_lines.specs.View.{line_view};
 
+    /// Takes the vector over, without a copy.
     pub fn from_vec(lines: Vec<CertLine>) -> CertLines
         ensures { result ≡ map line_view lines.items }
     {
         CertLines { lines }
     }
 
+    /// Gives the vector back, without a copy.
     pub fn into_vec(self) -> Vec<CertLine>
         ensures { map line_view result.items ≡ self }
     {
@@ -116,6 +124,7 @@ impl CertLines {
         lines
     }
 
+    /// The elements in order, lent without a copy.
     pub fn as_slice(&self) -> &[CertLine]
         ensures { map line_view result.now ≡ self.now }
     {

@@ -23,7 +23,7 @@ More Step most i j = (k : ℕ) × IfSome most (λ m. k ≤ m) × Repeats Step k 
 abbrev pub are_within : ℕ → List ℕ → Bool
 are_within n xs = every (λ i. nat_le i n) xs
 
--- the same places
+-- `both` has just the places of the two lists
 abbrev pub HasBoth : (xs ys both : List ℕ) → Type 0
 HasBoth xs ys zs = (j : ℕ) → is_at j zs ≡ (is_at j xs || is_at j ys)
 

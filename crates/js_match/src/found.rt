@@ -21,7 +21,7 @@ pub fn is_found(alloc: Global, re: &Re, word: &Str) -> Result<bool, Memory>
     is_in(alloc, re, &letters)
 }
 
-/// The same of a word that is given by its characters, so that one word can be asked for many patterns.
+/// Whether the pattern is found in a word that is given by its characters, which many patterns can then share.
 pub fn is_in(alloc: Global, re: &Re, word: &[char]) -> Result<bool, Memory>
     ensures { IfOk result (λ b. b ≡ finds (view re.now) word.now) }
 {

@@ -35,7 +35,7 @@ pub(crate) fn after_run(
     run_ends(alloc, set, low as usize, high, word, &marks)
 }
 
-/// The same from one start.
+/// `after_run` from one start, which needs no table of starts.
 fn run_from(
     alloc: Global,
     set: &CharSet,
@@ -59,7 +59,7 @@ fn run_from(
     Ok(ends)
 }
 
-/// The same from a table of the starts. For each place it knows where the run that ends there begins, and the last
+/// `after_run` from a table of the starts. For each place it knows where the run that ends there begins, and the last
 /// start that is far enough before it: where any start serves, that one does.
 fn run_ends(
     alloc: Global,

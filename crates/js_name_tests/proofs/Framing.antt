@@ -20,7 +20,7 @@ filter_same : (p q : ℕ → Bool) → ((c : ℕ) → p c ≡ q c) → (cs : Lis
 filter_same p q h [] = refl
 filter_same p q h (c ∷ cs) = ap₂ (λ b z. cond b (c ∷ z) z) (h c) (filter_same p q h cs)
 
--- one of two lists of which the same is told
+-- elements at the same place of two lists whose tests agree
 pub told-at : (f : NameTest → Bool) (g : Signed → Bool) (ts : List NameTest) (xs : List Signed) (d : ℕ)
     → map f ts ≡ map g xs → d < length xs → (t : NameTest) → t ≡ get_or ts d t
     → f t ≡ g (get_or xs d (Plus 0))
@@ -43,7 +43,7 @@ within-at n (u ∷ ts) zero e l t h =
 within-at n (u ∷ ts) (suc d) e l t h =
     within-at n ts d (and_parts (nat_lt u.literal n) (are_within n ts) e).1 (omega (arith, l)) t h
 
--- nothing is asked at first places
+-- nothing is required at first places
 pub each-head : (T : List Position) (C : Cells) (k : ℕ) (S : List Signed) → flat_map (each T C (Head k)) S ≡ []
 each-head T C k [] = refl
 each-head T C k (Plus p ∷ S) = each-head T C k S

@@ -1,4 +1,4 @@
--- What tests by the numbers of literals tell of a cell is what the literals themselves say of it.
+-- What tests by the numbers of literals say of a cell is what the literals themselves say of it.
 use Rattle.std.proofs.Common.{◌≡◌, ℕ, ◌+◌, ◌≤◌, ◌++◌, ◌||◌, ◌&&◌, Bool, true, false, cond, List, [], ◌∷◌, map, filter, flat_map, length, get_or, nat_lt, Option, Some, None, refl, ap, ap₂, sym, ◌∙◌, append_assoc, length-append, arith}
 use Rattle.std.specs.Bool.{beq}
 use Rattle.std.proofs.Math.Seq.{get_or-append_seam}
@@ -56,7 +56,7 @@ plus_each-told : (b : Bool) (P : Position) → plus_each b P ≡ value_told (plu
 plus_each-told b (MembersOf s q) = refl
 plus_each-told b _ = refl
 
--- a cell that isn't there is told nothing
+-- no literal is true of a cell that isn't there
 pub truth-past : (C : Cells) (c : ℕ) (x : Signed) → length C.vectors ≤ c → truth C c x ≡ false
 truth-past C c x l = ap (λ v. told C.names v x) (vector-past C.vectors c l) ∙ told_nothing C.names x
 

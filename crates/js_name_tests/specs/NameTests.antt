@@ -84,6 +84,6 @@ are_within n tests = every (λ t. nat_lt t.literal n) tests
 abbrev pub values_within : ℕ → List ValueTest → Bool
 values_within n values = every (λ v. nat_lt v.literal n) values
 
--- a value that is asked is in the table
+-- the positions that are required of values are in the table
 abbrev pub values_in_table : List Position → List ValueTest → Bool
 values_in_table T values = every (λ v. nat_lt v.value.0 (length T)) values

@@ -1,5 +1,5 @@
 //! What the literals of a set that speak of names ask of members. Each is kept by its number among them, so that a cell
-//! can be asked what it says of its names.
+//! gives what it says of its names.
 
 ghost use Rattle.std.specs.Prelude.{◌≡◌, ◌<◌, map, true, length, filter, IfOk, IfSome, option_map};
 ghost use Rattle.std.specs.Option.{option_to_list};
@@ -116,7 +116,7 @@ pub fn demands_of(alloc: Global, core: &Core, names: &[Signed]) -> Result<Demand
     Ok(Demands { literals, tests })
 }
 
-/// What is asked of the values of names.
+/// What is required of the values of names.
 pub fn values_of(alloc: Global, core: &Core, names: &[Signed]) -> Result<Vec<ValueTest>, Memory>
     requires { are_in_table core.now.positions (map signed_view names.now) ≡ true }
     ensures value { IfOk result (λ v. map numbered_value v.items

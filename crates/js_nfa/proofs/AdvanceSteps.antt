@@ -72,6 +72,7 @@ module _ (first : Bool) (read : ℕ → Bool) (c : ℕ) where
         length-append (reads_next t first read c base b) (reads_next_of_one ts first read c (base + count_of t) b)
         ∙ omega (arith, length-reads t base b, length-reads_of_one ts (base + count_of t) b)
 
+  -- the flags of a tree are as many as its positions
   pub length-next : (t : Tree) (flags after : List Bool) (base : ℕ) (b : Bool)
       → after ≡ flags ++ reads_next t first read c base b → length after ≡ length flags + count_of t
   length-next t flags after base b e =

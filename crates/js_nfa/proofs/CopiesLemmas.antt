@@ -1,6 +1,7 @@
 -- Copies of a set, one after another, by the bits of words.
 --
--- Key: `flags_of-copies`, the flags of the copies in one word are the bits that were read before, moved on by one place.
+-- Key: `flags_of-copies`, the flags of the copies in one word are the bits that were read before, moved on by one
+-- place.
 use Rattle.std.proofs.Common.{◌≡◌, ℕ, zero, suc, ◌+◌, ◌-◌, ◌*◌, ◌/◌, ◌%◌, ◌^◌, ◌<◌, ◌≤◌, Bool, true, false, not, ◌&&◌, ◌||◌, eqb, nat_eq, if◌then◌else◌, List, [], ◌∷◌, ◌++◌, length, replicate, get_or, refl, sym, ◌∙◌, ap, ap₂, arith, ext_get_or, ne_eqb, eqb-true, length-append, append_assoc}
 use mir.Val.{bool_byte}
 use Rattle.std.specs.Prelude.{slice_index}
@@ -217,7 +218,7 @@ copies_begun-again read (suc n) base here =
       last (suc n) =
           ap (λ x. if x then read base else read (base + suc (suc n) - 1)) (ne_eqb (suc n) 0 (omega arith))
 
--- the same after the flags of other positions
+-- the last copy's flag, where flags of other positions stand before the copies
 pub copies-last : (read : ℕ → Bool) (count last : ℕ) (begins here was : Bool) (flags part after : List Bool) → 0 < count
     → last ≡ length flags + (count - 1) → here ≡ (if nat_eq count 1 then begins else read (last - 1)) → was ≡ read last
     → part ≡ flags ++ copies_begun false read (count - 1) (length flags) begins

@@ -80,6 +80,7 @@ all_below n read q p e = by (cases_lt p n) where
   by (inl h) = all_read n p h
   by (inr h) = absurd (true≢false (sym e ∙ q p h))
 
+-- where no match ends though all of the first n positions were read, a match needs a later one
 pub needs_is : (t : Tree) (n : ℕ) (flags : List Bool) (ends : Bool) → flags ≡ replicate n true
     → ends ≡ ends_here t false false (flag_at flags) 0 true → not ends ≡ true → Needs t n
 needs_is t n flags ends f e stops positive read q = by (ends_here t false false read 0 true) refl where

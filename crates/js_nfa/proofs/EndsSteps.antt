@@ -15,6 +15,7 @@ left-init base n c = ap (λ k. base + k * c) (omega arith)
 pub one_less : (n i : ℕ) → i < n → n - i ≡ suc (n - (i + 1))
 one_less n i h = omega (arith, h)
 
+-- the places of the copies that are left, past one more copy
 pub left-next : (base n c i at after : ℕ) → i < n → at + (n - i) * c ≡ base + n * c → after ≡ at + c
     → after + (n - (i + 1)) * c ≡ base + n * c
 left-next base n c i at after h e a =

@@ -25,6 +25,7 @@ flags-same xs ys e p =
       flag : (p : ℕ) (bs : List Bool) → is_among (numbers_from 0 bs) p ≡ flag_at bs p
       flag p bs = sym (ap (is_among (numbers_from 0 bs)) (zero-add p)) ∙ numbers_flag 0 p bs
 
+-- no flag is set beyond the list
 pub flag_at-beyond : (xs : List Bool) (p : ℕ) → length xs ≤ p → flag_at xs p ≡ false
 flag_at-beyond [] p h = refl
 flag_at-beyond (b ∷ xs) zero h = absurd (omega (arith, h))

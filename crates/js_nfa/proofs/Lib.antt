@@ -16,7 +16,7 @@ pub mod OptionsLemmas
 pub mod EndsSteps
 pub mod AdvanceSteps
 pub mod RunSteps
--- The same by rows, one a position.
+-- The steps by rows, one a position.
 pub mod RowsSteps
 pub mod FoursSteps
 -- States of words by the flags of positions.

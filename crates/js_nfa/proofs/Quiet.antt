@@ -30,6 +30,7 @@ module _ (read : ℕ → Bool) (one : ℕ → Bool → Bool) (count : ℕ)
         both true = refl
         both false = refl
 
+  -- copies of what is quiet read nothing
   pub next_after-quiet : (again : Bool) (next : ℕ → Bool → List Bool)
       → ((base : ℕ) → Quiet read base → next base false ≡ replicate count false)
       → (n base : ℕ) → Quiet read base → next_after again next one count n base false ≡ replicate (n * count) false
@@ -111,7 +112,7 @@ module _ (first : Bool) (read : ℕ → Bool) where
           (reads_of_one-quiet ts (base + count_of t) (later read base (count_of t) q))
           ∙ replicate-append-replicate (count_of t) (count_in ts) false
 
--- the same of a tree at which nothing begins
+-- no match of a quiet tree ends where `begins` is false, by an equation
 pub ends-none : (first last : Bool) (read : ℕ → Bool) (t : Tree) (base : ℕ) (begins : Bool) → begins ≡ false
     → Quiet read base → false ≡ ends_here t first last read base begins
 ends-none first last read t base begins e q =

@@ -280,6 +280,7 @@ row-last : (rows : List Marks) (x : Marks) → row (rows ++ x ∷ []) (length ro
 row-last [] x = refl
 row-last (y ∷ rows) x = row-last rows x
 
+-- what holds of each row, and of one that comes behind them, holds of each of them all
 pub rows-more : (P : ℕ → List Bool → Type 0) (rows after : List Marks) (x : Marks) (n : ℕ) → length rows ≡ n
     → after ≡ rows ++ x ∷ [] → ((p : ℕ) → p < n → P p (row rows p)) → P n (Marks.flags x)
     → (p : ℕ) → p < n + 1 → P p (row after p)
@@ -363,7 +364,7 @@ pub from_none : (t : Tree) (read : ℕ → Bool) (c : ℕ) (b : Bool) (start rea
     → reads ≡ start ++ reads_next t false read c (length start) b → reads ≡ reads_next t false read c 0 b
 from_none t read c b start reads e f = f ∙ ap (λ fs. fs ++ reads_next t false read c (length fs) b) e
 
--- one more character asked
+-- one more character tested
 pub row-more : (t : Tree) (read : ℕ → Bool) (begins : Bool) (cs : List ℕ) (i c : ℕ) (flags reads after : List Bool)
     → i < length cs → c ≡ get_or cs i c
     → ((q : ℕ) → flag_at flags q ≡ (flag_at (may_follow t false read 0 begins) q && is_shown t (take i cs) q))

@@ -12,6 +12,7 @@ use Rattle.js_nfa.proofs.Through.{reads_repeated}
 use Rattle.js_nfa.proofs.CopiesLemmas.{next_after-same}
 use Rattle.js_nfa.proofs.EndsSteps.{Left, ends-init, ends-next}
 
+-- that there is no upper bound, as `is_none` says it
 pub none_of : (high : Option ℕ) (none : Bool) → is_some high ≡ not none → none ≡ is_none high
 none_of None true e = refl
 none_of None false e = absurd (cc e)

@@ -141,7 +141,7 @@ module _ (one : ℕ → Bool → Bool) (count : ℕ) where
       (ap (λ x. x || (nat_le low (suc i) && one base here)) (f ∙ some_copies here m)
       ∙ last_copy low i m (one base here) e)
 
-  -- more copies are asked for than there are
+  -- more copies are required than there are
   after_few : (low n i base : ℕ) (here : Bool) → i + n < low → ends_after one count low n i base here false ≡ false
   after_few low zero i base here h = refl
   after_few low (suc n) i base here h =
@@ -288,6 +288,7 @@ module _ (first last : Bool) (read : ℕ → Bool) (t : Tree) where
           whole : (m n : ℕ) → m ≤ n → n ≡ m + (n - m)
           whole m n h = omega (arith, h)
 
+  -- going through all copies answers whether a match of the repeated tree can end
   pub ends_repeated : (low : ℕ) (high : Option ℕ) (base : ℕ) (b : Bool)
       → ends_after (λ at some. ends_here t first last read at some) (count_of t) low (copies low high) 0 base b
       (nat_le low 0 && b) ≡ ends_here (repeated t low high) first last read base b
@@ -334,6 +335,7 @@ module _ (next : ℕ → Bool → List Bool) (one : ℕ → Bool → Bool) (coun
       (ne_eqb (suc n) 0 (λ h. omega (arith, h)))
       ∙ ap (λ z. next base b ++ z) (next_copies_on_is n (base + count) (one base b))
 
+-- going through all copies gives which positions of the repeated tree read the character
 pub reads_repeated : (first : Bool) (read : ℕ
     → Bool) (c : ℕ) (t : Tree) (low : ℕ) (high : Option ℕ) (base : ℕ) (b : Bool)
     → next_after (is_none high) (λ at some. reads_next t first read c at some)

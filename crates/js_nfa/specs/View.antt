@@ -21,7 +21,7 @@ abbrev pub state_view : PatternState → states.PatternState
 state_view Done = states.done
 state_view (Reading read) = states.reading (states.numbers_from 0 read.flags)
 
--- the same, and whether the word is empty
+-- what a set stands for: whether the word is empty, and what is kept of it
 abbrev pub set_view : StateSet → Bool × states.PatternState
 set_view s = (s.is_empty, state_view s.state)
 

@@ -60,8 +60,8 @@ pub(crate) fn advance(
     }
 }
 
-/// The same where a match can begin, and with the number of flags that there are to be: the walk along a list stops at
-/// the tree from which on nothing is going on.
+/// `advance` for the whole tree of a pattern, where a match can begin. `end` is the number of flags that there are to
+/// be, so the walk along a list stops at the tree from which on nothing is going on.
 pub(crate) fn advance_tree(
     re: &Re,
     end: usize,
@@ -103,7 +103,7 @@ fn advance_list(list: &ReList, end: usize, next: Next, read: &PositionSet, reads
     }
 }
 
-/// The same for a set of characters.
+/// `advance` for a set of characters, which is one position.
 fn advance_set(
     set: &CharSet,
     next: Next,
@@ -122,7 +122,7 @@ fn advance_set(
     read.contains(at)
 }
 
-/// The same for a tree among others, where only its positions are counted if nothing is going on in it.
+/// `advance` for a tree among others. Where nothing is going on in it, its positions are counted and it isn't walked.
 #[cycle(advance)]
 fn advance_item(
     re: &Re,
@@ -241,7 +241,7 @@ fn advance_repeated(
     advance_copies(inner, low, high, next, read, begins, reads)
 }
 
-/// The same for each tree: copy after copy, up to one from which on nothing is going on.
+/// `advance` for copies of any tree, copy after copy, up to one from which on nothing is going on.
 #[cycle(advance)]
 fn advance_copies(
     inner: &Re,
@@ -283,7 +283,7 @@ fn advance_copies(
     ends
 }
 
-/// The same for a set of characters, which is asked once for all copies.
+/// `advance_copies` for copies of one set of characters, which is tested once for all of them.
 fn advance_run(
     set: &CharSet,
     low: u32,
@@ -318,7 +318,7 @@ fn comes_again(high: Option<u32>, left: u32) -> bool
     high.is_none() && left == 0
 }
 
-/// The same for a choice of sets, which are asked once for all copies.
+/// `advance_copies` for copies of a choice of sets, each of which is tested once for all copies.
 fn advance_choices(
     choice: Choice,
     low: u32,
@@ -349,8 +349,8 @@ fn advance_choices(
     ends
 }
 
-/// The same for a set that may be left out, of which `has` says whether it has the character. A match can end where one
-/// can begin, and after each copy that was read.
+/// `advance_copies` for copies of a set that may be left out, of which `has` says whether it has the character. A match
+/// can end where one can begin, and after each copy that was read.
 fn advance_options(
     has: bool,
     low: u32,

@@ -1,4 +1,4 @@
-//! What can be asked of a word.
+//! Atoms: conditions on a word that it decides by itself.
 
 use js_doc::StrList;
 use js_pattern::Re;

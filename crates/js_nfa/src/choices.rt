@@ -1,6 +1,6 @@
 //! Copies of a choice of sets: which positions of a copy read the next character is the same for all copies that begin.
 //!
-//! So the sets are asked once, and a copy costs a look at the bits of its positions.
+//! So the sets are tested once, and a copy costs a look at the bits of its positions.
 
 ghost use Rattle.std.specs.Prelude.{◌≡◌, ◌+◌, ◌-◌, ◌*◌, ◌^◌, ◌<◌, ◌≤◌, ◌++◌, ◌∷◌, [], length, IsTrue};
 ghost use Rattle.std.specs.Option.{IfSome};
@@ -85,7 +85,7 @@ pub(crate) fn push_choices(
     }
 }
 
-/// The same for one copy.
+/// Appends the flags of one copy: those of the bits where it begins, and else none.
 fn push_copy(choice: Choice, begins: bool, reads: &mut PositionSet)
     requires some { 0 < choice.count }
     requires few { choice.count ≤ 64 }

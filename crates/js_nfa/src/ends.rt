@@ -65,8 +65,8 @@ pub(crate) fn ends_here(
     }
 }
 
-/// The same from the first position on, where a match can begin: the walk along a list stops at the tree from which on
-/// nothing is going on.
+/// `ends_here` for the whole tree of a pattern, where a match can begin: the walk along a list stops at the tree from
+/// which on nothing is going on.
 pub(crate) fn tree_ends(re: &Re, edges: Edges, read: &PositionSet) -> bool
     requires { count_of (view re.now) ≤ 16384 }
     ensures { result ≡ ends_here (view re.now) edges.first edges.last (flag_at read.now.flags) 0 true }
@@ -95,7 +95,7 @@ fn list_ends(list: &ReList, edges: Edges, read: &PositionSet) -> bool
     here
 }
 
-/// The same for a tree among others, where only its positions are counted if nothing is going on in it.
+/// `ends_here` for a tree among others. Where nothing is going on in it, its positions are counted and it isn't walked.
 #[cycle(ends)]
 fn ends_item(re: &Re, edges: Edges, read: &PositionSet, base: usize, begins: bool) -> Passed
     requires { base + count_of (view re.now) ≤ 16384 }
@@ -205,8 +205,8 @@ fn ends_repeated(
     Passed { ends, base: at }
 }
 
-/// The same for a set of characters, whichever it is: a match can end after the last copy that must come, and after
-/// those that follow it.
+/// `ends_here` for copies of a set of characters, whichever it is: a match can end after the last copy that must come,
+/// and after those that follow it.
 pub(crate) fn ends_run(
     low: u32,
     high: Option<u32>,
@@ -235,7 +235,7 @@ pub(crate) fn may_end(low: u32, gone: u32, here: bool) -> bool
     low <= gone && here
 }
 
-/// The same where all copies do what one does, which goes from `begins` to `one`.
+/// Whether a match can end after copies of a tree without positions: each does what one does, which gives `one`.
 pub(crate) fn ends_still(low: u32, count: u32, begins: bool, one: bool) -> bool
     ensures { result ≡ if nat_eq low 0 then begins else nat_le low count && one }
 {

@@ -9,7 +9,7 @@ pub enum NfaFault {
     /// There are more than 16,384 positions.
     #[error("a pattern with more than 16384 positions")]
     LimitPositions,
-    /// Memory was asked for and refused.
+    /// Memory was requested and refused.
     #[error("out of memory")]
     Memory,
 }

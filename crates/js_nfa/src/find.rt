@@ -14,8 +14,8 @@ use std::mem;
 
 /// Whether the pattern matches somewhere in the word. It takes no memory. Up to the end of the first match, a character
 /// costs a look at the words of one row for each four positions. The word's first character, one beyond ASCII, and each
-/// with more than 256 positions cost two walks over the pattern's tree, or one where none of the positions was read that
-/// a match's end needs. So do the word's beginning and its end, a walk each.
+/// with more than 256 positions cost two walks over the pattern's tree, or one where none of the positions was read
+/// that a match's end needs. So do the word's beginning and its end, a walk each.
 pub fn finds(nfa: &Nfa, word: &[char], scratch: &mut Scratch) -> bool
     requires { HasRoom nfa.now scratch.old }
     ensures decided { result ≡ finds (tree_of nfa.now) word.now }

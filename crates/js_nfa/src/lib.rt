@@ -4,8 +4,8 @@
 //! This is the position automaton (V. M. Glushkov, 1961): it has no state but the positions of the pattern's sets, and
 //! no step without a character. A state of a word is a set of positions. It goes on by the next character in one walk
 //! over the tree in the order of its positions, in which the copies of a repeated tree are gone through one by one, as
-//! far as anything is going on. What follows what isn't stored for that. For patterns with few positions, such walks say
-//! beforehand what follows each.
+//! far as anything is going on. What follows what isn't stored for that. For patterns with few positions, such walks
+//! say beforehand what follows each.
 #![tactic(auto)]
 
 mod advance;

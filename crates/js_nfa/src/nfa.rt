@@ -84,7 +84,7 @@ impl Nfa {
         }
     }
 
-    /// The same by walks over the tree.
+    /// `advance` by walks over the tree, for patterns or characters without rows.
     fn walk(&self, next: Next, read: &PositionSet, reads: &mut PositionSet) -> bool
         requires { count_of (tree_of self.now) ≤ reads.old.room }
         ensures flags { reads.new.flags ≡ reads_next (tree_of self.now) next.first (flag_at

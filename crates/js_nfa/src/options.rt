@@ -58,7 +58,7 @@ pub(crate) fn push_all(count: usize, reads: &mut PositionSet)
     }
 }
 
-/// The same where they have their bits in one word.
+/// `push_all` where the flags have their bits in one word.
 fn push_ones(count: usize, reads: &mut PositionSet)
     requires some { 0 < count }
     requires word { length reads.old.flags % 64 + count ≤ 64 }

@@ -199,7 +199,7 @@ impl PositionSet {
 
     /// Takes away the positions that another set doesn't have.
     ///
-    /// `top` falls with them, so that what is asked of the set later looks at fewer words.
+    /// `top` falls with them, so that later calls look at fewer words.
     pub(crate) fn meet(&mut self, other: &PositionSet)
         requires { length self.old.flags ≡ length other.now.flags }
         ensures flags { self.new.flags ≡ and_each self.old.flags other.now.flags }

@@ -1,5 +1,5 @@
-//! Positions that follow one another, a word of flags at a time: whether one of them was read, and which of them read the
-//! next character where they are copies of one set that has it.
+//! Positions that follow one another, a word of flags at a time: whether one of them was read, and which of them read
+//! the next character where they are copies of one set that has it.
 //!
 //! A copy begins where the one before was read. So the flags of the copies are those of the positions that were read,
 //! moved on by one place.
@@ -27,7 +27,7 @@ pub(crate) fn has_some(set: &PositionSet, from: usize, count: usize) -> bool
     false
 }
 
-/// The same where the positions have their bits in one word.
+/// `has_some` where the positions have their bits in one word.
 fn has_some_here(set: &PositionSet, from: usize, count: usize) -> bool
     requires { from % 64 + count ≤ 64 }
     ensures { result ≡ some_in (flag_at set.now.flags) count from }
@@ -35,8 +35,8 @@ fn has_some_here(set: &PositionSet, from: usize, count: usize) -> bool
     set.bits(from, count) != 0
 }
 
-/// Appends for each of so many copies of a set whether it begins, where the first does if `begins` says so. The last may
-/// come again and again where `again` says so.
+/// Appends for each of so many copies of a set whether it begins, where the first does if `begins` says so. The last
+/// may come again and again where `again` says so.
 pub(crate) fn push_copies(
     count: usize,
     again: bool,
@@ -65,7 +65,7 @@ pub(crate) fn push_copies(
     reads.push(here | read.contains(last));
 }
 
-/// The same where none comes again.
+/// `push_copies` where no copy comes again: words of flags are shifted by one.
 fn push_run(count: usize, read: &PositionSet, begins: bool, reads: &mut PositionSet)
     requires room { length reads.old.flags + count ≤ reads.old.room }
     requires small { length reads.old.flags + count ≤ 16384 }
@@ -88,7 +88,7 @@ fn push_run(count: usize, read: &PositionSet, begins: bool, reads: &mut Position
     }
 }
 
-/// The same where they have their bits in one word.
+/// `push_run` where the flags have their bits in one word.
 fn push_part(count: usize, read: &PositionSet, begins: bool, reads: &mut PositionSet)
     requires some { 0 < count }
     requires word { length reads.old.flags % 64 + count ≤ 64 }

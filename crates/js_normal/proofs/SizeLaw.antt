@@ -164,7 +164,7 @@ three-size : {A : Type 0} (xs : List A) → three xs ≤ 3
 three-size [] = omega arith
 three-size (x ∷ xs) = omega arith
 
--- and there are as many values as kinds of groups
+-- the groups and 8 more are within 8 for each value
 groups-size : (ds : List Document) → group_sizes ds + 8 ≤ 8 * values_size ds
 groups-size [] = omega arith
 groups-size (null ∷ ds) = let h = groups-size ds in omega (arith, h)

@@ -111,7 +111,7 @@ fn count_nodes(keywords: &Keywords, sink: &mut Sink) -> Result<(), Memory>
     optional(single::max_properties(objects.max_properties), sink)
 }
 
-/// Of schemas that are asked of the same document.
+/// Nodes of keywords whose schemas apply to the same document.
 fn in_place_nodes(keywords: &Keywords, sink: &mut Sink) -> Result<(), Memory>
     ensures { OnOk result (sink.new ≡ run (W.in_place_nodes tree_of (keywords_view keywords.now)) sink.old) }
 {
@@ -176,7 +176,7 @@ fn items_node(items: &ItemsPart, rest: Option<u32>, sink: &mut Sink) -> Result<(
     }
 }
 
-/// Schemas in order, and what is asked of all further elements.
+/// Schemas in order, and what is required of all further elements.
 fn listed_items(entries: &EntryList, rest: Option<u32>, sink: &mut Sink) -> Result<(), Memory>
     ensures { OnOk result (sink.new ≡ run (W.items_node rest (E.Listed entries.now)) sink.old) }
 {
@@ -187,7 +187,7 @@ fn listed_items(entries: &EntryList, rest: Option<u32>, sink: &mut Sink) -> Resu
     }
 }
 
-/// Nothing is asked of further elements.
+/// Schemas in order, where further elements are not constrained.
 fn free_items(prefix: PosList, sink: &mut Sink) -> Result<(), Memory>
     ensures { OnOk result (sink.new ≡ run (W.items_node None (E.Listed (places prefix))) sink.old) }
 {

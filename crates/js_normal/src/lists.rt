@@ -20,7 +20,7 @@ pub(crate) fn positions(alloc: Global, entries: &EntryList) -> Result<PosList, M
     Ok(PosList::from_vec(positions))
 }
 
-/// Where the first holds, the second is asked.
+/// Where the first holds, the second is required.
 pub(crate) fn depends_of(named: &[Pos]) -> Node
     ensures { node_view result ≡ W.depends_of (places named.now) }
 {

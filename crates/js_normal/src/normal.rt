@@ -53,7 +53,7 @@ pub(crate) struct Parts {
 }
 
 impl Parts {
-    /// Nothing yet, for so many entries.
+    /// Before the first of `count` entries.
     fn new(alloc: Global, count: u32) -> Parts
         ensures entries { result.entries.items ≡ [] }
         ensures ranks { result.ranks.items ≡ [] }

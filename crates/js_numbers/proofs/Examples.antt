@@ -77,12 +77,12 @@ first_upwards : multiple_from 5 (negsuc 6) 0 ∷ multiple_from 5 (negsuc 6) 1 �
     ≡ negsuc 4 ∷ pos 0 ∷ pos 5 ∷ pos 5 ∷ []
 first_upwards = refl
 
--- where the next candidate is too large and as many are struck as may be, the size is told
+-- where the next candidate is too large and as many are struck as may be, the size is reported
 over_before_limit : answer_of_multiples 2 (2 ^ 126) (without None (pos 0 ∷ pos (2 ^ 126) ∷ [])) ≡ LimitMultiples
 unfolding least_below reached without bounded
 over_before_limit = refl
 
--- a set that is asked for is looked at before the least common multiple
+-- a required set is looked at before the least common multiple
 listed_before_multiples : outcome 2 (record (bounded None None (18446744073709551615 ∷ 18446744073709551614 ∷ []) []) {
   sets = (pos 1 ∷ pos 0 ∷ []) ∷ [];
 }) ≡ Found (pos 0)

@@ -24,7 +24,7 @@ lt_true a b e = grind (arith, ints)
 lt_from : (a b : ℤ) → int_lt a b ≡ true → a <ℤ b
 lt_from a b e = grind (arith, ints)
 
--- 1 where it is so
+-- 1 for true, 0 for false
 abbrev flag : Bool → ℕ
 flag b = cond b 1 0
 

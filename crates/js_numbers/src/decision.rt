@@ -16,7 +16,7 @@ use crate::search::search;
 
 /// The first number that meets the group, or that there is none, or which limit was passed on the way.
 ///
-/// Bounds are at most 2^64 in size, divisors above 0. With sets that are asked for, the values of the first are tried;
+/// Bounds are at most 2^64 in size, divisors above 0. With required sets, the values of the first are tried;
 /// without, at most 65,537 candidates.
 pub fn decide(group: &NumGroup) -> Cases
     requires { is_ready (group_of group.now) ≡ true }
@@ -32,7 +32,7 @@ pub fn decide(group: &NumGroup) -> Cases
     }
 }
 
-/// The answer where no set is asked for.
+/// The answer where no set is required.
 fn decide_multiples(group: &NumGroup) -> Cases
     requires { is_ready (group_of group.now) ≡ true }
     ensures { cases_view result

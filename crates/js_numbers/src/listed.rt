@@ -1,8 +1,8 @@
-//! The first value of a set that is asked for, in its written order, that meets the group.
+//! The first value of a required set, in its written order, that meets the group.
 //!
 //! Where few sets are ruled out, each value is looked up in each of them. Else the values are gone through by blocks of
 //! 65,536 ranks, mostly one block. Which values of a block the sets have is marked first, at the ranks of the values:
-//! of the set that is asked for and another one, the values of the shorter are looked up in the longer, so many sets
+//! of the required set and another one, the values of the shorter are looked up in the longer, so many sets
 //! cost a block no more than one of as many values. The marks take 64 KiB of the stack.
 //!
 //! So no value is looked up in many sets that are ruled out; what there is instead is all values times blocks.
@@ -114,7 +114,7 @@ fn is_common(multiples: &[u64], common: Option<u128>, x: i128) -> bool
     }
 }
 
-/// Whether `x` has all that is asked for: within the bounds, a multiple of each divisor, in each set.
+/// Whether `x` has all that is required: within the bounds, a multiple of each divisor, in each set.
 fn is_asked(group: &NumGroup, common: Option<u128>, x: i128) -> bool
     requires ready { is_ready (group_of group.now) ≡ true }
     requires multiple { SomeIff common (lcm_of group.now.multiples.now < 2 ^ 127) (lcm_of group.now.multiples.now) }

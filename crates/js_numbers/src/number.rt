@@ -15,6 +15,7 @@ fn is_multiple(x: i128, m: u64) -> bool
     x.unsigned_abs().is_multiple_of(u128::from(m))
 }
 
+/// Whether `x` is the bound or above it. Every number is above a bound that isn't there.
 pub fn is_above(low: Option<i128>, x: i128) -> bool
     ensures { result ≡ is_above low x }
 {
@@ -24,6 +25,7 @@ pub fn is_above(low: Option<i128>, x: i128) -> bool
     }
 }
 
+/// Whether `x` is the bound or below it. Every number is below a bound that isn't there.
 pub fn is_below(high: Option<i128>, x: i128) -> bool
     ensures { result ≡ is_below high x }
 {

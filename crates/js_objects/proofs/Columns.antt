@@ -6,13 +6,13 @@ use Rattle.std.proofs.lemmas.List.{get_or-set_same, get_or-set_other}
 use Rattle.std.proofs.lemmas.Nat.{same_from_place}
 
 module _ (xs : List Bool) (w r k : ℕ) (v : Bool) (l : k < w) where
-  -- another row
+  -- an earlier row keeps what it has
   get_or-set_above : (d : ℕ) → d < r → get_or (set xs (r * w + k) v) (d * w + k) false ≡ get_or xs (d * w + k) false
   get_or-set_above d h =
       get_or-set_other xs (r * w + k) (d * w + k) v false
       (λ e. let s = same_from_place d k r k w l l e in let t = s.0 in omega (arith, h, t))
 
-  -- this row
+  -- this row gets the value
   get_or-set_here : r * w + w ≤ length xs → (d : ℕ) → d ≡ r → get_or (set xs (r * w + k) v) (d * w + k) false ≡ v
   get_or-set_here fits d e =
       ap (λ i. get_or (set xs (r * w + k) v) (i * w + k) false) e
@@ -26,7 +26,7 @@ module _ (xs : List Bool) (w r k : ℕ) (v : Bool) (l : k < w) where
     | inr more ↦ (let e : d ≡ r = omega (arith, h, more) in get_or-set_here fits d e ∙ here ∙ ap p (sym e))
   ]
 
-  -- another column
+  -- other columns keep what they have
   pub get_or-set_beside : (d c : ℕ) → c < w → c ≢ k
       → get_or (set xs (r * w + k) v) (d * w + c) false ≡ get_or xs (d * w + c) false
   get_or-set_beside d c h other =

@@ -1,4 +1,4 @@
--- What is kept by cells is what the frame tells of them: which demands they serve, and what is asked of their values.
+-- What is kept by cells is what the frame says of them: which demands they serve, and what is required of their values.
 use Rattle.std.proofs.Common.{◌≡◌, ℕ, ◌-◌, ◌*◌, ◌<◌, ◌≤◌, ◌++◌, min, Bool, true, false, cond, List, [], ◌∷◌, map, flat_map, length, get_or, refl, ap, sym, ◌∙◌, inl, inr, arith}
 use Rattle.std.specs.List.{range_with_len}
 use Rattle.std.proofs.lemmas.Bool.{and_parts, and_from, cases_lt}
@@ -21,7 +21,7 @@ use Rattle.js_objects.specs.declared.passing.Passing.{Passing}
 -- demands
 
 module _ (T : List Position) (C : Cells) where
-  -- tests of which the demands are told
+  -- where tests of names and demands agree, what passes the tests serves the demands
   pub ArePassed-AreServed : (ts : List NameTest) (ds : List Signed)
       → ((c : ℕ) → map (passes C c) ts ≡ map (λ x. O.inside T C x c) ds) → (p : Passing) → ArePassed C ts p
       → AreServed T C ds p
@@ -38,7 +38,7 @@ module _ (T : List Position) (C : Cells) where
             (get_or_default ts d first (get_or ts d first) k));
       }
 
-  -- a cell that isn't there is told nothing
+  -- no literal is true of a cell that isn't there
   abbrev unsaid : Signed → Bool
   unsaid (Plus p) = false
   unsaid (Minus p) = minus_inside false (position_at T p)

@@ -5,4 +5,3 @@ mod Columns
 mod Framing
 mod LeafLaws
 mod Meaning
-mod TestNames

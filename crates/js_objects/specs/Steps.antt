@@ -12,7 +12,7 @@ use Rattle.js_automaton.specs.AutomatonView.{atoms_of, rows_of}
 use Rattle.js_automaton.specs.declared.automaton.Automaton.{Automaton}
 use Rattle.js_bounds.specs.declared.bounds.Bounds.{Bounds}
 
--- those of the set, and no more than may be asked for
+-- those of the set, and no more than may be required
 pub record AreOpen (T : List Position) (S : List Signed) (bounds : Bounds) : Type 0 where
   pub lower : bounds.lower ≡ O.lower T S
   pub below : bounds.below ≡ O.below T S

@@ -61,7 +61,7 @@ pub(crate) fn counts(alloc: Global, cells: &Cells) -> Result<Vec<u32>, Memory>
     Ok(counts)
 }
 
-/// What is asked of the value of each name of a cell.
+/// What is required of the value of each name of a cell.
 fn asked_at(
     alloc: Global,
     cells: &Cells,
@@ -80,7 +80,7 @@ fn asked_at(
     Ok(SignedList::from_vec(asked))
 }
 
-/// What is asked of the values of the names of each cell. It costs a look for each value and cell.
+/// What is required of the values of the names of each cell. It costs a look for each value and cell.
 pub(crate) fn asked(
     alloc: Global,
     cells: &Cells,

@@ -31,7 +31,7 @@ pub const MOST_COUNTS: u32 = 65_536;
 
 /// The alternatives of a branch at objects: one for each complete plan, in order. Without any where the bounds of the
 /// count cross; `LimitCounts` exactly where they don't and the branch asks for more than 65,536 members; where neither
-/// is so, the limits of the automaton of names, each exactly where it is passed first; and then `LimitPlans` exactly
+/// holds, the limits of the automaton of names, each exactly where it is passed first; and then `LimitPlans` exactly
 /// where the tree of plans has more than 65,536 ends.
 ///
 /// What is kept of names serves a later branch that says the same of them, and changes no answer.

@@ -19,6 +19,3 @@ pub use leaf::{MOST_COUNTS, frame_of, object_alternatives};
 pub use names::{KeptNames, Names};
 pub use object_frame::ObjectFrame;
 pub use words::object_words;
-
-#[cfg(test)]
-mod tests;

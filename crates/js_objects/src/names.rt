@@ -1,7 +1,7 @@
 //! The automaton of what a set says of names.
 //!
-//! The branches of a goal at objects mostly say the same of names, and differ in what is asked of values: so the automaton
-//! that was built last is kept for the next branch.
+//! The branches of a goal at objects mostly say the same of names, and differ in what is required of values: so the
+//! automaton that was built last is kept for the next branch.
 
 ghost use Rattle.std.specs.Prelude.{◌≡◌, ◌≤◌, ◌<◌, map, true, IfOk, IfErr};
 ghost use Rattle.word_states.specs.AtomPositions.{positions_of};
@@ -38,15 +38,15 @@ pub struct KeptNames {
 }
 
 impl KeptNames {
-    /// Nothing is kept yet.
+    /// No automaton is kept yet.
     pub fn new() -> KeptNames {
         KeptNames { names: None }
     }
 }
 
 impl Names {
-    /// The automaton of the atoms of what a set says of names: its rows make the cells. The one that is kept serves where
-    /// it is of the same atoms in the same order.
+    /// The automaton of the atoms of what a set says of names: its rows make the cells. The one that is kept serves
+    /// where it is of the same atoms in the same order.
     pub fn of_set(
         alloc: Global,
         core: &Core,

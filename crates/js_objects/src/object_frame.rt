@@ -33,7 +33,7 @@ pub struct ObjectFrame<'a> {
     demands: Vec<Signed>,
     /// For each demand the cells whose names may serve it.
     inside: Passing,
-    /// What is asked of the value of each name of a cell, by cells.
+    /// What is required of the value of each name of a cell, by cells.
     asked: Vec<SignedList>,
     allowed: Vec<u32>,
     /// How many names each cell has.
@@ -122,7 +122,7 @@ impl<'a> ObjectFrame<'a> {
         }
     }
 
-    /// What is asked of the value of each name of a cell.
+    /// What is required of the value of each name of a cell.
     fn asked(&self, cell: u32) -> &[Signed]
         ensures asked { map signed_view result.now
             ≡ flat_map (O.each self.now.core.now.positions (cells_view self.now.cells) (In cell))

@@ -2,7 +2,7 @@
 
 ghost use Rattle.std.specs.Prelude.{◌≡◌, ◌≤◌};
 
-/// The runtime on whose threads work is done, the gate that is told of it, and how many threads may work at once.
+/// The runtime on whose threads work is done, the gate that is called around it, and how many threads may work at once.
 #[derive(Drop)]
 pub struct Workers<'a, R, G> {
     pub rt: &'a R,
@@ -13,6 +13,7 @@ pub struct Workers<'a, R, G> {
 }
 
 impl<'a, R, G> Workers<'a, R, G> {
+    /// `count` is how many threads may work at once, with the bounds that `map_items` requires.
     pub fn new(rt: &'a R, gate: &'a G, count: u32) -> Workers<'a, R, G>
         requires some { 1 ≤ count }
         requires few { count ≤ 64 }

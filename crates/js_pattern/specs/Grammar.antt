@@ -22,7 +22,7 @@ sequence_of [] = empty
 sequence_of (t ∷ []) = t
 sequence_of (t ∷ u ∷ ts) = in_turn (trees_of (t ∷ u ∷ ts))
 
--- and so is one alternative
+-- one alternative is the tree itself
 abbrev pub alternation_of : List Tree → Tree
 alternation_of (t ∷ []) = t
 alternation_of ts = either (trees_of ts)

@@ -1,8 +1,8 @@
 //! A pattern as a whole.
 //!
 //! The reader goes over the text once, from the left, and keeps the open groups on a stack of its own. What comes of
-//! the whole text, given the open groups and what is left of the text, stays the same with each step. Whatever goes over
-//! the tree later recurs as deep as the groups nest, so they nest only as far as any thread's stack bears.
+//! the whole text, given the open groups and what is left of the text, stays the same with each step. Whatever goes
+//! over the tree later recurs as deep as the groups nest, so they nest only as far as any thread's stack bears.
 
 ghost use Rattle.std.specs.Prelude.{◌≡◌, ◌≢◌, ◌+◌, ◌<◌, ◌≤◌, ◌^◌, [], ◌∷◌, length, chars, Ok};
 ghost use Rattle.std.specs.Result.{IfOk, IfErr, OnOk};

@@ -23,7 +23,7 @@ pub none_is : {A : Type 0} (o : Option A) → ((x : A) → o ≡ Some x → ⊥)
 none_is None h = refl
 none_is (Some x) h = absurd (h x refl)
 
--- whether there is none, as it was told
+-- whether there is none, as it was reported
 pub none_told : {A : Type 0} (o : Option A) (b t : Bool) → is_some o ≡ not b → b ≡ t → is_none o ≡ t
 none_told o b t e q = other o ∙ ap not e ∙ twice b ∙ q where
   other : {A : Type 0} (o : Option A) → is_none o ≡ not (is_some o)

@@ -129,7 +129,7 @@ fn entries<F: PlanFrame, D: Dead>(
     Ok(entries)
 }
 
-/// Adds the line that tells which fillers a plan may have.
+/// Adds the line that says which fillers a plan may have.
 fn add_short<F: PlanFrame, D: Dead>(
     alloc: Global,
     frame: &F,

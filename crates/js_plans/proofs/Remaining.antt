@@ -184,7 +184,7 @@ module _ (T : List Position) (frame : Frame) where
   matches-end ws (W.Split (suc n)) step m = ap S.is_end (sym m)
   matches-end ws W.Complete step m = ap S.is_end (sym m)
 
-  -- the ends that were told and those that are left stay as many
+  -- the ends that were given and those that are left stay as many
   pub told-ends : (ws : List Server) (s : C.PlanStep) (step : PlanStep) (n : ℕ) (rest : List PlanStep)
       → Matches frame ws s step → one_more (is_end s) n + ends rest ≡ n + ends (step ∷ rest)
   told-ends ws s step n rest m =

@@ -36,7 +36,7 @@ filler_in T frame members c =
 abbrev pub most_counts : ℕ
 most_counts = 65536
 
--- the numbers of its plans can be told
+-- its counts are so small that the program's numbers hold those of its plans
 pub record IsSmall (frame : Frame) : Type 0 where
   pub lower : frame.lower ≤ most_counts
   pub floor : frame.floor ≤ most_counts

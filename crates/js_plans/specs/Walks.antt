@@ -15,7 +15,7 @@ use Rattle.js_plans.specs.Choosing.{choices_after}
 use Rattle.js_plans.specs.Servers.{servers_of, cells_of, is_valid, are_valid}
 use Rattle.js_plans.specs.Goals.{AreFirst, AreGoals, goal_after}
 
--- the most ends of a tree that is told
+-- the most ends that a tree may have
 abbrev pub most_plans : ℕ
 most_plans = 65536
 
@@ -64,7 +64,7 @@ entry n s = record { level = n; server = Some s }
 abbrev pub entries : Frame → List Server → List Pending
 entries frame ws = map (entry (length ws)) (choices_after frame ws)
 
--- the steps of a walk that weren't told yet
+-- the steps of a walk that weren't given yet
 abbrev pub left : List Position → Frame → PlanWalk → List F.PlanStep
 left T frame walk = steps_left T frame (servers_of walk.path.items) (reverse walk.pending.items)
 
@@ -130,7 +130,7 @@ pub record Visits (T : List Position) (frame : Frame) (server : Option Server) (
   pub fine : AreFine frame (servers_of new.path.items) (reverse new.pending.items)
   pub complete : s ≡ V.Complete → placed_heads frame (servers_of new.path.items) ≤ length new.first.items
 
--- the step is the next one; the ends that were told and those that are left are as many as before
+-- the step is the next one; the ends that were given and those that are left are as many as before
 pub record Tells (T : List Position) (frame : Frame) (old new : PlanWalk) (s : PlanStep) : Type 0 where
   pub step : F.PlanStep
   pub is : Matches frame (servers_of new.path.items) s step
@@ -143,12 +143,12 @@ pub record IsCounted (T : List Position) (frame : Frame) (w : PlanWalk) : Type 0
   pub walk : IsWalk T frame w
   pub few : w.ends + ends (left T frame w) ≤ most_plans
 
--- a step was told, or none is left
+-- a step was given, or none is left
 abbrev pub AfterStep : List Position → Frame → PlanWalk → PlanWalk → Option PlanStep → Type 0
 AfterStep T frame old new None = (left T frame old ≡ []) × (left T frame new ≡ [])
 AfterStep T frame old new (Some s) = Tells T frame old new s
 
--- the complete plan that a step tells
+-- the plan of a step, where it is complete
 abbrev pub told_plans : Frame → List Server → PlanStep → List Plan
 told_plans frame ws V.Over = []
 told_plans frame ws V.Clashing = []

@@ -246,7 +246,7 @@ pub(crate) fn alternative<F: PlanFrame>(
     })
 }
 
-/// Goes through the whole tree; `LimitPlans` exactly where it has more ends than a tree that is told.
+/// Goes through the whole tree; `LimitPlans` exactly where it has more ends than a tree may have.
 fn see_all<F: PlanFrame>(alloc: Global, frame: &F, walk: &mut PlanWalk) -> Result<(), PlanFault>
     requires { IsWalk (F.table frame.now) (F.frame frame.now) walk.old }
     ensures few { OnOk result
@@ -259,7 +259,7 @@ fn see_all<F: PlanFrame>(alloc: Global, frame: &F, walk: &mut PlanWalk) -> Resul
     Ok(())
 }
 
-/// Adds the alternative of the step that was told last, if it is a complete plan.
+/// Adds the alternative of the step that was given last, if it is a complete plan.
 fn add_told<F: PlanFrame>(
     alloc: Global,
     frame: &F,

@@ -1,6 +1,6 @@
 //! The plans of a frame, of arrays or of objects, and the alternatives of the complete ones.
 //!
-//! A plan says which place serves which demand. A walk tells the steps of the tree of plans one after another; it keeps
+//! A plan says which place serves which demand. A walk gives the steps of the tree of plans one after another; it keeps
 //! what serves the demands so far, with the goal of each, and forms a goal anew only for what serves the next one. The
 //! leaves of arrays and of objects are each a `PlanFrame` and a call of `plan_alternatives`.
 #![tactic(auto)]

@@ -1,10 +1,10 @@
-//! What a frame of arrays or of objects tells the walk through its plans.
+//! What a frame of arrays or of objects gives to the walk through its plans.
 
 use crate::server::Place;
 use js_algebra::{Core, Signed};
 use js_doc::Memory;
 
-/// A frame over a table: what the elements or members of a branch are to serve, and what is asked of each.
+/// A frame over a table: what the elements or members of a branch are to serve, and what is required of each.
 pub trait PlanFrame {
     ghost use Rattle.std.specs.Prelude.{◌≡◌, ◌<◌, ◌++◌, List, true, map, flat_map, length, get_or, OnOk};
     ghost use Rattle.positions.specs.Position.{Position};
@@ -54,14 +54,14 @@ pub trait PlanFrame {
     fn room(&self, cell: u32, count: usize) -> u32
         ensures { result ≡ (frame self.now).room cell count };
 
-    /// Adds what is asked of whatever stands at a place.
+    /// Adds what is required of whatever stands at a place.
     fn add_each(&self, place: Place, list: &mut Vec<Signed>) -> Result<(), Memory>
         ensures added { OnOk result (map signed_view list.new.items ≡ map signed_view list.old.items
             ++ flat_map ((frame self.now).each (place_view place)) (frame self.now).set) }
         ensures in_table { OnOk result (are_in_table (table self.now) (map signed_view list.old.items) ≡ true
             → are_in_table (table self.now) (map signed_view list.new.items) ≡ true) };
 
-    /// Adds what is asked of what serves a demand at a place.
+    /// Adds what is required of what serves a demand at a place.
     fn add_serving(
         &self,
         place: Place,

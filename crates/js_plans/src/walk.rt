@@ -1,7 +1,7 @@
 //! The steps of the tree of plans, one after another in pre-order.
 //!
 //! Plans still to be visited stand in a list, the next one last, each as what serves the next demand after the first
-//! part of the path. Each has at least one end, so the tree has too many as soon as the ends that were told and the
+//! part of the path. Each has at least one end, so the tree has too many as soon as the ends that were given and the
 //! plans that are left are too many; this bounds the list too.
 
 ghost use Rattle.std.specs.Prelude.{◌≡◌, List, ◌<◌, ◌≤◌, ◌+◌, ◌^◌, ◌++◌, [], ◌∷◌, length, reverse, map, true, false, None, IfOk, IfErr, OnOk, IfSome, MatchOption, IsNone};
@@ -29,11 +29,11 @@ pub const MOST_PLANS: usize = 65_536;
 /// What the tree has at a plan.
 #[derive(Clone, Copy, PartialEq, Eq, Debug)]
 pub enum PlanStep {
-    /// It has more than there may be.
+    /// The plan places more than there may be.
     Over,
     /// What stands somewhere clashes.
     Clashing,
-    /// It has so many options.
+    /// The next demand can be served in so many ways.
     Split(usize),
     Complete,
 }
@@ -46,8 +46,8 @@ struct Pending {
     server: Option<Server>,
 }
 
-/// A walk through the tree of plans of a frame, of which some steps were told; `left` are the others. All its calls are
-/// to be given the same frame.
+/// A walk through the tree of plans of a frame, of which some steps were given; `left` are the others. All its calls
+/// are to be given the same frame.
 #[derive(Drop)]
 pub struct PlanWalk {
     path: Vec<Served>,
@@ -58,7 +58,7 @@ pub struct PlanWalk {
 }
 
 impl PlanWalk {
-    /// A walk of which nothing was told, through the tree of whatever frame it is given.
+    /// A walk of which no step was given, through the tree of whatever frame it is given.
     pub fn new(alloc: Global) -> Result<PlanWalk, Memory>
         ensures walk { IfOk result (λ w. (T : List Position) (frame : Frame) → IsWalk T frame w) }
         ensures left { IfOk result (λ w. (T : List Position) (frame : Frame) → left T frame w ≡ plan_steps T frame) }
@@ -92,7 +92,7 @@ impl PlanWalk {
     }
 
     /// The next step of the tree, none at its end. `LimitPlans` only where the whole tree has more than [`MOST_PLANS`]
-    /// ends, and before more of them are told.
+    /// ends, and before more of them are given.
     pub fn next<F: PlanFrame>(
         &mut self,
         alloc: Global,
@@ -137,7 +137,7 @@ impl PlanWalk {
         }
     }
 
-    /// The demands that the plan of the step that was told last serves.
+    /// The demands that the plan of the step that was given last serves.
     pub(crate) fn path(&self) -> &[Served]
         ensures { result.now ≡ self.now.path.items }
     {
@@ -304,7 +304,7 @@ fn add_pending(level: usize, servers: Vec<Server>, pending: &mut Vec<Pending>) -
     Ok(())
 }
 
-/// The ends that were told, with the step if it is one.
+/// The ends that were given, with the step if it is one.
 fn with_end(told: usize, step: PlanStep) -> usize
     requires { told ≤ most_plans }
     ensures { result ≡ one_more (is_end step) told }

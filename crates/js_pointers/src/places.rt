@@ -22,7 +22,7 @@ pub(crate) struct Places {
 impl Places {
     ghost use Rattle.js_pointers.specs.PlacesView.{found};
 
-    /// Nothing stands anywhere.
+    /// No step has a place yet.
     pub(crate) fn new(alloc: Global) -> Places
         ensures { (of token : ℕ) → found result of token ≡ None }
     {

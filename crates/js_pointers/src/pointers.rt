@@ -3,7 +3,7 @@
 //! Pointer 0 is the root, and each other is an earlier one with one more token. So a pointer takes two numbers, however
 //! long it is, and each name in it is kept once. To go down by a name takes time in proportion to that name. To go down
 //! by an index needs no text, nor a hash where the elements of the list were added in turn. A whole pointer is made
-//! only when it is asked for.
+//! only on request.
 
 ghost use Rattle.std.specs.Prelude.{◌≡◌, ◌<◌, ◌++◌, ◌∷◌, [], map, reverse, length, get_or, chars, Some, IfOk, OnOk};
 ghost use Rattle.schemas.specs.Places.{Pointer as P, index_token};
@@ -47,7 +47,7 @@ impl Pointers {
         self.below_token(of, token)
     }
 
-    /// The same with the token of the element at `index`. An error is memory that is wanting.
+    /// `below` with the token of the element at `index`, for which no text is made where the index is small.
     pub fn below_index(&self, at: Option<u32>, index: usize) -> Result<Option<u32>, Memory>
         ensures { IfOk result (λ found. (p : P) → Leads (pointers_of self.now) at p
             → Leads (pointers_of self.now) found (p ++ index_token index ∷ [])) }
@@ -83,7 +83,7 @@ impl Pointers {
         self.step_number(of, token)
     }
 
-    /// The same with the token of the element at `index`.
+    /// `add` with the token of the element at `index`, for which no text is made where the index is small.
     pub fn add_index(&mut self, of: u32, index: usize) -> Result<u32, Memory>
         requires { of < length (pointers_of self.old) }
         ensures grows { OnOk result (Grows (pointers_of self.old) (pointers_of self.new)) }

@@ -33,7 +33,7 @@ impl Model for Steps {
 }
 
 impl Steps {
-    /// None.
+    /// No steps: nothing leads on from any number.
     pub fn new(alloc: Global) -> Steps
         ensures { result ≡ [] }
     {

@@ -127,7 +127,7 @@ pub fn index_number(index: usize) -> Option<u32>
     }
 }
 
-/// The same for the index that a text is.
+/// The number of a token whose text is an element's index, where it has one without a name.
 fn numbered_index(text: &str) -> Option<u32>
     ensures { MatchOption result ((i : ℕ) → chars text.now ≡ index_token i → first_name ≤ i)
         (λ i. (i < first_name) × (index_token i ≡ chars text.now)) }

@@ -41,7 +41,7 @@ module _ (gs : List (List Signed)) (r : Rounds) where
       let (h, e) = cited_numbers number T g j i in
       slice_get_within gs j h (number_at gs h j (answered_number r (number_in gs h) j e))
 
--- the same of the listing
+-- no other numbers are listed either
 pub small : (T : List Position) (u : Unmet) (k j : ℕ) → k < length (goals_of u)
     → IsIn j (extend (goals_of u) (lines_of T u) k) → j < length (goals_of u)
 small T u k j l i = cited_below (goals_of u) u.rounds.now T (get_or (goals_of u) k []) j i
@@ -52,7 +52,7 @@ same_number : (expansion : List Signed → Expansion) (f : Found) (r : Rounds) �
 same_number expansion f r are None = refl
 same_number expansion f r are (Some n) = ap (λ o. cond (is_some o) None (Some n)) (are.answers n)
 
--- and so is the certificate
+-- the certificate is that of the definition
 pub same_refutation : (T : List Position) (e u : Explored) (r s : Rounds) → u ≡ e → s ≡ r
     → (expansion : List Signed → Expansion) → AreRounds expansion (explored_view e).found r
     → lines_text (certificate (explored_view u).found.goals (goal_lines (number (explored_view u).found.goals s) T))

@@ -11,6 +11,3 @@ mod refutation;
 mod unmet;
 
 pub use refutation::{no_goal, refute};
-
-#[cfg(test)]
-mod tests;

@@ -45,7 +45,7 @@ fn append_placed(
     }
 }
 
-/// The same for lines, one after another.
+/// Appends lines, one after another, with citations renumbered as in `append_placed`.
 pub(crate) fn append_lines(
     alloc: Global,
     listed: &mut IndexSet<u32>,

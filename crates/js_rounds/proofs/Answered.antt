@@ -19,6 +19,7 @@ none_known zero g = refl
 none_known (suc n) zero = refl
 none_known (suc n) (suc g) = none_known n g
 
+-- no more goals have an answer than there are
 pub answered_most : (os : List (Option (ℕ × ℕ))) → answered os ≤ length os
 answered_most [] = omega arith
 answered_most (None ∷ os) = let l = answered_most os in omega (arith, l)

@@ -101,6 +101,7 @@ module _ (X : List Signed → Expansion) (takes : List Signed → Bool)
       (contents_room e.found.goals (X g).alternatives a number (round X e.found found.q) (cells g a.kind a.branch)
       words)
 
+  -- members of the document of an alternative have different names
   pub differ : (place : ℕ → ℕ) → a.shape ≡ Members
       → are_different same_word (map (λ m. m.0) (map (named (word_at (cells g a.kind a.branch)) place) (spread
       runs))) ≡ true

@@ -63,7 +63,7 @@ run_marked marks s n g m l k j = go (eqb_tells g m) where
       get_or-set_other marks g m true false (λ q. other (sym q))
       ∙ sym (ap (λ b. get_or marks m false || b) (some_is ∙ e) ∙ or_false (get_or marks m false))
 
--- it has none, or none with a mark
+-- a run without documents, or of a goal past the marks, changes no mark
 pub run_unmarked : (marks : List Bool) (s : Slot) (n g m : ℕ) → (n ≡ 0) ⊎ (length marks ≤ g) → m < length marks
     → get_or marks m false ≡ (get_or marks m false || some (λ p. nat_eq p.goal m) (repeated s n g))
 run_unmarked marks s n g m o j =

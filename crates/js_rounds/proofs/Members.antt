@@ -32,7 +32,7 @@ after_none (Name c k) = ap (Name c) (plus k) where
 abbrev placed : Slot → ℕ → NumberedPlaced
 placed s g = record { slot = s; goal = g }
 
--- one more at the end
+-- a run with one more document
 pub repeated_more : (s : Slot) (n g : ℕ)
     → repeated s (n + 1) g ≡ repeated s n g ++ record { slot = slot_after s n; goal = g } ∷ []
 repeated_more s n g = ap (λ z. repeated s z g) (one n) ∙ go s n where
@@ -75,7 +75,7 @@ pub spread_end : {A : Type 0} (h : NumberedPlaced → A) (runs : List Run) (i : 
 spread_end h runs i now all l e =
     sym (ap (λ z. now ++ map h (spread z)) (drop_all i runs l) ∙ append-nil now) ∙ e
 
--- where there is none the name is empty
+-- an index has the empty name
 
 if_ok : {A E : Type 0} {P Q : A → Type 0} (r : Result A E) → ((x : A) → P x → Q x) → IfOk r P → IfOk r Q
 if_ok (Ok x) f h = f x h

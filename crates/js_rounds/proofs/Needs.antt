@@ -139,6 +139,7 @@ module _ (cells : List (List (List ℕ))) where
       let (c, d) = every_split p xs ys b in
       (ap₂ (λ u v. u && v) a c, d)
 
+  -- no more words of a cell are needed than it has
   pub wanted_room : (runs : List Run) (c : ℕ) → every (λ p. has_room cells p.slot 1) (spread runs) ≡ true
       → wanted_by runs c ≤ capacity (cell_at cells c)
   wanted_room [] c e = omega arith
@@ -192,6 +193,7 @@ module _ (cells : List (List (List ℕ))) where
   names_as lists place (p ∷ ps) h =
       ap₂ (λ n ms. (n, place p.goal) ∷ ms) (h p (inl refl)) (names_as lists place ps (λ q i. h q (inr i)))
 
+  -- members are named alike by the words that were taken and by all words of the cells
   pub named_same : (lists : List (List (List ℕ))) (runs : List Run)
       → ((x : ℕ) → get_or lists x [] ≡ take (wanted_by runs x) (cell_at cells x)) → (place : ℕ → ℕ)
       → map (named (word_at lists) place) (spread runs) ≡ map (named (word_at cells) place) (spread runs)

@@ -79,6 +79,7 @@ sorted_rises (x ∷ xs) h d = (
       go : (j : ℕ) × (j < length xs) × (get_or xs j 0 ≡ y) → x < y
       go (j, l, e) = let m = h 0 (suc j) 0 (omega arith) (omega (arith, l)) in less (omega (arith, m, e)) apart
 
+-- a rising list without repeats that has just the numbers below n that pass is the list of them
 pub sorted_is : (n : ℕ) (p : ℕ → Bool) (xs : List ℕ) → IsNonDecreasing xs → Distinct xs
     → ((g : ℕ) → IsIn g xs → (p g ≡ true) × (g < n)) → ((g : ℕ) → p g ≡ true → g < n → IsIn g xs)
     → xs ≡ filter p (range_with_len 0 n)

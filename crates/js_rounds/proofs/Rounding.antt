@@ -197,7 +197,7 @@ module _ (expansion : List Signed → Expansion) (f : Found) where
         go true false h = cc (h refl)
         go false b h = refl
 
-  -- from a round on that adds none
+  -- from a round on that adds no goal all rounds are the same
   settled_from : (q k : ℕ) (t : Rounds) → q ≤ length f.goals → q ≤ k
       → some (is_added expansion f q) (numbers expansion f) ≡ false → HasRun k t → AreRounds expansion f t
   settled_from q k t l m quiet h = record {

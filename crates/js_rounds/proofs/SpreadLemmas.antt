@@ -22,6 +22,7 @@ spread_push xs x =
     spread_append xs (x ∷ [])
     ∙ ap (λ l. spread xs ++ l) (append-nil (repeated (slot_view x.slot) x.count x.goal))
 
+-- what is left of a list from a place on is the element there, and what is left from the next place on
 pub next_left : {A : Type 0} (xs : List A) (i : ℕ) (d : A) → i < length xs
     → drop i xs ≡ get_or xs i d ∷ drop (i + 1) xs
 next_left xs i d l = drop-cons xs i d l ∙ ap (λ n. get_or xs i d ∷ drop n xs) (sym (add-one i))

@@ -169,6 +169,7 @@ written n next items e k =
     ap (λ z. take n (next ++ z)) (drop_all (length next) items (omega (arith, e)))
     ∙ ap (take n) (append-nil next) ∙ take_all n next (omega (arith, e, k))
 
+-- what stands at a place of a list is there whatever default is given
 pub get_any : {A : Type 0} (xs : List A) (i : ℕ) (d e : A) → i < length xs → get_or xs i d ≡ get_or xs i e
 get_any [] i d e l = absurd (omega (arith, l))
 get_any (x ∷ xs) zero d e l = refl

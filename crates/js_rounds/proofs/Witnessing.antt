@@ -90,12 +90,13 @@ module _ (words : List Signed → Kind → ℕ → ℕ → ℕ → List ℕ) (X 
         few = omega (arith, low, few);
       }
 
-  -- all of them
+  -- all parts are made
   pub record Ended (made : List Part) (last : ℕ) : Type 0 where
     pub all : made ≡ parts words X f n
     pub own : last + 1 ≡ length made
     pub stands : unshared made last ≡ document words X f (length f.goals) n
 
+  -- after all used goals the parts are as many, and the last one is that of the goal itself
   pub ended : (i : ℕ) (made : List Part) (places : List ℕ) (last : ℕ) → i ≡ length goals → length made ≡ i
       → Made words X f n is_reached i made places → (0 < i → last + 1 ≡ i) → Ended made last
   ended i made places last e k h l =

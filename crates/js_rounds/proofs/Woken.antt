@@ -34,7 +34,7 @@ module _ (expansion : List Signed → Expansion) (f : Found) (r : ℕ) where
     last = last ∙ h.last;
   }
 
-  -- an alternative that is ready is told of
+  -- an alternative that is ready is noted
   told_least : (a g : ℕ) (o : Option ℕ)
       → told_at r a (told r (Answer g) o) ≡ told r (Answer g) (Some (least_place a o))
   told_least a g o = go (Answer g) refl o where
@@ -58,6 +58,7 @@ module _ (expansion : List Signed → Expansion) (f : Found) (r : ℕ) where
         let l : Least expansion f r g b.0 b.1 = answer_least expansion f r g b.0 b.1 e in
         ap (λ c. cond (c && nat_lt a b.1) (Some (b.0, a)) (Some b)) (le-ltb r b.0 l.within)
 
+  -- where an alternative becomes ready the state stays one on the way, with the alternative noted
   pub wakes : (first next : ℕ → Option ℕ) (s t : Rounds) (h a : ℕ) → Waking expansion f r first s
       → ((g : ℕ) → g ≢ h → next g ≡ first g) → next h ≡ Some (least_place a (first h)) → h < length s.known.items
       → t.known.items ≡ set s.known.items h (told_at r a (get_or s.known.items h None))

@@ -1,4 +1,4 @@
--- A round on the way: what is ready so far, and what was told of it.
+-- A round on the way: what is ready so far, and what was noted of it.
 use Rattle.std.specs.Prelude.{◌≡◌, ℕ, suc, ◌+◌, ◌≤◌, ◌<◌, List, [], ◌∷◌, ◌++◌, length, Bool, ◌&&◌, cond, nat_eq, nat_lt, Option, Some, None, get_or, take, drop}
 use Rattle.documents.specs.Tests.{some}
 use Rattle.goals.specs.Signed.{Signed}

@@ -70,7 +70,7 @@ fn needs(alloc: Global, runs: &[Run]) -> Result<Vec<u64>, Memory>
     Ok(needs)
 }
 
-/// The first words of a cell; none are asked for where none are needed.
+/// The first words of a cell; none are requested where none are needed.
 fn cell_words<E: Expander>(
     alloc: Global,
     expander: &E,
@@ -93,7 +93,7 @@ fn cell_words<E: Expander>(
     expander.words(alloc, goal, branch, cell as u32, need as u32)
 }
 
-/// Of each cell the words that runs need. Each cell is asked for once.
+/// Of each cell the words that runs need. Each cell is requested once.
 fn words_of<E: Expander>(
     alloc: Global,
     expander: &E,

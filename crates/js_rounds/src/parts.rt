@@ -139,7 +139,7 @@ impl Rounds {
     /// uses, directly or through others. They stand in order of least round, then number, so the goal's own is last.
     ///
     /// It costs what the used goals contain, a step for each goal that has an answer, and the sorting of each object's
-    /// members by name; each cell of a used goal's branch is asked for once, with as many words as are needed.
+    /// members by name; each cell of a used goal's branch is requested once, with as many words as are needed.
     pub fn witness<E: Expander>(
         &self,
         alloc: Global,

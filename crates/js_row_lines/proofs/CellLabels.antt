@@ -1,4 +1,4 @@
--- Numbers that are told one by one.
+-- Numbers that are found one by one are those of all rows.
 use Rattle.std.proofs.Common.{◌≡◌, ℕ, ◌<◌, List, [], map, length, get_or, Result, Ok, Err, IfOk, sym, ◌∙◌, arith}
 use Rattle.std.proofs.lemmas.List.{ext_get_or, get_or-map, length-map}
 

@@ -1,6 +1,6 @@
 //! The line of least lengths.
 //!
-//! A row's word is that of the row that first named it, with one more letter. So the lengths are told by the steps that
+//! A row's word is that of the row that first named it, with one more letter. So the lengths follow from the steps that
 //! name rows, and no word is spelled.
 
 ghost use Rattle.std.specs.Prelude.{◌≡◌, ◌<◌, [], map, length, get_or, IfOk};

@@ -1,4 +1,4 @@
-//! Lines of a certificate that tell an automaton: a line for each row, least lengths, and bounds of cells.
+//! Lines of a certificate that state an automaton: a line for each row, least lengths, and bounds of cells.
 //!
 //! What is written is what the rows and the counts of their words say, so nothing here is searched for.
 #![tactic(auto)]

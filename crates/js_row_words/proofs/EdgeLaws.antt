@@ -20,7 +20,7 @@ module _ (target : ℕ → ℕ) where
         (omega (arith, p), ap target p ∙ eqb-true (target n) t s)
     go false s q more = let (l, h) = more q in (omega (arith, l), h)
 
-  -- and none that leads there comes after it
+  -- no later edge leads there
   pub last_after : (n t e : ℕ) → e < n → target e ≡ t → e < last_edge target n t
   last_after zero t e l q = absurd (omega (arith, l))
   last_after (suc n) t e l q = go (nat_eq (target n) t) refl (λ m. last_after n t e m q) where
@@ -48,7 +48,7 @@ module _ (atoms : List Atom) (L : List (List ℕ)) where
       × ((t : ℕ) → t < length L → get_or last t 0 ≡ last_edge (edge_target atoms L) n t)
       × ((e : ℕ) → e < n → get_or before e 0 ≡ last_edge (edge_target atoms L) e (edge_target atoms L e))
 
-  -- with one more edge
+  -- one more edge is put before the chain of its target
   pub chains_next : (last before : List ℕ) (n x : ℕ) → AreChains last before n → x ≡ edge_target atoms L n
       → x < length L → AreChains (set last x (n + 1)) (before ++ get_or last x 0 ∷ []) (n + 1)
   chains_next last before n x (s, b, h, k) q l = (

@@ -32,7 +32,7 @@ module _ (atoms : List Atom) (L : List (List ℕ)) (list : List ℕ) (first left
     nexts = λ e. cc e;
   }
 
-  -- and one that isn't
+  -- a row that isn't dropped
   pub dropped_none : (now : List Bool) → now ≡ left
       → (get_or left (get_or list n 0) false ≡ true → HasNext atoms L left (get_or list n 0))
       → AreDropped atoms L list first now fell (n + 1)

@@ -102,7 +102,7 @@ module _ (atoms : List Atom) (L : List (List ℕ)) (rows : AreRows atoms L) (mar
   asked_is labels r = C.asked_same characters (class_of atoms) (target_in atoms L) (in_marks atoms L marks) (length L)
       (class_count atoms) classed within (label_of labels) r
 
-  -- a label that is raised to what is asked of it has its words
+  -- a label that is raised to what is required of it has its words
   pub words_raised : (labels : List ℕ) (row label : ℕ) → row < length labels
       → label ≤ asked_of atoms L marks labels row → HaveWords atoms L marks labels
       → HaveWords atoms L marks (set labels row label)

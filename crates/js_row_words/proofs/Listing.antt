@@ -197,7 +197,7 @@ module _ (atoms : List Atom) (L : List (List ℕ)) (rows : AreRows atoms L) (mar
           inside : (b w x r k : ℕ) → r ≡ min (b - w) x → k < r → k < b
           inside b w x r k e l = grind (arith, e, l)
 
-    -- so many are found as are asked for
+    -- as many are found as are requested
     pub listing_ends : (words table : List (List ℕ)) → IsListing words table
         → count ≤ length words → words ≡ take count (words_from atoms L marks 0)
     listing_ends words table v l =

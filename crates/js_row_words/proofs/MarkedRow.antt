@@ -69,7 +69,7 @@ module _ (atoms : List Atom) (L : List (List ℕ)) (rows : AreRows atoms L) (mar
     order : (i j : ℕ) → (i < j) ⊎ ((i ≡ j) ⊎ (j < i))
     order i j = grind arith
 
-    -- it comes no later than a row that is marked
+    -- the first marked row comes no later than any marked row
     between : (j : ℕ) → j < length L → get_or marks j false ≡ true → NoLater (get_or L i []) (get_or L j [])
     between j m c = go (order i j) where
       go : (i < j) ⊎ ((i ≡ j) ⊎ (j < i)) → NoLater (get_or L i []) (get_or L j [])
@@ -77,7 +77,7 @@ module _ (atoms : List Atom) (L : List (List ℕ)) (rows : AreRows atoms L) (mar
       go (inr (inl q)) = inl (ap (λ z. get_or L z []) q)
       go (inr (inr o)) = absurd (true≢false (sym c ∙ none j o))
 
-    -- and so than a word that leads to one
+    -- it comes no later than any word that leads to a marked row
     no_later_than : (u : List ℕ) → list_all is_scalar u ≡ true → marked u ≡ true → NoLater (get_or L i []) u
     no_later_than u s t =
         let h = word_row atoms L rows u s in

@@ -37,7 +37,7 @@ module _ (atoms : List Atom) where
     go true h more = refl
     go false h more = ap (λ z. 1 + z) (more h)
 
-  -- and what it hasn't stands behind it
+  -- a word that the list hasn't stands behind it
   place_next : (x : List ℕ) (K Z : List (List ℕ)) → list_any (same x) K ≡ false
       → position_or_len (same x) (K ++ x ∷ Z) ≡ length K
   place_next x [] Z h =

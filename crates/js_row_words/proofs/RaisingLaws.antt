@@ -1,4 +1,4 @@
--- Labels that are raised: widths, what is asked of a label, a label more, a row more, a pass more.
+-- Labels that are raised: widths, what is required of a label, a label more, a row more, a pass more.
 use Rattle.std.proofs.Common.{◌≡◌, ℕ, suc, ◌+◌, ◌-◌, ◌*◌, ◌≤◌, ◌<◌, ◌⊎◌, inl, inr, min, List, [], ◌∷◌, ◌++◌, length, get_or, set, Bool, true, false, cond, refl, ap, ap₂, sym, ◌∙◌, subst, arith}
 use Rattle.std.specs.List.{sum}
 use Rattle.std.proofs.Math.Nat.{mul-le-mul}
@@ -115,7 +115,7 @@ module _ (atoms : List Atom) (L : List (List ℕ)) (marks : List Bool) where
       settled = λ e. cc e;
     }
 
-    -- and one that didn't
+    -- a label that didn't rise
     pub raised_none : now ≡ labels → IsSettled atoms L marks labels (get_or list n 0)
         → AreRaised list first now rose (n + 1)
     raised_none is settled = record {

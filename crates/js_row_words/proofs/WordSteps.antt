@@ -32,7 +32,7 @@ module _ (atoms : List Atom) (L : List (List ℕ)) (table : List (List ℕ)) whe
       ∙ ap (λ z. letters ++ rest z row k) (sym l)
       ∙ e
 
-  -- or none is
+  -- no letter is chosen at the end of the word
   pub word_ends : (letters w : List ℕ) (left m row k : ℕ) → left ≡ suc m
       → Chooses atoms L (get_or table m []) row k None → letters ++ rest left row k ≡ w → letters ≡ w
   word_ends letters w left m row k l h e =

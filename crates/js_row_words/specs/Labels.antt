@@ -41,7 +41,7 @@ asked_of atoms L marks labels r =
 abbrev pub AreCut : List ℕ → Type 0
 AreCut labels = (r : ℕ) → get_or labels r 0 ≤ 65537
 
--- a label below the cut is no less than what is asked of it
+-- a label below the cut is no less than what is required of it
 abbrev pub IsSettled : List Atom → List (List ℕ) → List Bool → List ℕ → ℕ → Type 0
 IsSettled atoms L marks labels r = label_of labels r < 65537 → asked_of atoms L marks labels r ≤ label_of labels r
 

@@ -121,7 +121,7 @@ impl<'a> WordCounter<'a> {
         rose
     }
 
-    /// Raises the label of a row to what is asked of it, and says whether it rose.
+    /// Raises the label of a row to what is required of it, and says whether it rose.
     fn raise(&self, marks: &[bool], row: u32, labels: &mut [u32]) -> bool
         requires marks { length marks.now ≡ length (rows_of self.now) }
         requires row { row < length (rows_of self.now) }
@@ -149,7 +149,7 @@ impl<'a> WordCounter<'a> {
         rises
     }
 
-    /// What is asked of the label of a row, cut.
+    /// What is required of the label of a row, cut.
     fn asked(&self, marks: &[bool], row: u32, labels: &[u32]) -> u32
         requires marks { length marks.now ≡ length (rows_of self.now) }
         requires row { row < length (rows_of self.now) }

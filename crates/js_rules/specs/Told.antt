@@ -1,4 +1,4 @@
--- What is told of a line where it isn't taken: the rule that it breaks, unless there was no memory.
+-- What is reported of a line that isn't taken: the rule that it breaks, unless there was no memory.
 use Rattle.std.specs.Prelude.{◌≡◌, ℕ, ⊤, Result, Ok, Err}
 use Rattle.js_rules.specs.declared.fault.RuleFault.{RuleFault}
 use Rattle.js_rules.specs.declared.fault.RuleFault.TheVariants as F

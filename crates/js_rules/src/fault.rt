@@ -11,7 +11,7 @@ pub enum RuleFault {
     /// The line breaks this rule, and none before it.
     #[error("a rule is broken")]
     Breaks(Rule),
-    /// Memory was asked for and refused.
+    /// Memory was requested and refused.
     #[error("out of memory")]
     Memory,
 }

@@ -3,8 +3,8 @@
 ghost use Rattle.std.specs.Prelude.{◌≡◌};
 ghost use Rattle.js_rules.specs.RuleView.{rule_view};
 
-/// A rule that a line of a certificate can break. Where a line breaks several, the first of them in this order is told.
-/// Contracts see its number, by `rule_view`.
+/// A rule that a line of a certificate can break. Where a line breaks several, the first of them in this order is
+/// reported. Contracts see its number, by `rule_view`.
 #[derive(Clone, Copy, PartialEq, Eq, Debug)]
 pub enum Rule {
     /// The line isn't in the grammar.
@@ -35,7 +35,7 @@ pub enum Rule {
     BoundsMeet,
     /// A truth value is left.
     TruthLeft,
-    /// It isn't so that there is no number.
+    /// A number is left, or a limit is passed in deciding that none is.
     NumberLeft,
     /// No rows, or atoms with too many positions or classes.
     NoRows,

@@ -230,7 +230,7 @@ tells_more T A X (S.AnyOf ks) w h = true_more A X w ks.items h
 tells_more T A X (S.NoneOf ks) w h = ap not (true_more A X w ks.items h)
 tells_more T A X (S.Planned plan ks) w h = refl
 
--- a plan tells it
+-- a plan says of a word what the formula says
 pub told_planned : (T : List Position) (A : List Atom) (w : List ℕ) (s : Said) (plan : Plan) (ks : Vec ℕ Global)
     → s ≡ S.Planned plan ks → IsSaid T A s → (b : Bool) (room told : List Bool) (ls : List ℕ) → room ≡ told
     → told ≡ map (is_true_at A w) ls → ls ≡ ks.items

@@ -48,7 +48,7 @@ of_row T xs rows c l =
       | inr i ↦ let (w, j, e) = from_map (vector T xs) (vector_at (vectors_of T xs rows) c) rows i in (w, e)
     ]
 
--- a vector that isn't there tells nothing
+-- a vector that isn't there is empty
 pub vector-past : (vs : List (List Bool)) (c : ℕ) → length vs ≤ c → vector_at vs c ≡ []
 vector-past [] c l = refl
 vector-past (v ∷ vs) zero l = absurd (omega (arith, l))

@@ -27,7 +27,7 @@ tells T A w (Planned plan ks) = holds T plan.root (string w)
 abbrev pub told_of : List Position → List Atom → List Said → List ℕ → List Bool
 told_of T A said w = map (tells T A w) said
 
--- a plan of the table, and the numbers of the atoms of its leaves; by these it is told whether its root holds
+-- a plan of the table, and the numbers of the atoms of its leaves; these determine whether its root holds
 pub record IsPlanned (T : List Position) (A : List Atom) (p : Plan) (ks : List ℕ) : Type 0 where
   pub plan : IsPlan T p
   pub numbers : AreNumbers A ks (atoms_of T p.leaves)

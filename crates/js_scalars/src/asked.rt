@@ -24,7 +24,7 @@ pub(crate) struct Asked<'a> {
 }
 
 impl<'a> Asked<'a> {
-    /// Nothing yet.
+    /// The requirements of no literal, which every number meets.
     pub fn new(alloc: Global) -> Asked<'a>
         ensures { group_so_far result ≡ any_number }
     {

@@ -12,7 +12,7 @@ pub enum NumberFault {
     /// So many candidates don't meet the set, and another one remains.
     #[error("more than 65536 candidates")]
     Candidates,
-    /// Memory was asked for and refused.
+    /// Memory was requested and refused.
     #[error("out of memory")]
     Memory,
 }

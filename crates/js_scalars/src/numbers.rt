@@ -37,7 +37,7 @@ pub fn number_alternatives(alloc: Global, core: &Core, branch: &Branch) -> Resul
     decided(alloc, core, branch)
 }
 
-/// The same without its meaning.
+/// The answer alone; what it means follows in `number_alternatives`.
 fn decided(alloc: Global, core: &Core, branch: &Branch) -> Result<Leaf, NumberFault>
     requires { are_in_table core.now.positions branch.now.set ≡ true }
     ensures { Answers (scalar_leaf K.Number A.Number branch.now.id.number

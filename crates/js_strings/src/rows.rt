@@ -1,4 +1,4 @@
-//! The first row with the truths that are asked for.
+//! The first row with the required truths.
 
 ghost use Rattle.std.specs.Prelude.{◌≡◌, ◌<◌, ℕ, [], length, get_or, true, false};
 ghost use Rattle.std.specs.Option.{MatchOption};
@@ -8,7 +8,7 @@ ghost use Rattle.js_asked.specs.Asking.{atoms_in, asks};
 use js_asked::Asked;
 use js_automaton::Automaton;
 
-/// The first row whose words are as asked for.
+/// The first row whose words are as required.
 pub(crate) fn first_row(asked: &Asked, automaton: &Automaton) -> Option<u32>
     requires { atoms_of automaton.now ≡ atoms_in asked.now }
     ensures { MatchOption result

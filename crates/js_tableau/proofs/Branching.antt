@@ -1,4 +1,5 @@
--- The branches of a tree: what they are, what they mean, how they are numbered, and that they are no more than its ends.
+-- The branches of a tree: what they are, what they mean, how they are numbered, and that they are no more than its
+-- ends.
 use Rattle.std.proofs.Common.{◌≡◌, ℕ, suc, ◌+◌, ◌≤◌, ⊎_elim, true, List, [], ◌∷◌, ◌++◌, length, refl, arith, ap, sym, ◌∙◌, subst}
 use Rattle.std.specs.List.{AllByRecursion}
 use Rattle.documents.specs.Tests.{some}

@@ -4,6 +4,7 @@ use Rattle.std.proofs.lemmas.Bool.{lt-ltb}
 use Rattle.positions.specs.Position.{Position, All, is_table}
 use Rattle.js_algebra.proofs.Chains.{IsLink, numbers, chain, chain-is_table}
 
+-- all of the position before, named twice
 abbrev pub twice : ℕ → Position
 twice n = All (n ∷ n ∷ [])
 

@@ -10,6 +10,7 @@ use Rattle.js_tableau.specs.declared.walk.Step.{Step}
 use Rattle.js_tableau.specs.declared.walk.Step.TheVariants as V
 use Rattle.js_tableau.proofs.Unfolded.{next_sets}
 
+-- what is counted and what is left have together as many ends after a step as before it
 pub counts : (s : Step) (st : T.Step) (n : ℕ) (ss : List T.Step) → Matches s st
     → one_more (is_end s) n + ends ss ≡ n + ends (st ∷ ss)
 counts (V.Clash x) st n ss m = subst (λ z. (n + 1) + ends ss ≡ n + ends (z ∷ ss)) (sym m) (omega arith)
@@ -25,6 +26,7 @@ counts (V.Rule x (suc k)) st n ss (cs, e, l) = subst (λ z. n + ends ss ≡ n + 
   going (C ∷ cs) q = refl
 counts V.Saturated st n ss (S, e) = subst (λ z. (n + 1) + ends ss ≡ n + ends (z ∷ ss)) (sym e) (omega arith)
 
+-- a step has as many choices as it leaves sets
 pub leaves : (s : Step) (st : T.Step) (S : List G.Signed) → Matches s st → choice_count s ≡ length (next_sets S st)
 leaves (V.Clash x) st S m = ap (λ z. length (next_sets S z)) (sym m)
 leaves (V.Wrong x) st S m = ap (λ z. length (next_sets S z)) (sym m)

@@ -10,6 +10,7 @@ use Rattle.js_algebra.specs.SignedSets.{with_member}
 use Rattle.js_algebra.proofs.Grown.{has-append, has-with_member, has-take}
 use Rattle.js_tableau.specs.Walks.{Covers}
 
+-- members stay covered where one more is added and waits
 pub covers-add : (x : G.Signed) (xs ws ys : List G.Signed) → Covers xs ws ys → Covers (with_member x xs) (add x ws) ys
 covers-add x xs ws ys h z m =
     ⊎_elim
@@ -20,6 +21,7 @@ covers-add x xs ws ys h z m =
     (or_cases (has z ws) (has z ys) (h z i)))
     (or_cases (same_signed z x) (has z xs) (sym (has-with_member z x xs) ∙ m))
 
+-- members stay covered where one that was settled waits again
 pub covers-back : (s : Signed) (ss : List Signed) (xs ws : List G.Signed)
     → Covers xs ws (map signed_view (ss ++ s ∷ []))
     → Covers xs (add (signed_view s) ws) (map signed_view ss)

@@ -23,7 +23,7 @@ module _ (S : List Signed) where
   abbrev is_in : Signed → Bool
   is_in x = has x S
 
-  -- one more position
+  -- one more position of those of which exactly one is to hold
   pub one-more : (found one none : Bool) (p : ℕ) (ps : List ℕ)
       → found ≡ ((one && every is_in (map Minus (p ∷ ps))) || (none && some (every is_in) (one_plus (p ∷ ps))))
       → found ≡ ((((one && is_in (Minus p)) || (none && is_in (Plus p))) && every is_in (map Minus ps))
@@ -42,7 +42,7 @@ module _ (S : List Signed) where
       ∙ join (one && out) (none && now) rest)
       (sym (and_assoc none out later))
 
-  -- the same of two positions
+  -- one more position of those of which two are to hold
   pub two-more : (found two one : Bool) (p : ℕ) (ps : List ℕ)
       → found ≡ (two || ((one && some (λ q. is_in (Plus q)) (p ∷ ps)) || some (every is_in) (two_plus (p ∷ ps))))
       → found ≡ ((two || (one && is_in (Plus p)))
@@ -72,6 +72,7 @@ module _ (S : List Signed) (ps : List Pos) (i : ℕ) (d : Pos) (l : i < length p
   abbrev in_set : Signed → Bool
   in_set x = has x S
 
+  -- the test of exactly one over what is left goes on with the next position
   pub one-next : (found one none out : Bool) → out ≡ has (Minus (get_or ps i d).0) S
       → found ≡ ((one && every in_set (map Minus (places (drop i ps))))
       || (none && some (every in_set) (one_plus (places (drop i ps)))))
@@ -83,6 +84,7 @@ module _ (S : List Signed) (ps : List Pos) (i : ℕ) (d : Pos) (l : i < length p
       (e ∙ ap (λ qs. (one && every in_set (map Minus qs)) || (none && some (every in_set) (one_plus qs)))
       (places-drop ps i d l)))
 
+  -- the test of two over what is left goes on with the next position
   pub two-next : (found two one : Bool)
       → found ≡ (two || ((one && some (λ q. in_set (Plus q)) (places (drop i ps)))
       || some (every in_set) (two_plus (places (drop i ps)))))

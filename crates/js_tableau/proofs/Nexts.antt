@@ -1,4 +1,4 @@
--- What the least ones tell of the step at a set.
+-- What the least ones say of the step at a set.
 use Rattle.std.proofs.Common.{◌≡◌, ℕ, zero, suc, ◌≤◌, ⊎_elim, ◌⊎◌, inl, inr, Bool, true, false, ◌&&◌, ◌||◌, cond, not, nat_le, List, [], ◌∷◌, ◌++◌, take, drop, Option, Some, None, refl, arith, ap, ap₂, sym, ◌∙◌, subst}
 use Rattle.std.proofs.lemmas.Bool.{true≢false, or_cases, or_left, or_right, and_parts, and_from, not-true, false_from_ne_true, leb-true, leb-false, not_from_false}
 use Rattle.documents.specs.Tests.{every, some}

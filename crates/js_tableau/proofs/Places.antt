@@ -24,6 +24,7 @@ none-left w v n e f z =
 
 -- at an index
 
+-- what a function makes of the element at a place stands at that place of the mapped list
 pub at-map : {A : Type 0} (f : A → ℕ) (xs : List A) (i : ℕ) (d : A) → i < length xs
     → f (get_or xs i d) ≡ get_or (map f xs) i 0
 at-map f [] i d l = absurd (omega (arith, l))
@@ -37,6 +38,7 @@ every-at f p (x ∷ xs) zero d h l = (and_parts (p (f x)) (every p (map f xs)) h
 every-at f p (x ∷ xs) (suc i) d h l =
     every-at f p xs i d (and_parts (p (f x)) (every p (map f xs)) h).1 (omega (arith, l))
 
+-- where all positions are below n, that at a place is
 pub inside-at : {A : Type 0} (f : A → ℕ) (n : ℕ) (xs : List A) (i : ℕ) (d : A)
     → every (λ q. nat_lt q n) (map f xs) ≡ true → i < length xs → f (get_or xs i d) < n
 inside-at f n xs i d h l = ltb-true (f (get_or xs i d)) n (every-at f (λ q. nat_lt q n) xs i d h l)

@@ -40,6 +40,7 @@ pub sorted-rising : (ranks : List ℕ) (rs ss : List Ranked) → IsPermutation r
 sorted-rising ranks rs ss m h n = sorted-rises ranks ss (ranks-permuted ranks rs ss m h) n
 
 module _ (T : List Position) (ranks : List ℕ) (e : is_table T ranks ≡ true) where
+  -- the leaves of what was found, and the others sorted by rank, are a plan
   pub is-plan : (p : ℕ) (found leaves : List ℕ) (rs ss : List Ranked) → AreReached T p found
       → leaves ≡ filter (λ q. is_leaf (position_at T q)) found
       → places_of rs ≡ filter (λ q. not (is_leaf (position_at T q))) found → IsPermutation rs ss

@@ -32,6 +32,7 @@ take-take zero xs = refl
 take-take (suc k) [] = refl
 take-take (suc k) (x ∷ xs) = ap (λ ys. x ∷ ys) (take-take k xs)
 
+-- what is pushed last comes first in reverse
 pub reverse-push : {A : Type 0} (xs : List A) (x : A) → reverse (xs ++ x ∷ []) ≡ x ∷ reverse xs
 reverse-push xs x = reverse-append xs (x ∷ [])
 
@@ -214,7 +215,7 @@ module _ (P : List Position) (t : Kind) where
         ∙ ap (λ st. flat_map (steps P t) (next_sets (set_of xs) st) ++ flat_map (steps P t) (sets P t xs (reverse es)))
         e
 
-    -- and after an end
+    -- what is left after a step that is an end
     pub left-end : (xs : List G.Signed) (s : Step) (es : List Pending) → ((x : Signed) (n : ℕ) → s ≡ V.Rule x n → ⊥)
         → Matches s (next P t (set_of xs))
         → steps_left P t xs es ≡ rest xs (reverse es)
@@ -227,7 +228,7 @@ module _ (P : List Position) (t : Kind) where
           none (V.Rule x n) never m = absurd (never x n refl)
           none V.Saturated never (S, m) = ap (next_sets (set_of xs)) m
 
-    -- what is told and left after a step
+    -- the ends that are given and left after a step
     pub visits : (xs : List G.Signed) (s : Step) (es es' : List Pending) (n n' : ℕ) → are_in_table P xs ≡ true
         → step_view P t (set_of xs) s ≡ next P t (set_of xs) → Matches s (next P t (set_of xs)) → IsCounted P t s
         → n' ≡ one_more (is_end s) n → steps_left P t xs es' ≡ rest xs (reverse es)

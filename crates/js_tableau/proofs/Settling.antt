@@ -16,6 +16,7 @@ use Rattle.js_algebra.proofs.Orders.{same_eq, same-itself}
 use Rattle.js_algebra.proofs.Sets.{has_after}
 use Rattle.js_tableau.specs.Walks.{Covers, are_settled, are_settled_but, IsLeast}
 
+-- a member of a set in the table is in the table
 pub member_in_table : (P : List Position) (xs : List G.Signed) (x : G.Signed) → are_in_table P xs ≡ true
     → has x xs ≡ true → is_in_table P x ≡ true
 member_in_table P xs x e h = every-has (is_in_table P) xs x e h

@@ -9,7 +9,7 @@ use Rattle.goal_laws.specs.Saturated.{IsSaturated}
 use Rattle.js_algebra.specs.declared.node.JsonKind.{JsonKind}
 use Rattle.js_tableau.specs.declared.branch_list.Branch.{Branch}
 
--- the most ends of a tree that is told
+-- the most ends that a tree may have
 abbrev pub most_ends : ℕ
 most_ends = 16384
 

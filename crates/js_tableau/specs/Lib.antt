@@ -1,6 +1,6 @@
 -- What a reader must believe: which branches a list stands for, and which a walk has
 -- still to give (`branches_left` of `BranchWalks`); which step of a tree a step of the program stands for
--- (`SetStep`, and `step_view` of `Walks`), and that a tree tells the first of the steps that it has left (`left` and
+-- (`SetStep`, and `step_view` of `Walks`), and that a tree gives the first of the steps that it has left (`left` and
 -- `Tells` of `Progress`).
 pub mod Branches
 pub mod BranchWalks

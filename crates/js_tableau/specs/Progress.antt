@@ -80,7 +80,7 @@ abbrev pub IsCounted : List Position → Kind → Step → Type 0
 IsCounted P t (V.Rule x n) = n ≡ length (choice_list (choices P t (signed_view x)))
 IsCounted P t _ = ⊤
 
--- a visit of the set at hand tells its step and leaves the sets of its choices
+-- a visit of the set at hand gives its step and leaves the sets of its choices
 pub record Visits (P : List Position) (t : Kind) (xs : List G.Signed) (es es' : List Pending) (n n' : ℕ)
     (s : Step) : Type 0 where
   pub tells : steps P t (set_of xs) ++ steps_left P t xs es ≡ step_view P t (set_of xs) s ∷ steps_left P t xs es'
@@ -97,12 +97,12 @@ entries m s x i (suc n) = record { members = m; settled = s; rule = x; index = i
 abbrev pub steps_at_hand : List Position → Kind → List G.Signed → List Pending → List T.Step
 steps_at_hand P t xs es = steps P t (set_of xs) ++ steps_left P t xs es
 
--- the steps of a tree that weren't told yet
+-- the steps of a tree that weren't given yet
 abbrev pub left : List Position → Kind → Tree → List T.Step
 left P t tree = cond tree.begun (steps_left P t tree.walk.trail tree.pending.items)
     (steps_at_hand P t tree.walk.trail tree.pending.items)
 
--- the set that was told last, as a rising list
+-- the set of the step that was given last, as a rising list
 abbrev pub told_set : Tree → List G.Signed
 told_set tree = set_of tree.walk.trail
 
@@ -120,13 +120,13 @@ pub record IsAtHand (P : List Position) (t : Kind) (tree : Tree) (from : ℕ) : 
   pub settled : are_settled P t tree.walk.trail (map signed_view tree.walk.settled.items) ≡ true
   pub begun : tree.begun ≡ true
 
--- the step was the next one, and the ends that were told and those that are left are as many as before
+-- the step was the next one, and the ends that were given and those that are left are as many as before
 pub record Tells (P : List Position) (t : Kind) (old new : Tree) (s : Step) : Type 0 where
   pub told : left P t old ≡ step_view P t (told_set new) s ∷ left P t new
   pub ends : new.ends + ends (left P t new) ≡ old.ends + ends (left P t old)
   pub counted : IsCounted P t s
 
--- a step was told, or none is left
+-- a step was given, or none is left
 abbrev pub AfterStep : List Position → Kind → Tree → Tree → Option Step → Type 0
 AfterStep P t old new None = (left P t old ≡ []) × (left P t new ≡ [])
 AfterStep P t old new (Some s) = Tells P t old new s

@@ -37,7 +37,7 @@ is_clean P t xs = every (λ x. not (is_clash xs x) && not (is_wrong P t x)) xs
 abbrev pub are_settled : List Position → Kind → List Signed → List Signed → Bool
 are_settled P t S ys = every (λ y. has_choice S (choices P t y)) ys
 
--- the same of all but one
+-- each of the list but one has a choice in the set, or none to take
 abbrev pub are_settled_but : List Position → Kind → List Signed → Signed → List Signed → Bool
 are_settled_but P t S x ys = every (λ y. has_choice S (choices P t y) || same_signed y x) ys
 

@@ -40,12 +40,14 @@ impl Model for BranchList {
 }
 
 impl BranchList {
+    /// Takes the vector over, without a copy.
     pub fn from_vec(items: Vec<Branch>) -> BranchList
         ensures { result ≡ items.items }
     {
         BranchList { items }
     }
 
+    /// Gives the vector back, without a copy.
     pub fn into_vec(self) -> Vec<Branch>
         ensures { result.items ≡ self }
     {
@@ -53,6 +55,7 @@ impl BranchList {
         items
     }
 
+    /// The elements in order, lent without a copy.
     pub fn as_slice(&self) -> &[Branch]
         ensures { result.now ≡ self.now }
     {
@@ -60,8 +63,8 @@ impl BranchList {
     }
 }
 
-/// The saturated ends of the goal's tree at documents of the kind, in order, numbered from 0 on. `LimitBranches` exactly
-/// where the tree has more than 16,384 ends, closed ends included.
+/// The saturated ends of the goal's tree at documents of the kind, in order, numbered from 0 on. `LimitBranches`
+/// exactly where the tree has more than 16,384 ends, closed ends included.
 pub fn branches(
     alloc: Global,
     core: &Core,

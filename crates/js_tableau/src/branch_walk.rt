@@ -1,7 +1,7 @@
 //! The branches of a goal at a kind, one after another.
 //!
-//! A first walk through the tree counts its ends, so that too many are told before any branch is given; a second one in
-//! the same room gives the branches. So a walk holds one path, and not the branches.
+//! A first walk through the tree counts its ends, so that too many are reported before any branch is given; a second
+//! one in the same room gives the branches. So a walk holds one path, and not the branches.
 
 ghost use Rattle.std.specs.Prelude.{◌≡◌, ◌<◌, ◌≤◌, ◌+◌, [], ◌∷◌, IfOk, IfErr, OnOk, IfSome, MatchOption, IsNone, true};
 ghost use Rattle.documents.specs.Tests.{some};
@@ -29,8 +29,9 @@ pub struct BranchWalk {
 }
 
 impl BranchWalk {
-    /// The branches of the goal at documents of the kind, of which none was given. `LimitBranches` exactly where the tree
-    /// has more than 16,384 ends, closed ends included. It takes a walk through the tree, in the memory of one path.
+    /// The branches of the goal at documents of the kind, of which none was given. `LimitBranches` exactly where the
+    /// tree has more than 16,384 ends, closed ends included. It takes a walk through the tree, in the memory of one
+    /// path.
     pub fn new(
         alloc: Global,
         core: &Core,
@@ -96,7 +97,7 @@ impl BranchWalk {
     }
 }
 
-/// Goes through the whole tree; `LimitBranches` exactly where it has more ends than a tree that is told.
+/// Goes through the whole tree; `LimitBranches` exactly where it has more ends than a tree may have.
 fn see_all(tree: &mut Tree, core: &Core, kind: JsonKind) -> Result<(), TableauFault>
     requires { IsTree core.now.positions (kind_view kind) tree.old }
     ensures few { OnOk result (tree.old.ends + ends (left core.now.positions (kind_view kind) tree.old) ≤ most_ends) }

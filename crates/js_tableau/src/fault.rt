@@ -9,7 +9,7 @@ pub enum TableauFault {
     /// The tree has more than 16,384 ends, closed ends included.
     #[error("a tree with more than 16384 ends")]
     LimitBranches,
-    /// Memory was asked for and refused.
+    /// Memory was requested and refused.
     #[error("out of memory")]
     Memory,
 }

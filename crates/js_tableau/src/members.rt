@@ -12,7 +12,7 @@ use js_algebra::{Core, JsonKind, Pos, Rule, Signed, SignedSet};
 
 /// A set of signed positions.
 pub trait Members {
-    // The set can be asked.
+    // Whether `has` may be called yet.
     ghost is_ready: { Self → Bool };
 
     // The signed positions of the set.

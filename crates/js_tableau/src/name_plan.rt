@@ -1,9 +1,9 @@
 //! Positions at many names, by a plan that is made once.
 //!
-//! A plan has the positions to which steps in place lead, each once: first those that are an atom, in the order in which
-//! they are first come to, then the others by rank, so that each asks only those before it. They are found by a stack of
-//! its own. The truth at a name is then one look at each of them, in a room that the caller keeps, without recursion and
-//! without memory. Cells of names, the leaves of objects and the checker ask many words with one plan.
+//! A plan has the positions to which steps in place lead, each once: first those that are an atom, in the order in
+//! which they are first come to, then the others by rank, so that each asks only those before it. They are found by a
+//! stack of its own. The truth at a name is then one look at each of them, in a room that the caller keeps, without
+//! recursion and without memory. Cells of names, the leaves of objects and the checker ask many words with one plan.
 
 ghost use Rattle.std.specs.Prelude.{◌≡◌, ◌<◌, ◌≤◌, ℕ, List, Bool, map, filter, length, nat_lt, not, true, IfOk};
 ghost use Rattle.std.specs.List.Sorted.{IsPermutation, IsNonDecreasingBy};
@@ -31,7 +31,7 @@ pub struct Ranked {
     pub pos: Pos,
 }
 
-/// In which order the truths of positions at a name are told. Contracts see it as a `Plan`.
+/// In which order the truths of positions at a name are found. Contracts see it as a `Plan`.
 #[derive(Drop)]
 pub struct NamePlan {
     root: Pos,
@@ -50,8 +50,8 @@ impl Model for NamePlan {
 }
 
 impl NamePlan {
-    /// The plan of a position. It costs what the positions to which steps lead ask together, and a sort by rank of those
-    /// that are no atom; it takes memory for them alone, and not for the table.
+    /// The plan of a position. It costs what the positions to which steps lead ask together, and a sort by rank of
+    /// those that are no atom; it takes memory for them alone, and not for the table.
     pub fn new(alloc: Global, core: &Core, p: Pos) -> Result<NamePlan, Memory>
         requires { p.0 < length core.now.positions }
         ensures root { IfOk result (λ plan. plan.root ≡ p.0) }
@@ -74,7 +74,7 @@ impl NamePlan {
         })
     }
 
-    /// The position that is asked for.
+    /// The position whose truth the plan finds.
     pub fn root(&self) -> Pos
         ensures { result.0 ≡ self.now.root }
     {
@@ -90,9 +90,9 @@ impl NamePlan {
         self.leaves.as_slice()
     }
 
-    /// Whether the position holds of a name, by the truths of the atoms of the leaves in order. The room has a place for
-    /// each position of the table, and what stands in it doesn't matter. It takes no memory, and a look at each position
-    /// of the plan and at those that it asks.
+    /// Whether the position holds of a name, by the truths of the atoms of the leaves in order. The room has a place
+    /// for each position of the table, and what stands in it doesn't matter. It takes no memory, and a look at each
+    /// position of the plan and at those that it asks.
     pub fn truth(&self, core: &Core, truths: &[bool], room: &mut [bool]) -> bool
         requires plan { IsPlan core.now.positions self.now }
         requires truths { length truths.now ≡ length self.now.leaves }

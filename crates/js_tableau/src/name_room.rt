@@ -1,4 +1,4 @@
-//! The truths of the positions of a plan at one name, told one after another in a room with a place for each position.
+//! The truths of the positions of a plan at one name, found one after another in a room with a place for each position.
 
 ghost use Rattle.std.specs.Prelude.{◌≡◌, ◌≤◌, ◌++◌, ℕ, List, Bool, map, length, nat_lt, not, true, false};
 ghost use Rattle.documents.specs.Tests.{every, some};
@@ -71,7 +71,7 @@ fn is_met(node: &Node, room: &[bool]) -> bool
         Node::Any(qs) => is_one_held(qs, room),
         Node::One(qs) => is_just_one_held(qs, room),
         Node::Types(kinds) => has_text(kinds),
-        // no characters at least are in every name, and the rest is asked of other kinds
+        // every name has at least no characters, and all other positions constrain other kinds
         _ => true,
     }
 }

@@ -15,8 +15,8 @@ ghost use Rattle.name_truths.specs.NameTruth.{asked_of_string, own_atoms, atoms,
 use crate::truths::Truths;
 use js_algebra::{Core, JsonKind, KindList, Node, Pos, PosList};
 
-/// Whether the position holds of the name of which `truths` tells, as a string. It takes no memory, and a look at each
-/// position that it comes to, as often as it comes there.
+/// Whether the position holds of the name whose atoms have these truths, as a string. It takes no memory, and a look at
+/// each position that it comes to, as often as it comes there.
 #[tactic(auto, using(name_laws::proofs::NameLaws::holds_by_truths))]
 pub fn name_truth<S: Truths>(core: &Core, p: Pos, truths: &S) -> bool
     requires place { p.0 < length core.now.positions }
@@ -28,7 +28,7 @@ pub fn name_truth<S: Truths>(core: &Core, p: Pos, truths: &S) -> bool
     is_held(core, core.len(), p, truths)
 }
 
-/// The same with so many steps in place.
+/// `name_truth` within `steps` positions in place, one below another; false where these don't suffice.
 #[cycle(names)]
 #[tactic(auto, using(name_laws::proofs::KnownLaws::own_known, name_laws::proofs::KnownLaws::asked_known, name_laws::proofs::KnownLaws::asked_named))]
 fn is_held<S: Truths>(core: &Core, steps: u32, p: Pos, truths: &S) -> bool
@@ -64,7 +64,7 @@ fn is_met<S: Truths>(core: &Core, steps: u32, node: &Node, truths: &S) -> bool
         Node::Match(pattern) => truths.matches(&pattern.re),
         Node::LengthMin(n) => *n == 0 || truths.long(u128::from(*n)),
         Node::LengthMax(n) => !truths.long(u128::from(*n) + 1),
-        // what is asked of other kinds
+        // positions that constrain other kinds
         _ => true,
     }
 }
@@ -118,6 +118,7 @@ fn is_just_one_held<S: Truths>(core: &Core, steps: u32, list: &PosList, truths: 
     found
 }
 
+/// Whether strings are among the kinds, in time in proportion to the list.
 pub fn has_text(kinds: &KindList) -> bool
     ensures { result ≡ some (K.same_kind K.Text) (map kind_view kinds.now) }
 {

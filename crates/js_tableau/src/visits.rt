@@ -1,8 +1,8 @@
 //! The steps of a tree, one after another in pre-order.
 //!
 //! Sets still to be visited stand in a list, the next one last, each as a choice to add to the first members of the
-//! walk: so the choices of a rule share its set. Each has at least one end, so the tree has too many as soon as the ends
-//! that were told and the sets that are left are too many; this bounds the list too.
+//! walk: so the choices of a rule share its set. Each has at least one end, so the tree has too many as soon as the
+//! ends that were given and the sets that are left are too many; this bounds the list too.
 
 ghost use Rattle.std.specs.Prelude.{◌≡◌, ◌<◌, ◌≤◌, ◌+◌, ◌++◌, ℕ, List, [], ◌∷◌, map, take, length, reverse, IfOk, IfErr, OnOk, MatchOption, IsNone, true};
 ghost use Rattle.documents.specs.Kind.{Kind};
@@ -21,7 +21,7 @@ use js_algebra::{Core, Goal, JsonKind, Signed, SignedList};
 use js_doc::Memory;
 use std::alloc::Global;
 
-/// The most ends of a tree that is told, closed ends included.
+/// The most ends that a tree may have, closed ends included.
 pub const MOST_ENDS: usize = 16_384;
 
 /// A set still to be visited: the choice of that number of a rule, added to the first `members` of the walk. The first
@@ -34,19 +34,19 @@ pub struct Pending {
     pub index: usize,
 }
 
-/// The tree of a goal, of which some steps were told; `left` are the others. From one `begin` to the next all its calls
-/// are to be given the same table and the same kind.
+/// The tree of a goal, of which some steps were given; `left` are the others. From one `begin` to the next all its
+/// calls are to be given the same table and the same kind.
 #[derive(Drop)]
 pub struct Tree {
     walk: Walk,
     pending: Vec<Pending>,
     ends: usize,
-    /// Whether a step was told; else the set of the walk is still to be visited.
+    /// Whether a step was given; else the set of the walk is still to be visited.
     begun: bool,
 }
 
 impl Tree {
-    /// The tree of a goal, of which nothing was told.
+    /// The tree of a goal, of which no step was given.
     pub fn new(alloc: Global, core: &Core, goal: &Goal) -> Result<Tree, Memory>
         requires { are_in_table core.now.positions goal.now ≡ true }
         ensures tree { IfOk result (λ tree. (t : Kind) → IsTree core.now.positions t tree) }
@@ -65,7 +65,7 @@ impl Tree {
         Ok(tree)
     }
 
-    /// Becomes the tree of a goal, of which nothing was told, whatever it was before. It keeps its room, and takes the
+    /// Becomes the tree of a goal, of which no step was given, whatever it was before. It keeps its room, and takes the
     /// time of what it holds and of the goal.
     pub fn begin(&mut self, core: &Core, goal: &Goal) -> Result<(), Memory>
         requires { are_in_table core.now.positions goal.now ≡ true }
@@ -85,7 +85,7 @@ impl Tree {
     }
 
     /// The next step of the tree, none at its end. `LimitBranches` only where the whole tree has more than
-    /// [`MOST_ENDS`] ends, and before more of them are told.
+    /// [`MOST_ENDS`] ends, and before more of them are given.
     pub fn next(&mut self, core: &Core, kind: JsonKind) -> Result<Option<Step>, TableauFault>
         requires { IsTree core.now.positions (kind_view kind) self.old }
         ensures told { IfOk result (λ step. MatchOption step (left core.now.positions (kind_view kind) self.old ≡ [])
@@ -114,7 +114,7 @@ impl Tree {
         }
     }
 
-    /// The set of the step that was told last, in rising order.
+    /// The set of the step that was given last, in rising order.
     pub fn set(&self, alloc: Global) -> Result<SignedList, Memory>
         ensures { IfOk result (λ set. set ≡ told_set self.now) }
     {
@@ -148,7 +148,7 @@ impl Tree {
     }
 }
 
-/// Tells the step at the set of the walk, of which the members after the first `from` are new, and adds the sets of its
+/// Gives the step at the set of the walk, of which the members after the first `from` are new, and adds the sets of its
 /// choices.
 fn visit(
     walk: &mut Walk,
@@ -189,7 +189,7 @@ fn visit(
     Ok(step)
 }
 
-/// The ends that were told, with the step if it is one.
+/// The ends that were given, with the step if it is one.
 fn with_end(told: usize, step: &Step) -> usize
     requires { told ≤ most_ends }
     ensures { result ≡ one_more (is_end step.now) told }

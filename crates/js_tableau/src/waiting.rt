@@ -30,6 +30,7 @@ impl Model for Waiting {
 }
 
 impl Waiting {
+    /// The empty set, which takes no memory.
     pub fn new(alloc: Global) -> Waiting
         ensures { result ≡ [] }
     {
@@ -38,6 +39,7 @@ impl Waiting {
         }
     }
 
+    /// Puts `x` in, in time that is logarithmic in the size of the set. A member stays as it is.
     pub fn add(&mut self, x: Signed) -> Result<(), Memory>
         ensures { OnOk result (self.new ≡ add (signed_view x) self.old) }
     {

@@ -39,6 +39,7 @@ pub struct Walk {
 }
 
 impl Walk {
+    /// A walk whose set is empty, which takes no memory; `begin` starts it at a list.
     pub fn new(alloc: Global) -> Walk {
         Walk {
             trail: SignedSet::new(alloc),

@@ -46,7 +46,7 @@ joined-more write (y ∷ ys) (suc i) x l e =
     append_assoc (write y) (flat_map (λ z. 44 ∷ z) (map write (take i ys))) (44 ∷ write x)
     ∙ ap (λ zs. write y ++ zs) (one_more write ys i x (omega (arith, l)) e)
 
--- what is so while a list is written
+-- what holds while a list is written
 pub record IsBegun {A : Type 0} (write : A → List ℕ) (old : List ℕ) (xs : List A) (out : List ℕ) (none : Bool)
     (i : ℕ) : Type 0 where
   pub text : out ≡ old ++ begun write xs i

@@ -109,7 +109,7 @@ pub within : (items : List Part) (ps : List P.Part) {k : ℕ} → map part_view 
     → k < length ps
 within items ps {k} e l = subst (λ n. k < n) (sym (length-map items part_view) ∙ ap length e) l
 
--- what is asked of a part before it is measured
+-- what is required of a part before it is measured
 pub names-kept : (items : List Part) (ps : List P.Part) (k n : ℕ) (p : Part) → is_table ps ≡ true
     → map part_view items ≡ ps → k < length items → p ≡ get_or items k p → n ≡ k
     → names_below n (part_view p) ≡ true

@@ -125,7 +125,7 @@ forward-line old p line i less fine is some q part told line_is =
 
 -- ---- faults
 
--- the line that a fault tells
+-- the line that a fault names
 abbrev pub line_in : {A : Type 0} → Result A PartsLineFault → ℕ
 line_in (Ok x) = 0
 line_in (Err F.Memory) = 0
@@ -136,7 +136,7 @@ pub passed : {A E : Type 0} (r : Result A E) (met told : E) → IsErrAnd r (λ m
     → met ≡ told
 passed r met told h e = sym (subst (λ q. IsErrAnd q (λ made. made ≡ met)) e h)
 
--- the line counts none
+-- the line that counts no parts isn't one that counts some
 pub counts-none : (line : List ℕ) (count n : ℕ) → line ≡ count_text count → count ≡ 0 → 0 < n → n ≤ 4294967295
     → line ≡ count_text n → ⊥
 counts-none line count n is none some l e =

@@ -1,4 +1,4 @@
--- The parts of a program's table are told, so that its text is read back.
+-- The parts of a program's table meet `is_told`, so that its text is read back.
 use Rattle.std.proofs.Common.{◌≡◌, ℕ, zero, suc, ◌+◌, ◌<◌, ◌≤◌, List, [], ◌∷◌, length, map, take, get_or, Bool, true, nat_lt, refl, sym, ap, ◌∙◌, arith}
 use Rattle.std.proofs.lemmas.Bool.{and_parts, and_from, ltb-true, lt-ltb}
 use Rattle.documents.specs.Tests.{every, is_scalar}
@@ -71,7 +71,7 @@ told-next ps i p l few e part h k =
       part_at-get (x ∷ qs) zero q m = refl
       part_at-get (x ∷ qs) (suc j) q m = part_at-get qs j q (omega (arith, m))
 
--- a table whose parts are told is read back
+-- a table whose parts meet `is_told` is read back
 pub read-table : (ps : List Part) (i : ℕ) → is_table ps ≡ true → 0 < length ps → length ps ≤ 4294967295
     → length ps ≤ i → every is_told (take i ps) ≡ true → IsRead ps (parts_text ps)
 read-table ps i table some few end told =

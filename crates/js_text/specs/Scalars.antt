@@ -1,4 +1,4 @@
--- What a part of the program has of what is told of a part: all but that the numbers of parts have 32 bits.
+-- What each part of the program has of what `is_told` requires: all but that the numbers of parts have 32 bits.
 use Rattle.std.specs.Prelude.{ℕ, List, Bool, true}
 use Rattle.documents.specs.Tests.{every, is_scalar}
 use Rattle.shared_documents.specs.Part.{Part, null, boolean, number, string, array, object}

@@ -34,7 +34,7 @@ abbrev pub summed : Measured → List (ℕ × Measured) → Measured
 summed a [] = a
 summed a (e ∷ es) = summed (added a e.0 e.1) es
 
--- with the commas and brackets of so many elements
+-- the commas and brackets of n elements are added
 abbrev pub closed : ℕ → Measured → Measured
 closed n a = record {
   length = min (a.length + (n - 1 + 2)) longest;

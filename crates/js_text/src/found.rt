@@ -24,9 +24,9 @@ const DEEPEST_PLAIN: u32 = 120;
 /// The bytes up to which a document is printed plain: a file that is read is no longer.
 const LONGEST_PLAIN: u64 = 16_777_216;
 
-/// The line `document` and the text of the document that the last part, `root`, stands for, where it is neither deep nor
-/// long and its numbers have 64 bits; else the table of its parts. Time and memory are in proportion to the table's text
-/// and to that of the answer: a document is unshared only where its text is short.
+/// The line `document` and the text of the document that the last part, `root`, stands for, where it is neither deep
+/// nor long and its numbers have 64 bits; else the table of its parts. Time and memory are in proportion to the table's
+/// text and to that of the answer: a document is unshared only where its text is short.
 pub fn found_text(alloc: Global, parts: &Parts, root: PartId) -> Result<Vec<u8>, Memory>
     requires { root.0 + 1 ≡ length parts.now }
     ensures text { IfOk result (λ v. v.items ≡ F.found_text parts.now root.0) }

@@ -15,8 +15,8 @@ use js_doc::{Memory, Part, PartId, PartIds, PartMap, Parts};
 use std::alloc::Global;
 use std::marker::Model;
 
-/// What is measured of a document. A length past the last value of `u64` is given as that value, a depth past that of
-/// `u32` likewise.
+/// What is measured of a document. A length past the last value of `u64` is given as that value, a depth past the last
+/// value of `u32` as that one.
 #[derive(Clone, Copy, PartialEq, Eq, Debug)]
 pub struct Measure {
     /// The bytes of its text.
@@ -28,7 +28,7 @@ pub struct Measure {
 }
 
 impl Measure {
-    /// Of no element.
+    /// The measure of a list before its first element.
     fn none() -> Measure
         ensures { S.measure_view result ≡ S.no_elements }
     {
@@ -39,7 +39,7 @@ impl Measure {
         }
     }
 
-    /// With one more element, before which so many bytes stand.
+    /// Adds one more element, before which `before` bytes stand: a member's name and colon.
     fn with(self, before: u64, value: Measure) -> Measure
         ensures { S.measure_view result ≡ S.added (S.measure_view self) before (S.measure_view value) }
     {
@@ -53,7 +53,7 @@ impl Measure {
         }
     }
 
-    /// With the commas and the brackets of `count` elements.
+    /// Adds the commas between `count` elements and the brackets around them.
     fn closed(self, count: usize) -> Measure
         requires { count < 9223372036854775808 }
         ensures { S.measure_view result ≡ S.closed count (S.measure_view self) }

@@ -29,7 +29,7 @@ pub(crate) fn read_part(alloc: Global, text: &[u8]) -> Result<Option<Part>, Memo
     }
 }
 
-/// The same by the first byte, which tells the part's kind.
+/// `read_part` by the first byte, which decides the part's kind.
 fn part_from(alloc: Global, first: u8, text: &[u8], rest: &[u8]) -> Result<Option<Part>, Memory>
     requires { text.now ≡ first ∷ rest.now }
     ensures reads { IfOk result (λ r. ReadsPart text.now (option_map part_view r)) }

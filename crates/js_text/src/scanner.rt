@@ -189,7 +189,7 @@ fn scalars(word: String) -> Str
     ensures scalar { every is_scalar result ≡ true }
 {
     let text = Str::from_string(word);
-    // A `Str` tells what it is as a `str`.
+    // The clauses of `as_text` say that the text is made of scalar values.
     let _ = text.as_text();
     text
 }

@@ -116,7 +116,7 @@ pub each-end : {A B : Type 0} (f : B → Maker) (v : A → B) (xs : List A) (i :
 each-end f v xs i s u l a =
     sym (a ∙ ap (λ ys. run (each f (map v ys)) s) (drop_all i xs l) ∙ run-nothing s)
 
--- what isn't asked for is left out
+-- what isn't required is left out
 pub run-skip : (b : Bool) (f : Maker) (s : State) → b ≡ false → s ≡ run (cond b f nothing) s
 run-skip b f s e = rw e (sym (run-nothing s))
 

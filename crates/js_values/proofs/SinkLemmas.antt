@@ -47,7 +47,7 @@ pub items-made : (ds : List Document) (l : Items) (s u : State) → items_of ds 
     → u ≡ run (item_nodes l) s
 items-made ds l s u e a = a ∙ ap (λ f. run f s) (sym (items-each ds) ∙ ap item_nodes e)
 
--- and members
+-- members one by one
 members-each : (ms : List (List ℕ × Document)) (s : State) → run (member_nodes (members_of ms)) s
     ≡ run (each member_maker ms) s
 members-each [] s = refl

@@ -17,7 +17,7 @@ pub fn the_one(named: &[Pos]) -> Pos
     }
 }
 
-/// The last position is asked of all elements after those that the others speak of.
+/// The last position is required of all elements after those that the others speak of.
 pub(crate) fn items_of(named: Vec<Pos>) -> Node
     ensures { node_view result ≡ V.items_of (places named.items) }
 {

@@ -48,7 +48,7 @@ impl Model for Sink {
 }
 
 impl Sink {
-    /// Nothing yet, behind so many entries. It takes no memory.
+    /// A sink without nodes, whose first node gets the number `first`. It takes no memory.
     pub fn new(alloc: Global, first: u32) -> Sink
         ensures { result ≡ empty first }
     {
@@ -110,6 +110,7 @@ impl Sink {
         mem::replace(&mut self.named, outer)
     }
 
+    /// The nodes that were appended, without the entries, and the rank of each at the same index.
     pub fn into_nodes_and_ranks(self) -> (Vec<Node>, Vec<u64>)
         ensures nodes { map node_view result.0.items ≡ self.nodes }
         ensures ranks { result.1.items ≡ self.ranks }

@@ -164,11 +164,12 @@ waits_get (Some q) e = (q, refl, no q.counted e) where
   no true e = cc
   no false e = refl
 
+-- an alternative whose place waits is there
 pub waits_some : (o : Option Counts) (p : ℕ) → waits (place_in p o) ≡ true → is_some o ≡ true
 waits_some None p e = cc
 waits_some (Some c) p e = refl
 
--- what is told of an alternative that is written
+-- whether an alternative becomes ready when its counts are set
 pub wakes_set : (r : Bool) (xs now : List Counts) (n : ℕ) (old new : Counts) → xs ≡ now → n < length xs
     → old ≡ get_or xs n old → r ≡ (is_ready new && not (is_ready old))
     → r ≡ (ready_in (slice_get (set xs n new) n) && not (ready_in (slice_get now n)))

@@ -274,7 +274,7 @@ module _ (e : Exploration) (has : ℕ → Bool) (m : ℕ) where
           (ap (λ v. is_at h a p v || some (is_at h a p) (take i Us)) k
           ∙ sym (take_next (is_at h a p) Us i u l))
 
-  -- all of them
+  -- where all mentions of a goal are taken, the goal counts as one of the round
   pub taken_all : marked (while_taken has e m (length (mentions_of e m))) (uncounted e)
       ≡ marked (by_goal (with_goal has m) e) (uncounted e)
   taken_all =

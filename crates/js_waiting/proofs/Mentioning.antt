@@ -255,7 +255,7 @@ module _ (e : Exploration) (m : ℕ) where
       let (s, n) = names_from h u k in
       record { low = subst (λ z. z < length e.found.goals) (sym s) (from_range (length e.found.goals) h j); names = n }
 
-  -- and each such place is one of them
+  -- each place that names the goal is listed
   pub listed : (h a p : ℕ) → h < length e.found.goals → goal_at e h a p ≡ Some m
       → IsIn (mention h a p) (mentions_of e m)
   listed h a p l n =

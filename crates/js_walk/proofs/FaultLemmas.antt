@@ -1,4 +1,4 @@
--- What is wrong with a keyword's value doesn't hang on where it stands, but for what is told.
+-- What is wrong with a keyword's value doesn't depend on where it stands, but for the place that is reported.
 use Rattle.std.proofs.Common.{◌≡◌, ℕ, suc, List, [], ◌∷◌, ◌++◌, Bool, true, false, cond, codes, Option, Some, None, option_map, refl, sym, ap, ap₂}
 use Rattle.std.specs.Prelude.{pos, int_le, int_lt}
 use Rattle.std.proofs.lemmas.Option.{none-some}
@@ -268,7 +268,7 @@ shape_same : (root : Json) (S : Option Shape) (k : List ℕ) (p q : Pointer) (v 
 shape_same root None k p q v h = refl
 shape_same root (Some S) k p q v h = keyword_same S k (p ++ k ∷ []) (q ++ k ∷ []) v h
 
--- an identifier is told but at the root
+-- an identifier is a fault everywhere but at the root
 id_same : (root : Json) (p q : Pointer) (v : Json) → (p ≡ [] → q ≡ []) → id_fault rules root p v ≡ None
     → id_fault rules root q v ≡ None
 id_same root [] q (string w) roots h = ap (λ r. id_fault rules root r (string w)) (roots refl)
@@ -289,7 +289,7 @@ named_same root listed p q k v roots h = go (same_word k (codes "$id")) h
     go true h = id_same root p q v roots h
     go false h = shape_same root (shape_beside listed k) k p q v h
 
--- so members in which nothing is wrong at one place are so at another
+-- so members in which nothing is wrong at one place have nothing wrong at another
 pub members_same : (root : Json) (listed : Bool) (p q : Pointer) (ms : Members) → (p ≡ [] → q ≡ [])
     → members_fault_by root listed p ms ≡ None → members_fault_by root listed q ms ≡ None
 members_same root listed p q no_members roots h = refl

@@ -42,7 +42,7 @@ reference_in _ = None
 abbrev pub IsTarget : Json → List P.Pointer → Json → Option ℕ → Type 0
 IsTarget root ps v t = RefersTo root ps (reference_in v) t
 
--- so it is at each of the places
+-- each place has the target of its reference
 abbrev pub AreTargets : Json → List P.Pointer → List P.Place → List (Option ℕ) → Type 0
 AreTargets root ps cs ts = (i : ℕ) (c : P.Place) (t : Option ℕ) → i < length cs
     → c ≡ get_or cs i c → t ≡ get_or ts i t → IsTarget root ps c.1 t

@@ -1,4 +1,4 @@
--- What is asked of a look at one place.
+-- What is required of a look at one place.
 use Rattle.std.specs.Prelude.{◌≡◌, ℕ, List, [], ◌++◌, map, length, nat_lt, Bool, true, Option, Some, None, Result, Ok, Err}
 use Rattle.documents.specs.Tests.{every}
 use Rattle.documents.specs.Json.{Json, string, Members, no_members, member}
@@ -49,7 +49,7 @@ pub record Visited (root : Json) (old new : List P.Pointer) (owed : Option (Faul
   pub leads : Adds old new [] found.places.items places
   pub refers : Settled root new reference found.target
 
--- so it is, or this is wrong
+-- the look finds this, or the fault that is owed
 abbrev pub Visits : Json → (old new : List P.Pointer) → Option (Fault PatternFault RefFault) → List P.Place
     → Option Json → Result Found SchemaFault → Type 0
 Visits root old new owed places reference (Ok found) = Visited root old new owed places reference found

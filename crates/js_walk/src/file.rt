@@ -27,6 +27,7 @@ pub struct File<'a> {
 impl<'a> File<'a> {
     ghost use Rattle.js_walk.specs.FileView.{root_of};
 
+    /// Borrows the value and looks up its `$id`, once for all references that are resolved in it.
     pub fn new(root: &'a Json) -> File<'a>
         ensures { root_of result ≡ view root.now }
     {

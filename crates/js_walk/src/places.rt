@@ -36,6 +36,7 @@ impl<'a> Places<'a> {
         Places { pointers, done }
     }
 
+    /// How many places there are. Their numbers are those below it.
     pub fn len(&self) -> usize
         ensures { result ≡ length (places_view self.now) }
     {
@@ -83,7 +84,7 @@ impl<'a> Places<'a> {
         self.pointers.below(at, token)
     }
 
-    /// The same with the token of the element at `index`.
+    /// `below` with the token of the element at `index`.
     pub fn below_index(&self, at: Option<u32>, index: usize) -> Result<Option<u32>, Memory>
         ensures { IfOk result (λ found. (p : P) → Leads (pointers_in self.now) at p
             → Leads (pointers_in self.now) found (p ++ index_token index ∷ [])) }

@@ -157,7 +157,7 @@ fn visit_members<'a>(
 }
 
 /// What is wrong first in the members of an object whose `items` is a list or isn't. Whether anything is wrong doesn't
-/// hang on the pointer, so its own is made only then.
+/// depend on the pointer, so its own is made only then.
 fn check_members<'a>(
     alloc: Global,
     file: &File<'a>,

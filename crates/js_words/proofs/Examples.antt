@@ -22,7 +22,7 @@ after_dashes : (a b : Text) → text_command (codes "include" ∷ codes "--" ∷
 unfolding text_command clap_on_literals
 after_dashes a b = refl
 
--- and so is a dash alone, and a word of no letter
+-- a dash alone is a name, and so is the empty word
 dash_and_nothing : text_command (codes "include" ∷ codes "-" ∷ [] ∷ []) ≡ Some (Include (codes "-") [] 1)
 unfolding text_command clap_on_literals
 dash_and_nothing = refl

@@ -1,4 +1,4 @@
--- The walk of `clap` over the words. Key lemma: entered-read, by which the words after the subcommand's name tell all.
+-- The walk of `clap` over the words. Key lemma: entered-read, by which the words after the subcommand's name say all.
 use Rattle.std.proofs.Common.{◌≡◌, ◌∙◌, ℕ, false, List, [], ◌∷◌, ◌++◌, Option, Some, None, is_some, refl, sym, ap, ap₂}
 use Rattle.std.specs.List.{fold}
 use Rattle.std.specs.Str.{bytes_eq}
@@ -29,7 +29,7 @@ walked-stopped rules names w name before (x ∷ rest) =
     walked-stopped rules names w name (before ++ x ∷ []) rest
     ∙ ap (λ (ts : List Text). record w { stopped = Some (name, ts) }) (append_assoc before (x ∷ []) rest)
 
--- and they have no fault there
+-- a walk that stopped finds no fault in the later words
 fault-stopped : (s : Shape) (names : Names) (w : Walk) (p : Text × List Text) (rest : List Text)
     → walk_fault s names (record w { stopped = Some p }) rest ≡ []
 unfolding walk_fault walked
@@ -85,7 +85,7 @@ pub record Enters (word : Text) (s : Shape) : Type 0 where
       ≡ without_fault (or_else (level_fault s [] nothing_held rest false []) [])
       (named s.name (rows_after s.rules [] rest))
 
--- the words after it tell what the words come to
+-- the words after it decide what the words come to
 pub entered-read : (word : Text) (s : Shape) → Enters word s → (rest : List Text)
     → text_command (word ∷ rest) ≡ read_from s start rest
 unfolding text_command walk_fault

@@ -105,7 +105,7 @@ matched_by p = named p.0 p.1
 abbrev pub matched : Option (Text × List Row) → Option Command
 matched met = option_and_then matched_by met
 
--- with a fault there is none
+-- with a fault there is no command
 abbrev pub without_fault : Kinds → Option Command → Option Command
 without_fault [] c = c
 without_fault (k ∷ ks) c = None

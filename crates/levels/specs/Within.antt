@@ -1,4 +1,4 @@
--- Conditions among which some are closed: from those that are in, what is asked leads only to others that are in.
+-- Conditions among which some are closed: from those that are in, what is required leads only to others that are in.
 use Rattle.std.specs.Prelude.{◌≡◌, ℕ, ◌<◌, List, Bool}
 use Rattle.std.specs.List.{AllByRecursion}
 use Rattle.documents.specs.Document.{Document, depth}

@@ -98,7 +98,7 @@ line_of-spells xs l =
     (either (signed_line xs) _ l (signed-spells xs l)
     (either (paired_line xs) _ l (paired-spells xs l) (listed-spells xs l))))
 
--- and back
+-- the converse: the text of a line is read as that line
 
 abbrev first : Option Line → Option Line
 first o = or_else o None

@@ -135,6 +135,7 @@ digits-lack b other (d ∷ ds) h =
     and_from (not (nat_eq d b)) (lacks b ds)
     (not_from_false _ (ne_eqb d b (λ e. true≢false (sym p ∙ ap is_ascii_digit e ∙ other)))) (digits-lack b other ds q)
 
+-- the text of a number has no byte but digits
 pub decimal-lacks : (b : ℕ) → is_ascii_digit b ≡ false → (n : ℕ) → is_small n ≡ true → lacks b (decimal n) ≡ true
 decimal-lacks b other n h =
     let l : n < 4294967296 = ltb-true n 4294967296 h in

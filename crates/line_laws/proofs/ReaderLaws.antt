@@ -133,7 +133,7 @@ cut-text bytes ls t =
         let (c, d) = and_parts (is_short k) (every is_short ks) h in
         and_from (is_good k) _ (and_from (is_line k) (is_short k) a c) (both ks b d)
 
--- and back: what is cut without a fault is lines, and a part of one
+-- the converse: what is cut without a fault is lines, and a part of one
 
 step : ℕ → List ℕ → Cut → Cut
 step n p c = cond (fits p) (begun n (line_of p) c) (stops (TooLong n))

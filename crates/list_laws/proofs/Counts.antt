@@ -4,6 +4,7 @@ use Rattle.std.proofs.lemmas.Bool.{eqb-true, eqb-false, eq-eqb, cases_eq}
 use Rattle.list_laws.specs.In.{IsIn, Distinct}
 use Rattle.list_laws.proofs.Pigeons.{without_in, without, to_without}
 
+-- the sum of f over a list
 abbrev pub sum_over : {A : Type 0} → (A → ℕ) → List A → ℕ
 sum_over f [] = 0
 sum_over f (x ∷ xs) = f x + sum_over f xs

@@ -3,6 +3,7 @@ use Rattle.std.proofs.Common.{◌≡◌, List, ◌++◌, Bool, true, ⊎_elim}
 use Rattle.documents.specs.Tests.{every}
 use Rattle.list_laws.proofs.Lists.{every_at, every_from, in_left, in_right, in_append}
 
+-- a test that all of two lists pass is passed by all of them joined
 pub every-append : {A : Type 0} (p : A → Bool) (xs ys : List A) → every p xs ≡ true → every p ys ≡ true
     → every p (xs ++ ys) ≡ true
 every-append p xs ys h k =

@@ -18,6 +18,7 @@ in_left x [] ys h = absurd h
 in_left x (a ∷ xs) ys (inl e) = inl e
 in_left x (a ∷ xs) ys (inr h) = inr (in_left x xs ys h)
 
+-- what is in the second of two lists is in both joined
 pub in_right : {A : Type 0} (x : A) (xs ys : List A) → IsIn x ys → IsIn x (xs ++ ys)
 in_right x [] ys h = h
 in_right x (a ∷ xs) ys h = inr (in_right x xs ys h)

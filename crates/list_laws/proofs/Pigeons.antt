@@ -99,6 +99,7 @@ place_left low (suc n) xs l =
           (y, a, omega arith, λ j. out (to_without y (low + n) xs j (λ e. let f : ⊥ = omega (arith, e, b) in f)))
     ]
 
+-- the numbers of a range are different
 pub range_distinct : (a n : ℕ) → Distinct (range_with_len a n)
 range_distinct a zero = tt
 range_distinct a (suc n) = ((λ i. out (a + 1) n i (omega arith)), range_distinct (a + 1) n) where

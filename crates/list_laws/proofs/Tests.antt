@@ -41,6 +41,7 @@ every_fails {A = A} p (x ∷ xs) e = go (p x) refl e (every_fails p xs) where
   go false h e more = (x, inl refl, h)
   go true h e more = let (y, i, k) = more e in (y, inr i, k)
 
+-- what a filter leaves is in the list and passes the test
 pub from_filter : {A : Type 0} (p : A → Bool) (x : A) (xs : List A) → IsIn x (filter p xs) → IsIn x xs × (p x ≡ true)
 from_filter p x [] i = absurd i
 from_filter p x (y ∷ xs) i = go (p y) refl i (from_filter p x xs) where

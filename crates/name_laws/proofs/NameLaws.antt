@@ -105,6 +105,7 @@ module _ (T : List Position) (truth : Atom → Bool) (w : List ℕ) where
       (weaker _ _ (asked_of_string P) (λ q u. within steps below n q u)
       (true_each truth w (atoms_within T n) (asked_of_string P) rest))
 
+  -- where the truths are those of a word, what they give of a position is whether it holds of the word as a string
   pub holds_by_truths : (p : ℕ) → AreTrue truth w (atoms T p) → name_holds T truth p ≡ holds T p (string w)
   unfolding is_met
   holds_by_truths p t = within (length T) (met_below asks_at (length T) 0) (length T) p t

@@ -209,7 +209,7 @@ module _ (T : List Position) (ranks : List ℕ) (e : is_table T ranks ≡ true) 
     atoms = λ same equal L. sym (mention_all-append same L (atoms_of T found) []) ∙ s.atoms same equal L;
   }
 
-  -- the same of lists that are equal to these
+  -- a new position, with its lists given by equations
   pub search-new : (p q : ℕ) (found keys W waiting next : List ℕ) (P : Position)
       → IsSearch T ranks p found waiting → waiting ≡ q ∷ W → keys ≡ found ++ q ∷ [] → P ≡ position_at T q
       → next ≡ asked_of_string P ++ W → IsSearch T ranks p keys next

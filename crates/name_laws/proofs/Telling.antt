@@ -144,7 +144,7 @@ module _ (T : List Position) (ok : IsTable T) (truth : Atom → Bool) where
             let (one, more) = and_parts (has_place (seen ++ take i ps) c) _ g in
             (right-at T truth room (seen ++ take i ps) c right one, each cs more)
 
-  -- so one more leaf, and one more of the others, is told right
+  -- so one more leaf, and one more of the others, gets its truth
   pub leaf-next-right : (room : List Bool) (leaves : List ℕ) (truths : List Bool) (k n p : ℕ) (P : Position) (b : Bool)
       → every (λ q. is_leaf (position_at T q)) leaves ≡ true → k < length leaves → n ≡ suc k → p ≡ get_or leaves k 0
       → p < length room → P ≡ position_at T p → b ≡ leaf_holds P (get_or truths k false)

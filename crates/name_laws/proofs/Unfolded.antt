@@ -7,7 +7,7 @@ use Rattle.positions.specs.Holds.{IsTable}
 use Rattle.position_laws.proofs.Lists.{all-weaker, every-same, some-same, exactly_one-same, flat_map-same}
 use Rattle.name_truths.specs.NameTruth.{asked_of_string, own_atoms, atoms_within, atoms, asks_name, name_within, name_holds}
 
--- what is asked of a string is asked in place
+-- what is required of a string is required in place
 pub asked-in_place : (P : ℕ → Type 0) (X : Position) → AllByRecursion P (in_place X)
     → AllByRecursion P (asked_of_string X)
 asked-in_place P (Same q) h = h

@@ -1,5 +1,5 @@
--- What a reader must believe: what a plan is by which the truths of positions at a name are told one after another, and
--- which lists of atoms mention the same ones in the same order.
+-- What a reader must believe: what a plan is, by which the truths of positions at a name are found one after another,
+-- and which lists of atoms mention the same ones in the same order.
 pub mod Plans
 -- Used inside: how the positions that a position asks are found, and what stands in a plan's room.
 pub mod Searches

@@ -1,4 +1,4 @@
--- Plans by which the truths of positions at a name are told one after another.
+-- Plans by which the truths of positions at a name are found one after another.
 use Rattle.std.specs.Prelude.{◌≡◌, ℕ, List, [], ◌∷◌, ◌++◌, flat_map, length, Bool, true, false, not, ◌&&◌, nat_eq, nat_lt, nat_le, get_or}
 use Rattle.documents.specs.Tests.{every, some}
 use Rattle.word_states.specs.Atom.{Atom}
@@ -7,7 +7,7 @@ use Rattle.positions.specs.Position.{Position, Words, Match, LengthMin, LengthMa
 use Rattle.name_truths.specs.NameTruth.{asked_of_string, own_atoms}
 
 pub record Plan : Type 0 where
-  -- the position that is asked for
+  -- the position whose truth the plan finds
   pub root : ℕ
   -- the positions that are an atom, or say that a word hasn't one
   pub leaves : List ℕ
@@ -31,7 +31,7 @@ asks_earlier T seen (p ∷ ps) =
     every (has_place seen) (asked_of_string (position_at T p)) && asks_earlier T (seen ++ p ∷ []) ps
 
 pub record IsPlan (T : List Position) (plan : Plan) : Type 0 where
-  -- its positions are in the table, and the one that is asked for is among them
+  -- its positions are in the table, and the root is among them
   pub leaves_within : every (λ q. nat_lt q (length T)) plan.leaves ≡ true
   pub inner_within : every (λ q. nat_lt q (length T)) plan.inner ≡ true
   pub has_root : has_place (plan.leaves ++ plan.inner) plan.root ≡ true

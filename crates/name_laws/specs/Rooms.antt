@@ -8,7 +8,7 @@ use Rattle.name_truths.specs.NameTruth.{name_holds}
 abbrev pub truth_at : List Bool → ℕ → Bool
 truth_at room q = get_or room q false
 
--- the room tells right whether the position holds
+-- the room says rightly whether the position holds
 abbrev pub is_right : List Position → (Atom → Bool) → List Bool → ℕ → Bool
 is_right T truth room q = beq (truth_at room q) (name_holds T truth q)
 

@@ -8,7 +8,8 @@ use Rattle.positions.specs.NameFormula.{NameFormula}
 use Rattle.goals.specs.Signed.{Signed, position_of}
 use Rattle.name_truths.specs.NameTruth.{atoms}
 
--- what a position says of the name of a member: that it is one name, that it is in a set, or that a position holds of it
+-- what a position says of the name of a member: that it is one name, that it is in a set, or that a position holds of
+-- it
 abbrev pub formula_of : Position → Option NameFormula
 formula_of (Has n) = Some (F.Is n)
 formula_of (MembersOf s q) = Some (F.In s)

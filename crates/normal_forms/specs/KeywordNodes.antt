@@ -71,13 +71,13 @@ groups ds =
     (both (one_of_kind Text Words (once same_word (filter_map word_in ds)))
     (each value_node (P.filter is_container ds)))))
 
--- a schema for each element; or schemas in order, and what is asked of all further elements
+-- a schema for each element; or schemas in order, and what is required of all further elements
 abbrev pub items_node : Option ℕ → ItemsPart → Maker
 items_node rest (Each e) = node (Q.Items [] e)
 items_node (Some e) (Listed es) = node (Q.Items es e)
 items_node None (Listed es) = above (λ qs. Q.Items es (the_one qs)) (node True)
 
--- where the first holds, the second is asked
+-- where the first holds, the second is required
 abbrev pub depends_of : List ℕ → Position
 depends_of (h ∷ q ∷ []) = Depends h q
 depends_of _ = False
@@ -139,7 +139,7 @@ module _ (tree_of : List ℕ → Tree) where
   count_nodes k =
       both (if_some (λ n. node (PropsMin n)) k.min_properties) (if_some (λ n. node (PropsMax n)) k.max_properties)
 
-  -- of schemas that are asked of the same document
+  -- of schemas that apply to the same document
   abbrev pub in_place_nodes : Keywords → Maker
   in_place_nodes k =
       both (if_some (λ es. node (All es)) k.all_of)

@@ -21,14 +21,14 @@ last_of [] = 0
 last_of (q ∷ []) = q
 last_of (q ∷ r ∷ rs) = last_of (r ∷ rs)
 
--- the last number is asked of all elements after those that the others speak of
+-- the last position is required of all elements after those that the others speak of
 abbrev pub items_of : List ℕ → Position
 items_of qs = Items (but_last qs) (last_of qs)
 
 abbrev pub names_of : Members → List (List ℕ)
 names_of ms = map (λ m. m.0) (entries ms)
 
--- the member of that name has a value that is asked for
+-- the member of that name has a value that meets the position
 abbrev pub member_of : List ℕ → List ℕ → Position
 member_of k qs = MembersOf (Named k) (the_one qs)
 

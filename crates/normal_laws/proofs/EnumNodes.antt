@@ -332,6 +332,7 @@ module _ (T : List Position) (holds : ℕ → Document → Bool) (meaning : IsMe
       (tests_of same_document (filter is_container ds)) (words_made (once same_word (filter_map word_in ds)))
       (values_make (filter is_container ds) (every-filter is_container is_document ds h)))))
 
+  -- one of the groups of an `enum` is met exactly where the document equals one of the values
   pub enum_makes : (ds : List Document) → every is_document ds ≡ true
       → Makes T holds (above Any (groups ds)) ((λ J. some (λ d. same_document d J) ds) ∷ [])
   enum_makes ds h =

@@ -1,5 +1,5 @@
--- What is appended names what stands before it: of the same document its own nodes and the entries that are asked in
--- place, of parts any position before it.
+-- What is appended names what stands before it: of the same document its own nodes and the entries that apply in place,
+-- of parts any position before it.
 use Rattle.std.proofs.Common.{◌≡◌, ℕ, suc, ◌+◌, ◌<◌, ◌≤◌, ◌⊎◌, inl, inr, List, [], ◌∷◌, ◌++◌, length, true, refl, sym, subst, arith, add-zero}
 use Rattle.std.specs.List.{AllByRecursion}
 use Rattle.documents.specs.Document.{Document, null, boolean, number, string, array, object, Items, no_items, item, Members, no_members, member, elements}

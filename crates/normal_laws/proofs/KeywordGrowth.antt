@@ -306,6 +306,7 @@ module _ (In : ℕ → Type 0) (first : ℕ) (some_entry : 0 < first) (below_fir
         (grows-known (λ es. node (One es)) all In k.one_of here.one_of (λ es h. naming (One es) h tt refl))
         (grows-known (λ e. node (Not e)) one In k.not here.negated (λ e h. naming (Not e) h tt refl))))
 
+    -- the nodes of keywords name only entries and nodes that stand before them
     pub keywords_grow : IsGrown (keyword_nodes tree_of k)
     keywords_grow =
         two (any_nodes tree_of k) _ anys_grow (two (number_nodes tree_of k) _ numbers_grow

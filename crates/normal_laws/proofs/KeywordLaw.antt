@@ -294,7 +294,7 @@ module _ (T : List Position) (holds : ℕ → Document → Bool) (meaning : IsMe
       ∙ ap₂ ◌&&◌ (pass-one (λ n. at_object (λ ms. nat_le n (length ms))) k.min_properties J)
       (pass-one (λ n. at_object (λ ms. nat_le (length ms) n)) k.max_properties J)
 
-  -- members and then their number: what is asked of objects
+  -- members and then their number: what is required of objects
   objects_pass : (J : Document) → (all_pass member_tests J && all_pass count_tests J)
       ≡ at_object (asks_object matches (here J) below k) J
   objects_pass J = ap₂ ◌&&◌ (members_split J) (counts_split J) ∙ by_kind J where
@@ -388,7 +388,7 @@ module _ (T : List Position) (holds : ℕ → Document → Bool) (meaning : IsMe
       ∙ ap₂ ◌&&◌ (pass-one (λ es J. exactly_one (here J) es) k.one_of J)
       (pass-one (λ e J. not (here J e)) k.not J)))
 
-  -- what is asked of every document, and of schemas at the same document
+  -- what is required of every document, and by schemas that apply to the same document
   everywhere_pass : (J : Document) → (all_pass any_tests J && all_pass in_place_tests J)
       ≡ asks_any matches (here J) below k J
   everywhere_pass J = ap₂ ◌&&◌ (any_split J) (in_place_split J)

@@ -230,6 +230,7 @@ module _ (T : List Position) (holds : ℕ → Document → Bool) (meaning : IsMe
   abbrev pub named_test : (List ℕ → List ℕ → Bool) → List ℕ × ℕ → Document → Bool
   named_test goes n = members_test (goes n.0) n.1
 
+  -- the nodes of listed names ask of members what the names' schemas ask of those that they go for
   pub named_pass : (goes : List ℕ → List ℕ → Bool) (ns : List (List ℕ × ℕ)) (J : Document)
       → all_pass (tests_of (named_test goes) ns) J ≡ at_object (each_asks goes below ns) J
   named_pass goes [] null = refl

@@ -32,6 +32,7 @@ module _ (T : List Position) (holds : ℕ → Document → Bool) (meaning : IsMe
   pub makes-nothing : Makes T holds nothing []
   makes-nothing n s = tt
 
+  -- a node makes the test that its position asks
   pub makes-node : (P : Position) (p : Document → Bool)
       → ((J : Document) → is_document J ≡ true → asks (λ q. holds q J) holds P J ≡ p J)
       → Makes T holds (node P) (p ∷ [])
@@ -41,6 +42,7 @@ module _ (T : List Position) (holds : ℕ → Document → Bool) (meaning : IsMe
   pub makes-entry : (e : ℕ) → Makes T holds (entry e) (holds e ∷ [])
   makes-entry e n s = (λ J d. refl, tt)
 
+  -- two makers, one after the other, make the tests of both
   pub makes-both : (f g : Maker) (ps ts : List (Document → Bool)) → Makes T holds f ps → Makes T holds g ts
       → Makes T holds (both f g) (ps ++ ts)
   makes-both f g ps ts a b n s =

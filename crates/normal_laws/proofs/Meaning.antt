@@ -15,6 +15,7 @@ use Rattle.normal_forms.specs.NormalForm.{table_of, ranks_of}
 use Rattle.normal_laws.proofs.NormalLaw.{holds-valid}
 use Rattle.normal_laws.proofs.TableLaw.{is_table-normal, more_positions}
 
+-- the position of an entry holds of the documents that are valid for the entry
 pub normal-valid : (tree_of : List ℕ → Tree) (es : List Entry) → is_table es ≡ true → (ranks : List ℕ)
     → are_ranks (edges es) ranks ≡ true → length (table_of tree_of es) < 2 ^ 32 → (e : ℕ) (J : Document) → e < length es
     → is_document J ≡ true → holds (table_of tree_of es) e J ≡ entry_valid (λ t. finds (tree_of t)) es e J

@@ -40,6 +40,7 @@ stands_after A (x ∷ B) =
       at_end (y ∷ A) = at_end A
 
 module _ (tree_of : List ℕ → Tree) where
+  -- each entry has one position
   pub length-entry_positions : (n : ℕ) (es : List Entry) → length (entry_positions tree_of n es) ≡ length es
   length-entry_positions n [] = refl
   length-entry_positions n (e ∷ es) =
@@ -151,7 +152,7 @@ module _ (tree_of : List ℕ → Tree) (es : List Entry) (table : is_table es �
   abbrev valid : ℕ → Document → Bool
   valid = entry_valid (λ t. finds (tree_of t)) es
 
-  -- what is asked of a part: of a document what its position asks, and of what is none what validity asks
+  -- what is required of a part: of a document what its position asks, and of what is none what validity asks
   abbrev of_part : ℕ → Document → Bool
   of_part q K = cond (is_document K) (holds q K) (valid q K)
 

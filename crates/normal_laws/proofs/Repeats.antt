@@ -65,8 +65,10 @@ module _ {A : Type 0} (same : A → A → Bool) (same-eq : (x y : A) → same x 
         by_test false e skipped kept =
             rw e (and-moves (p x) (every p (once_among same (x ∷ done) xs)) (every p xs) (every p done) kept)
 
+  -- dropping repeats changes no test of some element
   pub some-once : (xs : List A) → some p (once same xs) ≡ some p xs
   some-once xs = sym (or-false (some p (once same xs))) ∙ some-among [] xs ∙ or-false (some p xs)
 
+  -- dropping repeats changes no test of all elements
   pub every-once : (xs : List A) → every p (once same xs) ≡ every p xs
   every-once xs = sym (and-true (every p (once same xs))) ∙ every-among [] xs ∙ and-true (every p xs)

@@ -4,7 +4,7 @@ use Rattle.positions.specs.Position.{Position, NumMin, NumMax, Multiple, NumIn, 
 use Rattle.goals.specs.Signed.{Signed, Plus, Minus}
 use Rattle.number_groups.specs.Group.{Group}
 
--- what is asked of a whole number
+-- a requirement on a whole number
 pub data Ask : Type 0 where
   AtLeast : ℤ → Ask
   AtMost : ℤ → Ask

@@ -29,7 +29,7 @@ pub record IsFirst (limit m : ℕ) (g : Group) (x : ℤ) : Type 0 where
   pub tried : IsTried m g count
   pub before : (j : ℕ) → j < count → IsStruckAt m g j
 
--- x meets the group; it is the first candidate to do so, or the first value of the first set that is asked for
+-- x meets the group; it is the first candidate to do so, or the first value of the first required set
 pub record IsFound (limit m : ℕ) (g : Group) (x : ℤ) : Type 0 where
   pub meets : is_met g x ≡ true
   pub first : g.sets ≡ [] → IsFirst limit m g x

@@ -4,7 +4,7 @@ use Rattle.std.specs.List.{list_all, list_any}
 use Rattle.documents.specs.Numbers.{has}
 use Rattle.number_groups.specs.Multiples.{is_multiple}
 
--- bounds that count where they are given, divisors and sets that are asked for, and those that are ruled out
+-- bounds that count where they are given, divisors and sets that are required, and those that are ruled out
 pub record Group : Type 0 where
   pub low : Option ℤ
   pub high : Option ℤ
@@ -31,7 +31,7 @@ is_listed sets x = list_any (λ s. has s x) sets
 abbrev pub is_struck : Group → ℤ → Bool
 is_struck g x = list_any (λ m. is_multiple m x) g.not_multiples || is_listed g.not_sets x
 
--- x is within the bounds, a multiple of each divisor that is asked for, and in each set that is asked for
+-- x is within the bounds, a multiple of each required divisor, and in each required set
 abbrev pub is_asked : Group → ℤ → Bool
 is_asked g x =
     is_above g.low x && is_below g.high x

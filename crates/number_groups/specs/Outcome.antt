@@ -77,7 +77,7 @@ abbrev pub found : Option ℤ → Cases
 found (Some x) = Found x
 found None = Empty
 
--- in a set that is asked for, the first value in its order that meets the group
+-- in a required set, the first value in its order that meets the group
 abbrev pub answer_in : ℕ → Group → List (List ℤ) → Cases
 answer_in limit g (s ∷ ss) = found (find (is_met g) s)
 answer_in limit g [] = answer_of_multiples limit (lcm_of g.multiples) g

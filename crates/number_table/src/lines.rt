@@ -1,9 +1,8 @@
 //! A number group as a line of text.
 //!
-//! A line has six words: the lower and the upper bound, the divisors that are asked for and those that are ruled
-//! out, the sets that are asked for and those that are ruled out. A word is `-` for none. Numbers are parted by
-//! commas, sets by semicolons, and in a set `a..b` stands for all numbers from a to b. A set that has none is
-//! `empty`.
+//! A line has six words: the lower and the upper bound, the divisors that are required and those that are ruled out,
+//! the sets that are required and those that are ruled out. A word is `-` for none. Numbers are parted by commas, sets
+//! by semicolons, and in a set `a..b` stands for all numbers from a to b. A set that has none is `empty`.
 
 ghost use Rattle.std.specs.Prelude.{◌≡◌, nat_lt};
 ghost use Rattle.std.specs.List.{list_all};

@@ -74,7 +74,7 @@ module _ (T : List Position) (frame : Frame) (d : ℕ) where
   for_in (x ∷ ms) (J ∷ Js) a m (inr i) = let (K, j, k) = for_in ms Js a.1 m i in (K, inr j, k)
   for_in (x ∷ ms) [] a m i = absurd a
 
-  -- of what is met at a place, what is asked of each, and of one that serves
+  -- what serves demands at a place meets what is required of each thing there
   pub each_met : (c : ℕ) (ds : List Signed) (J : Document) → IsFor c ds J
       → meets T (flat_map (frame.each (In c)) frame.set) J ≡ true
   each_met c ds J k = every_from _ (flat_map (frame.each (In c)) frame.set) (λ y i.
@@ -144,7 +144,7 @@ module _ (T : List Position) (S : List Signed) (C : Cells) (laws : AreWords T C)
       sorted_length es ∙ named_length C [] vs ∙ length-append (with_cells q.members Js) fs
       ∙ omega (arith, for_length T frame d q.members Js a, b.enough, size_is)
 
-  -- a value: its cell is one of the frame's, and it meets what is asked there
+  -- a value: its cell is one of the frame's, and it meets what is required there
   value_at : (v : ℕ × Document) → IsIn v vs → IsIn v.0 frame.cells × ((ds : List Signed) × IsFor T frame d v.0 ds v.1)
   value_at v i = ⊎_elim
       (λ j. let (m, h, e, f) = for_from T frame d q.members Js a v j in (

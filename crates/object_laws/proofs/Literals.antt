@@ -27,6 +27,7 @@ module _ (T : List Position) (here : ℕ → Bool) (ms : Members) where
   abbrev n : ℕ
   n = length (entries ms)
 
+  -- an object has what a literal that is to hold says: its count, allowed names, values, and a member that serves
   pub record IsPlus (P : Position) : Type 0 where
     pub low : plus_lower P ≤ length (entries ms)
     pub high : is_at_end (length (entries ms)) (plus_below P) ≡ false
@@ -34,6 +35,7 @@ module _ (T : List Position) (here : ℕ → Bool) (ms : Members) where
     pub each : (m : List ℕ × Document) → IsIn m (entries ms) → meets T (plus_each (Says P m.0) P) m.1 ≡ true
     pub served : plus_wants P ≡ true → (m : List ℕ × Document) × IsIn m (entries ms) × (Says P m.0 ≡ true)
 
+  -- an object has what a literal that isn't to hold says: its count, allowed names, and a member that serves
   pub record IsMinus (P : Position) : Type 0 where
     pub low : minus_lower P ≤ length (entries ms)
     pub high : is_at_end (length (entries ms)) (minus_below P) ≡ false

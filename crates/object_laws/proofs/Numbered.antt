@@ -24,6 +24,7 @@ use Rattle.cell_laws.specs.RightCells.{IsOf, AreWords}
 abbrev pub Entry : Type 0
 Entry = List ℕ × Document
 
+-- the member of that number
 abbrev pub entry_at : List Entry → ℕ → Entry
 entry_at [] j = ([], null)
 entry_at (m ∷ es) zero = m
@@ -163,7 +164,7 @@ module _ (T : List Position) (ok : IsTable T) (S : List Signed) (C : Cells) (bou
     formed = λ j l h e. formed j l e;
   }
 
-  -- and back
+  -- the converse: where the arrangement is arranged, the entries are
   pub are_arranged : IsArranged T (object_frame_with bounds rooms T C S) (arrangement T (cell_of T C) (entries ms))
       → AreArranged T (object_frame_with bounds rooms T C S) (cell_of T C) (entries ms)
   are_arranged k = record {

@@ -128,6 +128,7 @@ module _ (C : Cells) where
             (filler_slots can child (n - f.room) fs))
 
     module _ (T : List Position) (frame : Frame) (q : Plan) where
+      -- the names of values are those of the slots of the plan's members and fillers
       pub slots_named : Distinct frame.cells
           → named C [] (values can child T frame q)
           ≡ map (at_slot C)

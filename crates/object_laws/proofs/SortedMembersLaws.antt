@@ -89,6 +89,7 @@ abbrev pub AreFit : List (List ℕ × Document) → Type 0
 AreFit [] = Unit {0}
 AreFit (m ∷ ms) = (every is_scalar m.0 ≡ true) × (is_document m.1 ≡ true) × AreFit ms
 
+-- a member of the sorted list is one of the list
 pub in_sorted : (m : List ℕ × Document) (ms : List (List ℕ × Document)) → IsIn m (entries (sorted ms)) → IsIn m ms
 in_sorted m [] i = absurd i
 in_sorted m (x ∷ ms) i = ⊎_elim (λ e. inl e) (λ j. inr (in_sorted m ms j)) (in_put m x.0 x.1 (sorted ms) i)

@@ -93,5 +93,6 @@ width_of-limit : (n : ℕ) (s : List (ℕ × ℕ)) → n ≡ 0x110000 → are_ra
 width_of-limit n s e h =
     width_of-counts n 0 s (rises-are_ranges 0 s h) (ends_below n s e (ends-are_ranges 0 s h))
 
+-- the width of a set is the number of its members
 pub width_of-count : (s : List (ℕ × ℕ)) → are_ranges 0 s ≡ true → width_of s ≡ count_below (has s) 0x110000
 width_of-count s h = width_of-limit 0x110000 s refl h

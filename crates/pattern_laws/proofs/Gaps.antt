@@ -153,6 +153,7 @@ module _ (s : List (ℕ × ℕ)) (h : are_ranges 0 s ≡ true) where
   unfolding whole
   ends-whole = ends-with_range (0xd800, 0xdfff) s (omega arith) (ends-are_ranges 0 s h)
 
+  -- the complement is a list of ranges in their one form
   pub are_ranges-complement_of : are_ranges 0 (complement_of s) ≡ true
   unfolding whole
   are_ranges-complement_of =
@@ -160,6 +161,7 @@ module _ (s : List (ℕ × ℕ)) (h : are_ranges 0 s ≡ true) where
       (λ n _ x y. has-whole n
       ∙ or_left _ (has s n) (and_from _ _ (le-leb 0xd800 n x) (le-leb n 0xdfff (omega arith))))
 
+  -- the complement has just the scalar values that the set hasn't
   pub has-complement_of : (n : ℕ) → has (complement_of s) n ≡ is_scalar n && not (has s n)
   unfolding whole
   has-complement_of n =

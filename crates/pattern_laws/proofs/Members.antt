@@ -9,6 +9,7 @@ abbrev pub Rises : ℕ → List (ℕ × ℕ) → Type 0
 Rises low [] = Unit {0}
 Rises low (r ∷ rs) = (low ≤ r.0) × (r.0 ≤ r.1) × Rises (r.1 + 2) rs
 
+-- ranges that pass the test rise, with gaps between them
 pub rises-are_ranges : (low : ℕ) (rs : List (ℕ × ℕ)) → are_ranges low rs ≡ true → Rises low rs
 rises-are_ranges low [] h = tt
 rises-are_ranges low (r ∷ rs) h =

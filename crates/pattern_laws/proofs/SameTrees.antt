@@ -122,6 +122,7 @@ mutual
       let both = and_parts (same_tree t u) (same_trees ts us) h in
       ap₂ tree (same_tree-eq t u both.0) (same_trees-eq ts us both.1)
 
+-- the test on two trees decides whether they are equal
 pub same_tree-Decides : (t u : Tree) → Decides (same_tree t u) (t ≡ u)
 same_tree-Decides t u = (same_tree-eq t u, λ e. ap (λ v. same_tree t v) (sym e) ∙ same_tree-refl t)
 

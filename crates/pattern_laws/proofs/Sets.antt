@@ -79,6 +79,7 @@ is_range-joined a b c d h k p q = grind (arith, nat_tests)
 pub is_range-up : (r : ℕ × ℕ) → is_range r ≡ true → r.0 ≤ r.1
 is_range-up r h = grind (arith, nat_tests)
 
+-- a range ends at the last code point at most
 pub is_range-below : (r : ℕ × ℕ) → is_range r ≡ true → r.1 < 0x110000
 is_range-below r h = grind (arith, nat_tests)
 

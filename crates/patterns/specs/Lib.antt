@@ -2,7 +2,7 @@
 pub mod CharSet
 pub mod Tree
 pub mod Match
--- The same by computing: where a match can end, and whether a word has one.
+-- Matching by computing: where a match can end, and whether a word has one.
 pub mod Decision
 -- When two trees are the same, as a test.
 pub mod SameTree

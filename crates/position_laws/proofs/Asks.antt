@@ -49,7 +49,7 @@ module _ (here here' : ℕ → Bool) (below below' : ℕ → Document → Bool) 
   asks-same (NamesIn q) _ h n b = refl
   asks-same _ J h n b = refl
 
--- with other names a position asks of them what it asked of the old ones
+-- a renamed position asks of the new numbers what it asks of the old ones
 pub asks-renamed : (f : ℕ → ℕ) (here : ℕ → Bool) (below : ℕ → Document → Bool) (P : Position) (J : Document)
     → asks here below (renamed f P) J ≡ asks (λ q. here (f q)) (λ q. below (f q)) P J
 asks-renamed f here below (All qs) J = every-map here f qs

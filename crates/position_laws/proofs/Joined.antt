@@ -203,6 +203,7 @@ module _ (A B : List Position) (ra rb : List ℕ) (a : is_table A ra ≡ true) (
   pub joined-IsTable : 0 < length (joined A B) → IsTable (joined A B)
   joined-IsTable l = is_table-IsTable (joined A B) (ra ++ rb) (is_table-joined A B ra rb a b) l
 
+  -- a position of the first table holds in the joined table of what it holds of in its own
   pub holds-joined_left : (p : ℕ) (J : Document) → p < length A → holds (joined A B) p J ≡ holds A p J
   holds-joined_left p J l =
       let longer = length-joined A B in
@@ -212,6 +213,7 @@ module _ (A B : List Position) (ra rb : List ℕ) (a : is_table A ra ≡ true) (
       position_at-append_left A (map (moved (length A)) B) q m ∙ sym (renamed-itself (position_at A q)))
       p J l
 
+  -- a position of the second table holds in the joined table, moved past the first, of what it holds of in its own
   pub holds-joined_right : (p : ℕ) (J : Document) → p < length B
       → holds (joined A B) (length A + p) J ≡ holds B p J
   holds-joined_right p J l =

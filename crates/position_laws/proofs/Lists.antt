@@ -8,6 +8,7 @@ use Rattle.documents.specs.Measures.{exactly_one}
 
 -- facts of each element
 
+-- what all of a list have, they have where it is weakened
 pub all-weaker : {A : Type 0} (P Q : A → Type 0) (xs : List A) → ((x : A) → P x → Q x)
     → AllByRecursion P xs → AllByRecursion Q xs
 all-weaker P Q [] f h = tt

@@ -15,9 +15,11 @@ members-lower : (ms : Members) (n : ℕ) → members_depth ms < n → AllByRecur
 members-lower no_members n l = tt
 members-lower (member k d ms) n l = (omega arith, members-lower ms n (omega arith))
 
+-- elements are of lesser depth than their array
 pub elements-depth : (ds : Items) → AllByRecursion (λ d. depth d < depth (array ds)) (elements ds)
 elements-depth ds = items-lower ds (depth (array ds)) (omega arith)
 
+-- values of members are of lesser depth than their object
 pub entries-depth : (ms : Members) → AllByRecursion (λ m. depth m.1 < depth (object ms)) (entries ms)
 entries-depth ms = members-lower ms (depth (object ms)) (omega arith)
 

@@ -8,6 +8,7 @@ use Rattle.position_laws.specs.Plain.{is_untyped, is_plain}
 use Rattle.position_laws.proofs.Lists.{all-everywhere, every-all, every-map, every-append, every-same}
 use Rattle.position_laws.proofs.Tables.{position_at-all}
 
+-- in a plain table no position is typed
 pub is_plain-untyped : (T : List Position) → is_plain T ≡ true → (p : ℕ) → is_untyped (position_at T p) ≡ true
 is_plain-untyped T e p = position_at-all (λ P. is_untyped P ≡ true) refl T (every-all is_untyped T e) p
 

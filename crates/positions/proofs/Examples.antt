@@ -315,7 +315,7 @@ greatest_bounds = refl
 no_divisor : is_alone (P.Multiple 0) ∷ is_alone (P.Multiple 1) ∷ [] ≡ false ∷ true ∷ []
 no_divisor = refl
 
--- what is asked of names
+-- what is required of names
 
 name_formulas : map (λ f. name_meets (Types (Text ∷ []) ∷ P.LengthMin 2 ∷ []) f (codes "a"))
     (Is (codes "a") ∷ Is (codes "b") ∷ In (Matching letter_a) ∷ In (Named (codes "b")) ∷ Holds 0 ∷ Holds 1 ∷ [])

@@ -1,5 +1,5 @@
--- What a reader must believe: what each kind of position asks of a document, which lists are tables, and what is asked
--- of names.
+-- What a reader must believe: what each kind of position asks of a document, which lists are tables, and what is
+-- required of names.
 pub mod Position
 pub mod Holds
 pub mod NameFormula

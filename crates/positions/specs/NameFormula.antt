@@ -1,4 +1,4 @@
--- What is asked of the name of a member.
+-- What is required of the name of a member.
 use Rattle.std.specs.Prelude.{ℕ, List, Bool}
 use Rattle.documents.specs.Tests.{same_word}
 use Rattle.documents.specs.Document.{string}

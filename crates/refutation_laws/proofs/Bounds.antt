@@ -128,7 +128,7 @@ module _ (T : List Position) (S : List Signed) (L : List (List ℕ)) (rows : Are
         (has_row T (atoms_of_names T S) L (stated Stated) Found c) (label c) r) (label c r)
         (let e = asked_equal r l in omega (arith, e))))
 
-  -- all of them, one after another
+  -- the bounds of all cells, one after another
 
   -- the bounds that are stated, the last one first
   abbrev pub stack : List ℕ → List Bound → List Bound

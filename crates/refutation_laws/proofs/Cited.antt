@@ -184,6 +184,7 @@ module _ (number : List Signed → Option ℕ) where
         fine_more (L.At t) (tree_lines (leaf_lines number T t) (steps T t g)) nothing
         (fine_each (step_lines (leaf_lines number T t)) (steps T t g) (λ s i. step_fine t s))
 
+    -- the lines of a goal cite numbers of goals alone
     pub cited_numbers : (g : List Signed) (j : ℕ) → IsIn j (cited (goal_lines number T g)) → IsNumber j
     unfolding goal_lines
     cited_numbers g j i =

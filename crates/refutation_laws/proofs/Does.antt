@@ -8,6 +8,7 @@ use Rattle.verdicts.specs.Duties.{Duty, after, run}
 use Rattle.list_laws.specs.In.{IsIn}
 
 module _ (T : List Position) (cite : ℕ → List Signed → Bool) where
+  -- the lines leave nothing of the duty, whatever duties and lines come after
   abbrev pub Does : Duty → List Line → Type 0
   Does d ls = (ds : List Duty) (ms : List Line) → run T cite (d ∷ ds) (ls ++ ms) ≡ run T cite ds ms
 

@@ -133,6 +133,7 @@ module _ (most most_places : ℕ) (expansion : List Signed → Expansion) where
   few_after zero s h = h
   few_after (suc n) s h = step_few (after most most_places expansion n s) (few_after n s h)
 
+  -- no more goals are explored than may be
   pub explored_few : (root : List Signed) → 0 < most → length (explored most most_places expansion root).goals ≤ most
   unfolding explored
   explored_few root l = few_after most (found (root ∷ []) 0 0 None) (omega (arith, l))

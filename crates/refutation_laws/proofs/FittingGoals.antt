@@ -155,6 +155,7 @@ module _ (T : List Position) (ok : IsTable T) (few : length T ≤ 4294967296) wh
           let (k, (more, e, up)) = expansion_has T (leaf (finders_of T) T) g hole t B j in
           leaf_fits rename low number T B (set_length t B inside rising full) t k more e))
 
+      -- the lines of a goal without hole are in the grammar
       pub goal_fits : (g : List Signed) → (expansion_of T g).hole ≡ None → IsInside g → is_rising g ≡ true
           → AllFit rename low (goal_lines number T g)
       unfolding goal_lines

@@ -310,6 +310,7 @@ module _ (rename : ℕ → ℕ) (low : (k : ℕ) → rename k < 100000) where
             objects_fit (few_rows (atoms_of_names T S) p)
             (subst (λ f. ends (plan_steps T f) ≤ 65536) (sym q) planned)
 
+    -- the lines of a leaf that passes no limit are in the grammar
     pub leaf_fits : (t : Kind) (k : ℕ) (more : List Alternative) → leaf (finders_of T) T t k S ≡ Ok more
         → All (leaf_lines number T t S)
     leaf_fits K.Null k more e = fit_none rename low

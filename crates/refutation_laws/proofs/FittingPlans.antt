@@ -132,6 +132,7 @@ IsLow OfArrays frame p = (heads_placed frame p ≤ 4294967296) × (length p.memb
 IsLow OfObjects frame p = heads_placed frame p + length p.members ≤ 4294967296
 
 module _ (rename : ℕ → ℕ) (low : (k : ℕ) → rename k < 100000) where
+  -- each of the lines, renumbered, is in the grammar
   abbrev pub AllFit : List Line → Type 0
   AllFit ls = (l : Line) → IsIn l ls → Fits rename low l
 

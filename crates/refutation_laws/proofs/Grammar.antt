@@ -142,6 +142,7 @@ module _ (T : List Position) (ok : IsTable T) (few : length T ≤ 4294967296) (g
       good_text (certificate goals lines)
       (certificate_good (listed goals lines) (let l = h.few in omega (arith, l, count)) h.dead)
 
+-- the certificate of a root that clashes is in the grammar
 pub clash_text : IsText (lines_text empty_certificate) empty_certificate
 clash_text = good_text empty_certificate
     (good_more L.Version (L.Goals 0 ∷ L.End ∷ []) (refl, refl)

@@ -102,6 +102,7 @@ module _ (extend : ℕ → List ℕ) (n : ℕ) (some : 0 < n)
   pub listed_from : (k : ℕ) → IsIn k (Grown n) → (k ≡ 0) ⊎ ((m : ℕ) × IsIn k (extend m))
   listed_from = (grown n).origin
 
+  -- no more numbers are listed than there are goals
   pub few_listed : length (Grown n) ≤ n
   few_listed = pigeon 0 n (Grown n) (grown n).apart
       (λ k i. (omega arith, (let l = (grown n).below k i in omega (arith, l))))

@@ -76,6 +76,7 @@ module _ (ks more : List ℕ) where
   line_stays (L.Short es) h = ap L.Short (entries_stay es h)
   line_stays _ h = refl
 
+  -- lines whose citations are listed stay the same when more is listed
   pub lines_stay : (ls : List Line) → AreListed (cited ls)
       → map (renamed (place_of (ks ++ more))) ls ≡ map (renamed (place_of ks)) ls
   lines_stay [] h = refl

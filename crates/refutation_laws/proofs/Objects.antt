@@ -123,6 +123,7 @@ module _ (T : List Position) (S : List Signed) (cite : ℕ → List Signed → B
   end_not : (b : Bool) → b ≡ true → b ≡ false → ⊥
   end_not b e f = cc
 
+  -- the lines of a set at objects do its duty, where no alternative of its leaf is met
   pub objects_do : (k : ℕ) (more : List Alternative) → is_at_end (O.lower T S) (O.below T S) ≡ false
       → object_leaf T k S (cells_of T S) ≡ Ok more
       → ((a : Alternative) → IsIn a more → is_met (can number) a ≡ false)

@@ -86,6 +86,7 @@ module _ (T : List Position) (S : List Signed) (cite : ℕ → List Signed → B
       let q = ok_same (array_frame T S) o.frame (Ok (array_frame T S)) refl o.is_frame in
       subst (λ f. more ≡ map (make k f) (complete (plan_steps T f))) (sym q) o.is
 
+  -- the lines of a set at arrays do its duty, where no alternative of its leaf is met
   pub arrays_do : (k : ℕ) (more : List Alternative) → is_at_end (A.lower T S) (A.below T S) ≡ false
       → array_leaf T k S ≡ Ok more
       → ((a : Alternative) → IsIn a more → is_met (can number) a ≡ false)

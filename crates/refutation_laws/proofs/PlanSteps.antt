@@ -1,4 +1,4 @@
--- The lines of a tree of plans, step by step, as a walk through the tree tells the steps.
+-- The lines of a tree of plans, step by step, as a walk through the tree gives the steps.
 use Rattle.std.proofs.Common.{◌≡◌, ℕ, true, false, cond, List, [], ◌∷◌, flat_map, length, Option, Some, None, ap, ◌∙◌}
 use Rattle.positions.specs.Position.{Position}
 use Rattle.goals.specs.Signed.{Signed}
@@ -17,6 +17,7 @@ module _ (number : List Signed → Option ℕ) (form : Form) (T : List Position)
   abbrev Tells : List Signed → List PlanStep → List Line → Type 0
   Tells left ss ls = (steps T frame left p ≡ ss) × (Lines left ≡ ls)
 
+  -- a plan that places more than there may be has its line
   pub over_line : (left : List Signed) → is_at_end (size frame p) frame.below ≡ true
       → Tells left (Over ∷ []) (L.Count ∷ [])
   over_line [] e = (
@@ -44,6 +45,7 @@ module _ (number : List Signed → Option ℕ) (form : Form) (T : List Position)
           ∙ ap (λ o. unless_clash number form T frame p o ls) e,
     )
 
+    -- a plan that places what clashes has the line that names it
     pub clash_line : (left : List Signed) (k : ℕ) → first_clash T frame p ≡ Some k
         → Tells left (Clashing k ∷ []) (at_line form frame p k L.Clashes ∷ [])
     clash_line [] k e = by_first (Some k) e (Complete p ∷ []) (complete_line number form T frame p ∷ [])
@@ -52,6 +54,7 @@ module _ (number : List Signed → Option ℕ) (form : Form) (T : List Position)
         (L.Split ∷ flat_map (lines_from number form T frame left) (options frame d p))
 
     module _ (clear : first_clash T frame p ≡ None) where
+      -- a plan with a demand left is split, by one line and those of its options
       pub split_line : (d : Signed) (left : List Signed)
           → Tells (d ∷ left)
           (Split (length (options frame d p)) ∷ flat_map (steps T frame left) (options frame d p))
@@ -61,5 +64,6 @@ module _ (number : List Signed → Option ℕ) (form : Form) (T : List Position)
           (Split (length (options frame d p)) ∷ flat_map (steps T frame left) (options frame d p))
           (L.Split ∷ flat_map (lines_from number form T frame left) (options frame d p))
 
+      -- a complete plan has its own line
       pub plan_line_is : Tells [] (Complete p ∷ []) (complete_line number form T frame p ∷ [])
       plan_line_is = by_first None clear (Complete p ∷ []) (complete_line number form T frame p ∷ [])

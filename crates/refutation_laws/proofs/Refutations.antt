@@ -168,7 +168,7 @@ module _ (T : List Position) (ok : IsTable T) (most most_places a b : ℕ) (root
         (let l = formed_short T (Plus a ∷ Minus b ∷ []) root is_root in omega (arith, l))) in
         leb-true (length g) 65536 (every_at is_narrow g f.goals h.are_good (get_in f.goals k g (place_is g k e)))
 
-    -- and it is in the grammar
+    -- the text is in the grammar
     pub found_text : most ≤ 65536 → length T ≤ 4294967296 → satisfied E f 0 ≡ None
         → IsText (lines_text (found_refutation E f T)) (found_refutation E f T)
     found_text low few none =
@@ -231,7 +231,7 @@ module _ (T : List Position) (ok : IsTable T) (a b : ℕ) (a_in : a < length T) 
   unfolding refutation
   refutation_text few = root_text T ok most_goals most_total a b (omega arith) a_in b_in decided (omega arith) few
 
-  -- so what is written of them is accepted
+  -- so the text that is written of the two positions is accepted
   pub written_accepted : length T ≤ 4294967296 → verdict_of_bytes T a b (lines_text (refutation T a b)) ≡ Accepted
   written_accepted few =
       verdict_of_text T a b (lines_text (refutation T a b)) (refutation T a b) (refutation_text few)

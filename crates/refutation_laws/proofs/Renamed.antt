@@ -169,6 +169,7 @@ module _ (T : List Position) (cite other : ℕ → List Signed → Bool) (rename
   line_again (OfPlan form frame p left) l es h e = plan_again form frame p left l es h e
   line_again _ _ es h e = cc
 
+  -- renumbered lines leave of duties what the lines leave
   pub run_again : (ds : List Duty) (ls : List Line) (es : List Duty) → AreKnown (cited ls)
       → run T cite ds ls ≡ Ok es → run T other ds (map (renamed rename) ls) ≡ Ok es
   run_again ds [] es h e = e

@@ -38,7 +38,7 @@ place_left same x (y ∷ L) X h = go (same x y) h (place_left same x L X) where
   go true h more = refl
   go false h more = ap (λ z. 1 + z) (more h)
 
--- and what it hasn't stands behind it
+-- a word that the list hasn't stands behind it
 place_next : {A : Type 0} (same : A → A → Bool) (laws : IsEquivalence same) (x : A) (L X : List A)
     → list_any (same x) L ≡ false → position_or_len (same x) (L ++ x ∷ X) ≡ length L
 place_next same laws x [] X h = ap (λ b. cond (not b) (1 + position_or_len (same x) X) 0) (laws.refl x)

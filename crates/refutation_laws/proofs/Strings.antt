@@ -193,6 +193,7 @@ module _ (T : List Position) (S : List Signed) where
       ∙ rows_done T cite ForLengths S L rows ds (C.Least (map length L) ∷ ms)
       ∙ ap (λ r. and_then (λ es. run T cite (es ++ ds) ms) r) (least_done h L rows few cite)
 
+  -- the lines of a set at strings do its duty, where no word is found
   pub strings_do : (cite : ℕ → List Signed → Bool) → is_at_end (lower T S) (below T S) ≡ false
       → strings_of T S ≡ Ok None
       → Does T cite (OfSet K.Text S) (string_lines T S)

@@ -75,6 +75,7 @@ module _ (T : List Position) (ok : IsTable T) (t : Kind) (cite : ℕ → List Si
       (tree_lines leaf (flat_map (λ C. steps T t (add_all C S)) cs))
       (ap₂ (λ z o. by_choices t S z o) i e) (choices_do S cs h b)
 
+  -- the lines of a tree do the duty of its set, where those of each branch do the branch's
   pub tree_does : (S : List Signed) → BranchesDo (steps T t S)
       → Does T cite (OfSet t S) (tree_lines leaf (steps T t S))
   tree_does S b = steps-induction T ok t TreeDoes up S b

@@ -26,7 +26,7 @@ cited_by _ = []
 abbrev pub cited : List Line → List ℕ
 cited ls = flat_map cited_by ls
 
--- the same lines with other numbers
+-- lines with their numbers of goals renamed
 module _ (rename : ℕ → ℕ) where
   abbrev pub renamed_ending : Ending → Ending
   renamed_ending Clashes = Clashes

@@ -25,6 +25,7 @@ lesser-assoc (Some m) None c = refl
 lesser-assoc (Some m) (Some k) None = refl
 lesser-assoc (Some m) (Some k) (Some n) = ap Some (lesser-more m k n)
 
+-- groups are put together in any grouping
 pub both-assoc : (f g h : Group) → both (both f g) h ≡ both f (both g h)
 both-assoc f g h =
     let low = greater-assoc f.low g.low h.low in

@@ -10,7 +10,7 @@ use Rattle.number_groups.specs.Multiples.{is_multiple}
 use Rattle.number_groups.specs.Group.{Group, is_above, is_below, is_struck, is_met}
 use Rattle.number_finder.specs.SetGroup.{Ask, AtLeast, AtMost, MultipleOf, NotMultipleOf, OneOf, NoneOf, Nothing, ask_at, group_of, greater, lesser, both, number_group}
 
--- n is what is asked
+-- n meets the requirement
 abbrev pub is_asked : ℤ → Ask → Bool
 is_asked n (AtLeast m) = int_le m n
 is_asked n (AtMost m) = int_le n m

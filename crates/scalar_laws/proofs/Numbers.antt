@@ -60,7 +60,7 @@ module _ (here : ℕ → Bool) (below : ℕ → Document → Bool) (n : ℤ) whe
   minus_met (NumIn ns) c w a = a
   minus_met _ c w a = cc
 
-  -- and what is met is asked
+  -- a number of which the position holds meets the requirement
   plus_asked : (P : Position) → asks here below P (number n) ≡ true → is_asked n (plus_ask P) ≡ true
   plus_asked (NumMin m) a = a
   plus_asked (NumMax m) a = a
@@ -102,7 +102,7 @@ module _ (T : List Position) (ok : IsTable T) where
       (every_at (λ x. is_asked n (ask_at T x)) x S each (has_in x S g)))
       full.chosen
 
-  -- and only there
+  -- a number that meets the set meets the group
   pub meets_group : (S : List Signed) (n : ℤ) → meets T S (number n) ≡ true → is_met (number_group T S) n ≡ true
   meets_group S n m =
       is_met-number_group T S n
@@ -138,6 +138,7 @@ module _ (T : List Position) (ok : IsTable T) where
     none_meets S e (array ds) k m = cc
     none_meets S e (object ms) k m = cc
 
+    -- the finder of numbers keeps the laws of finders
     pub numbers_finder : (words : List Signed → ℕ → ℕ → List ℕ) → IsFinder T K.Number words Number (numbers_of T)
     numbers_finder words = record {
       found = λ S full n e. (refl, omega arith, found_meets S full n e);

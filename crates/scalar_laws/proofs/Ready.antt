@@ -25,7 +25,7 @@ near_below : (n : ℤ) → int_le (negsuc (2 ^ 63 - 1)) n ≡ true → int_le n 
     → nat_le (unsigned_abs (n -ℤ pos 1)) (2 ^ 64) ≡ true
 near_below n a b = le-leb _ _ (grind (arith, ints))
 
--- each of what is asked has its range
+-- each requirement has its range
 
 abbrev is_fine : Ask → Bool
 is_fine (AtLeast n) = nat_le (unsigned_abs n) (2 ^ 64)

@@ -1,8 +1,8 @@
 //! Reads the schemas of its input and validates a document against each, and prints what came of it.
 //!
-//! A line of the input has a schema, a tab and a document, as JSON texts. In place of a document there may be the text of
-//! a table of parts, with tabs between its lines: its last part is validated. `cases.py` wrote the table, with the answers
-//! that are wanted.
+//! A line of the input has a schema, a tab and a document, as JSON texts. In place of a document there may be the text
+//! of a table of parts, with tabs between its lines: its last part is validated. `cases.py` wrote the table, with the
+//! answers that are wanted.
 #![tactic(auto)]
 
 mod answer;

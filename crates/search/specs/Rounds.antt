@@ -43,7 +43,7 @@ abbrev pub number_fillers : List (List Signed) → List Filler → List Numbered
 number_fillers gs [] = []
 number_fillers gs (f ∷ fs) = with_filler f.slot f.room (number_in gs f.goal) (number_fillers gs fs)
 
--- so is an alternative with a member without number
+-- an alternative with a member without number is left out
 abbrev pub with_members : List (List Signed) → Alternative → Option (List NumberedPlaced) → List Numbered
 with_members gs a None = []
 with_members gs a (Some ms) = record {

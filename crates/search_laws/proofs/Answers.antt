@@ -179,7 +179,7 @@ module _ (expansion : List Signed → Expansion) (f : Found) where
         satisfied_from r n x
         ∙ last_kept (length f.goals) (length f.goals) n (last_least (length f.goals)) (omega arith)
 
-  -- it adds a goal, where it isn't 0
+  -- the last round that is counted adds a goal, where it isn't 0
   pub last_adds : (r q : ℕ) → last_within expansion f r ≡ suc q
       → (n : ℕ) × (n < length f.goals) × (is_added expansion f q n ≡ true)
   last_adds zero q e = absurd (omega (arith, e))

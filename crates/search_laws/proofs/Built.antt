@@ -209,12 +209,13 @@ module _ (words : List Signed → Kind → ℕ → ℕ → ℕ → List ℕ) (ex
       plus : (k r : ℕ) → suc k + r ≡ suc (k + r)
       plus k r = omega arith
 
+  -- a goal's document is the same over all rounds from one that has the goal on
   pub document_stays : (q r n : ℕ) → q ≤ r → Round q n ≡ true → Doc r n ≡ Doc q n
   document_stays q r n l h = ap (λ z. Doc z n) plus ∙ document_kept (r - q) q n h where
     plus : r ≡ r - q + q
     plus = omega (arith, l)
 
-  -- it is the one that its least round gives it
+  -- a goal's document is the one that its least round gives it
   document_over : (q n : ℕ) → Round q n ≡ false → Doc (suc q) n ≡ Over q (slice_get f.goals n)
   document_over q n e = ap (λ b. cond b (Doc q n) (Over q (slice_get f.goals n))) e
 

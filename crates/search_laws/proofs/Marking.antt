@@ -27,6 +27,7 @@ drop_front zero xs ys l = refl
 drop_front (suc n) [] ys l = absurd (omega (arith, l))
 drop_front (suc n) (x ∷ xs) ys l = drop_front n xs ys (omega (arith, l))
 
+-- what stands at a place of a list is in it
 pub in_at : {A : Type 0} (xs : List A) (j : ℕ) (d : A) → j < length xs → IsIn (get_or xs j d) xs
 in_at xs j d l = at_rest [] xs j d (omega arith) l
 

@@ -384,6 +384,7 @@ numbered_from gs bs a i =
       go b j (Some ns) e (inl s) = record { alternative = b; members = ns; is_in = j; numbers = e; is = s }
       go b j (Some ns) e (inr n) = absurd n
 
+-- what stands at a place of a list is in it
 pub get_in : {A : Type 0} (xs : List A) (i : ℕ) (x : A) → slice_get xs i ≡ Some x → IsIn x xs
 get_in [] i x e = cc
 get_in (y ∷ xs) zero x e = inl (some_same e) where

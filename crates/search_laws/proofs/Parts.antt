@@ -297,6 +297,7 @@ module _ (words : List Signed → Kind → ℕ → ℕ → ℕ → List ℕ) (ex
   pub used_own : IsIn n Goals
   used_own = used_in n (used_itself expansion f n) reached
 
+  -- the part of the goal itself is the last one
   pub place_last : suc (Place n) ≡ length Goals
   place_last =
       let e = entered expansion f Count n reached in

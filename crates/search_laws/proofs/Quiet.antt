@@ -31,6 +31,7 @@ module _ (expansion : List Signed → Expansion) (f : Found) (r : ℕ)
     plus : m ≡ m - r + r
     plus = omega (arith, l)
 
+  -- after a round that adds no goal answers stay
   pub answer_same : (m n : ℕ) → r ≤ m → answer expansion f m n ≡ answer expansion f r n
   answer_same m n l = same_answer expansion f r m n l (λ e. sym (round_same m n l) ∙ e)
 
@@ -42,6 +43,7 @@ module _ (expansion : List Signed → Expansion) (f : Found) (r : ℕ)
       no true = refl
       no false = refl
 
+  -- after a round that adds no goal the last round stays
   pub last_same : (k : ℕ) → last_within expansion f (k + r) ≡ last_within expansion f r
   last_same zero = ap (λ z. last_within expansion f z) (plus r) where
     plus : (r : ℕ) → 0 + r ≡ r
@@ -56,6 +58,7 @@ module _ (expansion : List Signed → Expansion) (f : Found) (r : ℕ)
       plus : (k r : ℕ) → suc k + r ≡ suc (k + r)
       plus k r = omega arith
 
+  -- after a round that adds no goal the order of goals stays
   pub order_same : (k : ℕ) → in_order expansion f (k + r) ≡ in_order expansion f r
   order_same zero = ap (λ z. in_order expansion f z) (plus r) where
     plus : (r : ℕ) → 0 + r ≡ r

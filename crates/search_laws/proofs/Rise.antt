@@ -1,4 +1,4 @@
--- Rounds rise; after one that adds no goal none adds one; and answers tell rounds.
+-- Rounds rise; after one that adds no goal none adds one; and answers determine rounds.
 use Rattle.std.proofs.Common.{◌≡◌, ℕ, zero, suc, ◌+◌, ◌≤◌, inl, inr, Bool, true, false, ◌&&◌, ◌||◌, cond, nat_le, List, [], ◌∷◌, Option, Some, None, option_map, is_some, refl, ap, ap₂, sym, ◌∙◌, arith}
 use Rattle.std.proofs.lemmas.Bool.{and_parts, and_from, leb-true, le-leb, or_cases, or_left, or_right}
 use Rattle.documents.specs.Tests.{every, some}

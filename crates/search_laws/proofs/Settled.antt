@@ -123,6 +123,7 @@ module _ (expansion : List Signed → Expansion) (f : Found) where
         plus : (k r : ℕ) → suc (k + r) ≡ suc k + r
         plus k r = omega arith
 
+  -- later rounds have the goals of earlier ones
   pub rise_to : (r m n : ℕ) → r ≤ m → Round r n ≡ true → Round m n ≡ true
   rise_to r m n l e = subst (λ z. Round z n ≡ true) (omega (arith, l)) (rise_by (m - r) r n e)
 

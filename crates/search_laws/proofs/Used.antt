@@ -292,7 +292,7 @@ module _ (expansion : List Signed → Expansion) (f : Found) where
       let (j, e) = from_filter (is_added expansion f r) n (numbers expansion f) i in
       added_parts (Round (suc r) n) (Round r n) e
 
-  -- it has just the goals of the round
+  -- the order has just the goals of the round
   pub order_has : (r n : ℕ) → Round r n ≡ true → IsIn n (Order r)
   order_has zero n e = cc
   order_has (suc r) n e = go (Round r n) refl (order_has r n) where
@@ -300,6 +300,7 @@ module _ (expansion : List Signed → Expansion) (f : Found) where
     go true h more = in_left n (Order r) (Added r) (more h)
     go false h more = in_right n (Order r) (Added r) (in_added r n e h)
 
+  -- each goal of the order is a goal of the round
   pub has_order : (r n : ℕ) → IsIn n (Order r) → Round r n ≡ true
   has_order zero n i = absurd i
   has_order (suc r) n i = go (in_append n (Order r) (Added r) i) (has_order r n) where

@@ -193,6 +193,7 @@ module _ (most : ℕ) where
         longer_both s.goals (after most most_total expansion n s).goals _ (after_long n s)
         (step_long (after most most_total expansion n s))
 
+    -- the root is goal 0
     pub root_first : (root : List Signed) → slice_get (explored most most_total expansion root).goals 0 ≡ Some root
     unfolding explored
     root_first root = let l = after_long most (found (root ∷ []) 0 0 None) in ap (λ gs. slice_get gs 0) l.is
@@ -262,6 +263,7 @@ module _ (most : ℕ) where
       pub closed : (n : ℕ) (g : List Signed) → slice_get s.goals n ≡ Some g
           → every (is_listed s.goals) (named (expansion g).alternatives) ≡ true
 
+    -- an exploration that passes no limit takes each goal and lists each that it names
     pub whole : (root : List Signed) → 0 < most → (explored most most_total expansion root).over ≡ None
         → Whole (explored most most_total expansion root)
     unfolding explored

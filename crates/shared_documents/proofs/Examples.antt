@@ -40,7 +40,7 @@ names_fall = refl
 name_twice : is_table (null ∷ object ((codes "a", 0) ∷ (codes "a", 0) ∷ []) ∷ []) ≡ false
 name_twice = refl
 
--- of two numbers that aren't below, the first in order is told, and not the larger or the smaller one
+-- of two numbers that aren't below, the first in order is reported, and not the larger or the smaller one
 first_in_order : first_forward 2 (array (1 ∷ 3 ∷ 2 ∷ 4 ∷ [])) ≡ Some 3
 first_in_order = refl
 

@@ -12,7 +12,7 @@ built f (string s) = D.string s
 built f (array is) = D.array (D.items_of (map f is))
 built f (object ms) = D.object (D.members_of (map (λ m. (m.0, f m.1)) ms))
 
--- the same by the parts of a table, through at most n of them one below another
+-- the document of a part by the parts of a table, through at most n of them one below another
 abbrev pub unshared_within : List Part → ℕ → ℕ → D.Document
 unshared_within ps zero i = D.null
 unshared_within ps (suc n) i = built (unshared_within ps n) (part_at ps i)

@@ -83,6 +83,7 @@ next_alike : (t : Tree) (first : Bool) (c d : ℕ) (state : PatternState)
 next_alike t first c d done f = refl
 next_alike t first c d (reading ps) f = ap (state_with t) (reads_alike first (is_among ps) c d t f 0 true)
 
+-- characters that no set tells apart lead to one state
 pub same_state_of_same : SameStateOfSame
 same_state_of_same t v w c d e s f =
     state_goes_on t v c
@@ -91,6 +92,7 @@ same_state_of_same t v w c d e s f =
     ∙ next_alike t (is_empty w) c d (pattern_state t w) f
     ∙ sym (state_goes_on t w d)
 
+-- of words of one state, both empty or both not, the pattern matches both or neither
 pub same_truth_of_same : SameTruthOfSame
 same_truth_of_same t v w e s =
     state_decides t v

@@ -98,6 +98,7 @@ module _ (t : Tree) (first last : Bool) where
         ∙ f
         ∙ sym (or-false (ends_each t first last read b n))
 
+-- a match ends with some positions exactly where it ends with one of them, or with none
 pub ends_of_each : EndsOfEach
 ends_of_each t first last read b =
     ends_with_quiet t first last read (below (count_of t) read) (from (count_of t) read) b
@@ -141,6 +142,7 @@ follows_each t first read b =
     (below_or_from (count_of t) read) (from_quiet (count_of t) read)
     ∙ follow_below t first read b (count_of t)
 
+-- what reads a character after some positions is what reads it after one of them, or after none
 pub next_of_each : NextOfEach
 next_of_each t first read c b =
     next_asks_sets t first read c 0 b ∙ ap (λ z. and_each z (sets_have (sets_of t) c)) (follows_each t first read b)

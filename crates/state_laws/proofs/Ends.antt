@@ -251,6 +251,7 @@ module _ (w : List ℕ) (read : ℕ → Bool) where
   one_less low = omega arith
 
   mutual
+    -- the flags of the positions that are read last say whether a match ends here
     pub ends_law : (t : Tree) → EndsHere t
     ends_law empty base xs a = ap (λ z. is_among z (length w)) (sym (flat_single xs))
     ends_law (one_of ranges) base xs (e, a) = e ∙ leaf_ends ranges xs

@@ -95,5 +95,6 @@ module _ (first last : Bool) (read one other : ℕ → Bool) (is : IsEither read
         (ends_here_of_one ts first last one (base + count_of t) b)
         (ends_here_of_one ts first last other (base + count_of t) d)
 
+-- a match can end of what one or the other was read where it can of one of the two
 pub ends_join : EndsJoin
 ends_join t first last read one other is base b d = ends_join_tree first last read one other is t base b d

@@ -56,7 +56,7 @@ past_the_end : pattern_state (in_turn (trees_of (letter_a ∷ at_end ∷ letter_
 unfolding pattern_state
 past_the_end = refl
 
--- `a[]`, likewise
+-- `a[]`: a position stays though no character can follow
 no_such_letter : pattern_state (in_turn (trees_of (letter_a ∷ one_of [] ∷ []))) (codes "aa") ≡ reading (0 ∷ [])
 unfolding pattern_state
 no_such_letter = refl

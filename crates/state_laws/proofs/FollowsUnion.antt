@@ -94,5 +94,6 @@ module _ (first : Bool) (read one other : ℕ → Bool) (is : IsEither read one 
         (may_follow_of_one ts first one (base + count_of t) b) (may_follow_of_one ts first other (base + count_of t) d)
         (same_length t base b d))
 
+-- what may follow of what one or the other was read is what may follow of one of the two
 pub follow_joins : FollowJoins
 follow_joins t first read one other is base b d = follow_joins_tree first read one other is t base b d

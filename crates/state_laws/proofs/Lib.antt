@@ -20,7 +20,7 @@ pub mod Alike
 pub mod RowsLemmas
 -- Whether a match can end is a union.
 pub mod EndsUnion
--- So is what may follow.
+-- What may follow one of two sets of positions is what may follow the one or the other.
 pub mod FollowsUnion
 -- What reads a character is what may follow, where the set has it.
 pub mod Sets

@@ -201,6 +201,7 @@ module _ (w : List ℕ) (c : ℕ) (read : ℕ → Bool) where
       (sym (ends_next t base ys zs r (agrees_left read base (last_read t w zs) _ a))))
 
   mutual
+    -- a position reads the next character where the flags of the state say so
     pub next_law : (t : Tree) → Next t
     next_law empty base xs ys zs s r a = refl
     next_law (one_of ranges) base xs ys zs s r a = ap (λ b. b ∷ []) (leaf_next ranges xs ys s)

@@ -127,6 +127,7 @@ module _ (first last : Bool) (read : ℕ → Bool) where
         ap₂ (λ x y. x || y) (nothing_ends_tree t base (quiet_first read base (count_of t) (count_in ts) q))
         (nothing_ends_of_one ts (base + count_of t) (quiet_rest read base (count_of t) (count_in ts) q))
 
+-- where nothing was read and nothing begins, no match ends
 pub nothing_ends : NothingEnds
 nothing_ends t first last read base q = nothing_ends_tree first last read t base q
 
@@ -169,6 +170,7 @@ module _ (first : Bool) (read : ℕ → Bool) where
         (nothing_follows_of_one ts (base + count_of t) (quiet_rest read base (count_of t) (count_in ts) q))
         ∙ no_flags_append (count_of t) (count_in ts) (count_of t + count_in ts) refl
 
+-- where nothing was read and nothing begins, nothing may follow
 pub nothing_follows : NothingFollows
 nothing_follows t first read base q = nothing_follows_tree first read t base q
 

@@ -39,7 +39,7 @@ mutual
   rises_of_one (tree r rs) w i j (inl m) = rises r w i j m
   rises_of_one (tree r rs) w i j (inr m) = rises_of_one rs w i j m
 
--- the same steps, up to a place below n
+-- steps that agree up to a place below n repeat alike up to there
 pub repeats_same : (R Q : ℕ → ℕ → Type 0) (n : ℕ) → Rises R → ((i j : ℕ) → j < n → R i j → Q i j) → (k i j : ℕ) → j < n
     → Repeats R k i j → Repeats Q k i j
 repeats_same R Q n f g zero i j l e = e
@@ -119,6 +119,7 @@ module _ (v w : List ℕ) (n : ℕ) (ends_late : n ≤ length v) (is_long : n �
       in_flat_map (ends r v) j i ys (f i (omega (arith, u, l)) a)
       (complete r v i j (omega (arith, u, l, ends_late)) (closed r i j l m))
 
+  -- from the same places below n matches end at the same places below n, also without end assertions
   pub same_ends : (r : Tree) (xs ys : List ℕ) → Same n xs ys
       → Same n (flat_map (ends r v) xs) (flat_map (ends (without_end r) w) ys)
   same_ends r xs ys s = (opens r xs ys s.0, closes r ys xs s.1)

@@ -44,6 +44,7 @@ same_among j xs ys f g =
 abbrev pub Fits : ℕ → List ℕ → List ℕ → Type 0
 Fits n xs ys = (j : ℕ) → j < n → IsIn j xs → IsIn j ys
 
+-- two lists have the same places below n
 abbrev pub Same : ℕ → List ℕ → List ℕ → Type 0
 Same n xs ys = Fits n xs ys × Fits n ys xs
 

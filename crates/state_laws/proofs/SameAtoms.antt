@@ -33,6 +33,7 @@ is_words _ = false
 no : {A : Type 0} → false ≡ true → A
 no h = absurd (true≢false (sym h))
 
+-- the test on two atoms decides whether they are equal
 pub same_atom-Decides : (a b : Atom) → Decides (same_atom a b) (a ≡ b)
 same_atom-Decides (Match t) (Match u) =
     (λ e. ap Match ((same_tree-Decides t u).0 e), λ e. (same_tree-Decides t u).1 (ap tree_of e))

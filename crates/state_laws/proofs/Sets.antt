@@ -88,6 +88,7 @@ module _ (first : Bool) (read : ℕ → Bool) (c : ℕ) where
         ∙ ap (and_each (may_follow_of_one (tree t ts) first read base b))
         (sym (sets_have_append (sets_of t) (sets_in ts) c))
 
+-- a position reads a character exactly where it may follow and its set has the character
 pub next_asks_sets : NextAsksSets
 next_asks_sets t first read c base b = asks_tree first read c t base b
 

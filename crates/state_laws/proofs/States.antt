@@ -242,6 +242,7 @@ state_goes_on t w c = go (is_done t w) refl where
       (length (w ++ c ∷ []))) e)
   go false e = state_longer t w c e ∙ ap (state_with t) (flags_longer t w c)
 
+-- the state of a word decides whether the pattern has a match in it
 pub state_decides : Decides
 unfolding pattern_state
 state_decides t w = go (is_done t w) refl where

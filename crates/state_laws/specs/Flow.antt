@@ -62,7 +62,7 @@ next_copies next one count zero base begins = []
 next_copies next one count (suc n) base begins =
     next base begins ++ next_copies next one count n (base + count) (one base begins)
 
--- the same with one more copy after these, that may come again and again
+-- `next_copies` with one more copy after these, that may come again and again
 abbrev pub next_copies_on : (next : ℕ → Bool → List Bool) (one : ℕ → Bool → Bool) (count n : ℕ) → ℕ → Bool → List Bool
 next_copies_on next one count zero base begins = next base (begins || one base false)
 next_copies_on next one count (suc n) base begins =

@@ -17,14 +17,14 @@ EndsJoin =
     → ends_here t first last read base (b || d)
     ≡ (ends_here t first last one base b || ends_here t first last other base d)
 
--- and what may follow is what may follow the one or the other, position by position
+-- what may follow either set is what may follow the one or the other, position by position
 abbrev pub FollowJoins : Type 0
 FollowJoins =
     (t : Tree) (first : Bool) (read one other : ℕ → Bool) → IsEither read one other → (base : ℕ) (b d : Bool)
     → may_follow t first read base (b || d)
     ≡ or_each (may_follow t first one base b) (may_follow t first other base d)
 
--- so it is for what reads a character
+-- what reads a character after either set is what reads it after the one or the other
 abbrev pub NextJoins : Type 0
 NextJoins =
     (t : Tree) (first : Bool) (read one other : ℕ → Bool) (c : ℕ) → IsEither read one other → (base : ℕ) (b d : Bool)
@@ -48,13 +48,13 @@ NothingEnds =
     (t : Tree) (first last : Bool) (read : ℕ → Bool) (base : ℕ) → IsQuiet read base (count_of t)
     → ends_here t first last read base false ≡ false
 
--- and nothing follows
+-- nothing may follow where nothing was read and nothing begins
 abbrev pub NothingFollows : Type 0
 NothingFollows =
     (t : Tree) (first : Bool) (read : ℕ → Bool) (base : ℕ) → IsQuiet read base (count_of t)
     → may_follow t first read base false ≡ no_flags (count_of t)
 
--- and nothing reads a character
+-- nothing reads a character where nothing was read and nothing begins
 abbrev pub NothingReads : Type 0
 NothingReads =
     (t : Tree) (first : Bool) (read : ℕ → Bool) (c base : ℕ) → IsQuiet read base (count_of t)
@@ -92,9 +92,9 @@ pub record StepsByRows : Type 0 where
   pub steps : (t : Tree) (first : Bool) (c : ℕ) (ps : List ℕ)
       → next_state t first c (reading ps)
       ≡ state_with t (and_each (follow_each t first (is_among ps) true (count_of t)) (sets_have (sets_of t) c))
-  -- it is done where a match ends with one of its positions, or with none
+  -- a word is done where a match ends with one of its positions, or with none
   pub is_done : (t : Tree) (flags : List Bool)
       → ends_here t false false (flag_at flags) 0 true ≡ ends_each t false false (flag_at flags) true (count_of t)
-  -- and so it is where the word ends
+  -- a word is accepted where a match ends at its end with one of its positions, or with none
   pub accepts : (t : Tree) (first : Bool) (ps : List ℕ)
       → is_accepted t first (reading ps) ≡ ends_each t first true (is_among ps) true (count_of t)

@@ -72,6 +72,7 @@ member_text k d more later value rest =
     ∙ sym (append_assoc (string_text k) (58 ∷ document_text d) later)
 
 mutual
+  -- what is written of a document's data is the document's text
   pub compact_text-data_of : (d : D.Document) → compact_text (data_of d) ≡ document_text d
   compact_text-data_of D.null = refl
   compact_text-data_of (D.boolean true) = refl

@@ -142,6 +142,7 @@ together_none D.no_members = refl
 together_none (D.member k d ms) = ap (D.member k d) (together_none ms)
 
 mutual
+  -- the tree of a document's data is read as that data
   pub of_json-data_of : (d : D.Document) → D.is_document d ≡ true → has_short_numbers d ≡ true
       → of_json (outline (data_of d)) ≡ Some (data_of d)
   of_json-data_of D.null h short = refl

@@ -37,6 +37,7 @@ module _ (atoms : List Atom) where
     ]
   ]
 
+-- each character is in exactly one class
 pub classes_divide : ClassesDivide
 classes_divide atoms c e =
     let same = are_alike (dividers atoms) in

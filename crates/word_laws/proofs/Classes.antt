@@ -30,6 +30,7 @@ alike_parts (x ∷ s) t c d e =
     let (f, g) = alike_parts s t c d b in
     (and_from (beq (has x c) (has x d)) (are_alike s c d) a f, g)
 
+-- being alike is an equivalence of characters
 pub alike_laws : (sets : List (List (ℕ × ℕ))) → IsEquivalence (are_alike sets)
 alike_laws sets = record { refl = own sets; symm = turned sets; congr = joined sets } where
   beq_own : (x : Bool) → beq x x ≡ true
@@ -97,7 +98,7 @@ ordered_has n c e l =
     (range_in 0 n c (omega arith) (omega (arith, l))) (and_from (is_scalar c) (nat_eq (group_of c) (group_of c)) e
     (eq-eqb (group_of c) (group_of c) refl)))
 
--- and nothing else
+-- the ordered characters are scalar values
 pub ordered_only : (n c : ℕ) → IsIn c (ordered_below n) → is_scalar c ≡ true
 unfolding ordered_below
 ordered_only n c i =

@@ -61,6 +61,7 @@ module _ {A : Type 0} (same : A → A → Bool) (laws : IsEquivalence same) wher
     go true e = d
     go false e = IsDistinct-push laws L x d e
 
+  -- what is mentioned comes behind what is there
   pub mentions_grow : (L xs : List A) → (X : List A) × (mention_all same L xs ≡ L ++ X)
   mentions_grow L [] = ([], sym (append-nil L))
   mentions_grow L (x ∷ xs) =
@@ -80,7 +81,7 @@ module _ {A : Type 0} (same : A → A → Bool) (laws : IsEquivalence same) wher
       (mention_has L z))
   mentions_have L (z ∷ xs) x y (inr i) s = mentions_have (mention same L z) xs x y i s
 
-  -- and nothing else is
+  -- nothing else is in the list after x is mentioned
   mention_only : (L : List A) (x y : A) → IsIn y (mention same L x) → IsIn y L ⊎ (y ≡ x)
   mention_only L x y i = go (list_any (same x) L) i where
     go : (b : Bool) → IsIn y (if b then L else L ++ x ∷ []) → IsIn y L ⊎ (y ≡ x)

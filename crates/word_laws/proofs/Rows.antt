@@ -13,6 +13,7 @@ use Rattle.list_laws.specs.In.{IsIn}
 
 -- `extend` gives what an element mentions, each larger than the element, and the same of elements that are the same
 module _ {A : Type 0} (same : A → A → Bool) (laws : IsEquivalence same) (extend : A → List A) (start : A) where
+  -- the start and what the elements of the list mention, in order of first mention
   abbrev pub mentioned : List A → List A
   mentioned L = mention_all same [] (start ∷ flat_map extend L)
 

@@ -141,7 +141,7 @@ words_truth ws v w e = from (begun_cases ws v w e) where
   from (inl (a, b)) = unlisted v a ∙ sym (unlisted w b)
   from (inr q) = ap (λ z. is_true (Words ws) z) q
 
--- ---- lengths, cut where no greater one is asked for
+-- ---- lengths, cut where no greater one is required
 length_next : (v w : List ℕ) (c d g : ℕ) → min (length v) g ≡ min (length w) g
     → min (length (v ++ c ∷ [])) g ≡ min (length (w ++ d ∷ [])) g
 length_next v w c d g e =

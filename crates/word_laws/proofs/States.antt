@@ -1,4 +1,4 @@
--- The state of a word: the test of two states, what one more character makes of a state, and what a state tells.
+-- The state of a word: the test of two states, what one more character makes of a state, and what a state determines.
 use Rattle.std.proofs.Common.{◌≡◌, ℕ, List, Bool, true, false, ◌&&◌, Option, Some, None, Decides, nat_eq, refl, ap, ap₂, eqb-true, eq-eqb}
 use Rattle.std.specs.Bool.{beq}
 use Rattle.std.specs.Cmp.{IsEquivalence, decided, unsigned_Decides}
@@ -72,6 +72,7 @@ state_decides x y =
           (n.1 (ap (λ s. s.length) e))),
     )
 
+-- having the same state is an equivalence of words
 pub same_laws : (atoms : List Atom) → IsEquivalence (have_same_state atoms)
 same_laws atoms =
     let laws = decided same_state state_decides in

@@ -80,7 +80,7 @@ no_length = LengthMin 0 ∷ []
 no_length_rows : AreRowsOver (codes "a") no_length ([] ∷ codes "a" ∷ [])
 no_length_rows = refl
 
--- lengths are told apart up to the greatest that is asked for
+-- lengths are told apart up to the greatest that is required
 lengths : AreRowsOver (codes "a") (LengthMin 1 ∷ LengthMin 3 ∷ []) ([] ∷ codes "a" ∷ codes "aa" ∷ codes "aaa" ∷ [])
 lengths = refl
 

@@ -1,5 +1,5 @@
-//! Laws about words: classes divide the characters, a state goes on by classes and tells every truth, and there is one
-//! list of rows, which has the states of all words.
+//! Laws about words: classes divide the characters, a state goes on by classes and determines every truth, and there is
+//! one list of rows, which has the states of all words.
 //!
 //! Each law that other crates rely on is the contract of a function here, which does nothing. Their proofs stand in
 //! `proofs`, and so do the lemmas that crates above cite.
@@ -22,12 +22,12 @@ pub fn classes_in_order()
     ensures { ClassesInOrder }
 {}
 
-/// A state and a character's class tell the next state.
+/// A state and a character's class determine the next state.
 pub fn state_goes_on()
     ensures { StateGoesOn }
 {}
 
-/// A state tells the truth of every atom.
+/// A state determines the truth of every atom.
 pub fn state_tells_truths()
     ensures { StateTellsTruths }
 {}
@@ -42,7 +42,7 @@ pub fn rows_have_all()
     ensures { RowsHaveAll }
 {}
 
-/// A row leads on by classes, and tells the truths of every word that leads to it.
+/// A row leads on by classes, and has the truths of every word that leads to it.
 pub fn rows_go_on()
     ensures { RowsGoOn }
 {}

@@ -1,4 +1,4 @@
--- What can be asked of a word. A word is a list of scalar values.
+-- Atoms: conditions on a word. A word is a list of scalar values.
 use Rattle.std.specs.Prelude.{ℕ, List, Bool, nat_eq, nat_le, length}
 use Rattle.std.specs.List.{list_any}
 use Rattle.std.specs.Cmp.Lexicographic.{pointwise}

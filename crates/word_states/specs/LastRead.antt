@@ -20,7 +20,7 @@ abbrev pub in_copies : (reads : List ℕ → List Bool) (step : List ℕ → Lis
 in_copies reads step zero from = []
 in_copies reads step (suc n) from = reads from ++ in_copies reads step n (step from)
 
--- the same with a last copy, after these, that also begins where any number of further pieces can end
+-- `in_copies` with a last copy, after these, that also begins where any number of further pieces can end
 abbrev pub in_copies_on : (reads : List ℕ → List Bool) (step more : List ℕ → List ℕ) → ℕ → (from : List ℕ) → List Bool
 in_copies_on reads step more zero from = reads (more from)
 in_copies_on reads step more (suc n) from = reads from ++ in_copies_on reads step more n (step from)

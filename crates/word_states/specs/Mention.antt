@@ -6,7 +6,7 @@ use Rattle.std.specs.List.{list_any}
 abbrev pub mention : {A : Type 0} → (A → A → Bool) → List A → A → List A
 mention same L x = if list_any (same x) L then L else L ++ x ∷ []
 
--- the same for each of a list, in order
+-- the list, with each of xs mentioned in turn
 abbrev pub mention_all : {A : Type 0} → (A → A → Bool) → List A → List A → List A
 mention_all same L [] = L
 mention_all same L (x ∷ xs) = mention_all same (mention same L x) xs

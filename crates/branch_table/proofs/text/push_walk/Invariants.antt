@@ -1,4 +1,4 @@
--- The branches that were counted, and those that are left, are no more than the ends of a tree that is told.
+-- The branches that were counted, and those that are left, are no more than the most ends of a tree.
 use Rattle.std.proofs.Common.{◌+◌, ◌≤◌, length}
 use Rattle.js_tableau.specs.Branches.{most_ends}
 use Rattle.js_tableau.specs.BranchWalks.{IsBranchWalk, branches_left}

@@ -1,4 +1,4 @@
--- The rows before have told.
+-- The rows before have their flags.
 use Rattle.std.proofs.Common.{◌≤◌, ◌*◌, length, map}
 use Rattle.js_nfa.specs.View.{tree_of}
 use Rattle.js_automaton.specs.TuplesView.{atoms_of}

@@ -1,4 +1,4 @@
--- The rows before were asked.
+-- The rows before were tested.
 use Rattle.std.proofs.Common.{[], get_or, nat_lt, true, ◌&&◌}
 use Rattle.documents.specs.Document.{string}
 use Rattle.positions.specs.Holds.{holds}

@@ -1,4 +1,4 @@
--- The literals before are told.
+-- The truths of the literals before are set.
 use Rattle.js_automaton.specs.AutomatonView.{atoms_of, rows_of}
 use Rattle.js_said.specs.Saying.{tells}
 use Rattle.js_cells.proofs.ToldLaws.{AreTold}

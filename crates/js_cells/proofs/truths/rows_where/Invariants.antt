@@ -1,4 +1,4 @@
--- The rows before were asked.
+-- The rows before were tested.
 use Rattle.std.proofs.Common.{◌≡◌, [], filter, get_or}
 use Rattle.std.specs.List.{range_with_len}
 use Rattle.js_automaton.specs.AutomatonView.{atoms_of, rows_of}

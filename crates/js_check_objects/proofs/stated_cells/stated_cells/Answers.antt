@@ -1,4 +1,4 @@
--- What is told of the rows are the vectors of their words.
+-- What the rows get are the vectors of their words.
 use Rattle.std.proofs.Common.{map, length, ap, sym, ◌∙◌, arith}
 use Rattle.std.proofs.lemmas.List.{length-map}
 use Rattle.cells.specs.Cells.{naming}

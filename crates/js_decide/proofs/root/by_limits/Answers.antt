@@ -1,4 +1,4 @@
--- The goal that is told is the first one with a hole, and after all turns there is none.
+-- The goal that is reported is the first one with a hole, and after all turns there is none.
 use Rattle.std.proofs.Common.{◌≡◌, ◌<◌, ℕ, None, Some, ap, ap₂, sym, ◌∙◌, arith, rules}
 use Rattle.decisions.specs.Decision as D
 use Rattle.search.specs.Rounds.{hole_of}

@@ -1,4 +1,4 @@
--- A document is told where some round has the goal.
+-- A document is reported where some round has the goal.
 use Rattle.std.proofs.Common.{◌≡◌, true, is_some, ap, sym, ◌∙◌}
 use Rattle.search.specs.Uses.{satisfied}
 use Rattle.js_explore.specs.ExploredView.{found_view}

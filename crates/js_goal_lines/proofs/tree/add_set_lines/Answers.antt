@@ -1,4 +1,4 @@
--- The set that was told last is in the table.
+-- The set of the last step is in the table.
 use Rattle.std.proofs.Common.{◌≡◌, map, true, ap, sym, ◌∙◌, subst}
 use Rattle.refutations.specs.GoalLines.{leaf_lines}
 use Rattle.js_algebra.specs.View.{kind_view, are_in_table}

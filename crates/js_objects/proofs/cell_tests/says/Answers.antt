@@ -1,4 +1,4 @@
--- A cell that isn't there is told nothing.
+-- No literal is true of a cell that isn't there.
 use Rattle.std.proofs.Common.{◌∙◌, get_or, sym, arith}
 use Rattle.goals.specs.Signed.{Plus}
 use Rattle.std.proofs.lemmas.Bool.{le-ltb}

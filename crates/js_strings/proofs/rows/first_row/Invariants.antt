@@ -1,4 +1,4 @@
--- No row before is as asked for.
+-- No row before is as required.
 use Rattle.std.proofs.Common.{◌≡◌, ℕ, ◌<◌, [], get_or, false}
 use Rattle.js_automaton.specs.AutomatonView.{rows_of}
 use Rattle.js_asked.specs.Asking.{asks}

@@ -1,4 +1,4 @@
--- The ends that were told, and those that are left, are all.
+-- The ends that were given, and those that are left, are all.
 use Rattle.std.proofs.Common.{◌≡◌, ◌+◌, length}
 use Rattle.goals.specs.Tree.{ends}
 use Rattle.js_algebra.specs.View.{kind_view}

@@ -1,4 +1,4 @@
--- The leaves so far are told right.
+-- The truths of the leaves so far are right.
 use Rattle.std.proofs.Common.{◌≡◌, Bool, true, map, take}
 use Rattle.documents.specs.Tests.{every}
 use Rattle.word_states.specs.Atom.{Atom}

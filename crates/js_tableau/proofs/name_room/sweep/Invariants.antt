@@ -1,4 +1,4 @@
--- Those that were seen before, and the positions so far, are told right.
+-- The truths of those that were seen before, and of the positions so far, are right.
 use Rattle.std.proofs.Common.{◌≡◌, ℕ, List, ◌++◌, Bool, true, take}
 use Rattle.documents.specs.Tests.{every}
 use Rattle.word_states.specs.Atom.{Atom}

@@ -1,4 +1,4 @@
--- The first line counts the parts, or tells the fault.
+-- The first line counts the parts, or gives the fault.
 use Rattle.std.proofs.Common.{ap, subst}
 use Rattle.document_texts.specs.PartsRead.{IsFault}
 use Rattle.document_text_laws.proofs.ReadLaws.{fault-count}

@@ -1,4 +1,4 @@
--- Each line is that of the next part, or tells the fault.
+-- Each line is that of the next part, or gives the fault.
 use Rattle.std.proofs.Common.{◌++◌, ◌∷◌, [], length, Err, sym, ap, ◌∙◌, subst, arith, length-append}
 use Rattle.document_texts.specs.PartsText.{count_text}
 use Rattle.document_text_laws.proofs.ReadLaws.{Reading, fault-line, fault-more, reading-next}

@@ -1,4 +1,4 @@
--- Each part so far is told.
+-- Each part so far meets `is_told`.
 use Rattle.std.proofs.Common.{◌≡◌, take, true}
 use Rattle.documents.specs.Tests.{every}
 use Rattle.document_texts.specs.PartsRead.{is_told}

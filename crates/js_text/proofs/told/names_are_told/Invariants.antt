@@ -1,4 +1,4 @@
--- Each name so far is told.
+-- Each name so far is made of scalar values.
 use Rattle.std.proofs.Common.{◌≡◌, take, true}
 use Rattle.documents.specs.Tests.{every}
 use Rattle.js_doc.specs.PartMembers.{member_view}

@@ -1,4 +1,4 @@
--- The patterns before have told, whatever the state's word is.
+-- The patterns before have their flags, whatever the state's word is.
 use Rattle.std.proofs.Common.{◌≡◌, ℕ, List, ◌++◌, map, take}
 use Rattle.js_nfa.specs.View.{tree_of}
 use Rattle.js_automaton.specs.Parts.{atoms_made}

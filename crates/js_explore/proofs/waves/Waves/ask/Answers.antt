@@ -1,4 +1,4 @@
--- The numbers that are asked for are those of the goals that wait.
+-- The numbers that a wave expands are those of the goals that wait.
 use Rattle.std.proofs.Common.{◌≡◌, ◌-◌, length, ap₂, ◌∙◌, arith}
 use Rattle.std.specs.List.{range_with_len}
 use Rattle.std.proofs.lemmas.Result.{IfOk-weaker}

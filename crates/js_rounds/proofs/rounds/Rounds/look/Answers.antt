@@ -1,4 +1,4 @@
--- The first alternative that is ready is told of.
+-- The first alternative that is ready is noted.
 use Rattle.std.proofs.Common.{◌≡◌, ◌+◌, take, Some, sym, ap, ◌∙◌}
 use Rattle.js_waiting.specs.First.{least_place}
 use Rattle.js_rounds.specs.Waking.{firsts}

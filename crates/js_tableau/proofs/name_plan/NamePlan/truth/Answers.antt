@@ -1,4 +1,4 @@
--- The leaves are told by their atoms, and the others by those before them.
+-- The leaves are decided by their atoms, and the others by those before them.
 use Rattle.std.proofs.Common.{ap, ◌∙◌, arith}
 use Rattle.word_states.specs.Atom.{is_true}
 use Rattle.name_laws.proofs.NameLaws.{holds_by_truths}
