@@ -5,7 +5,7 @@ use Rattle.std.specs.Option.{is_none}
 use Rattle.patterns.specs.CharSet.{has}
 use Rattle.patterns.specs.Tree.{Tree, Trees, empty, one_of, at_start, at_end, in_turn, either, repeated, no_trees, tree, trees_of}
 use Rattle.word_states.specs.Position.{count_of, count_in, copies}
-use Rattle.state_laws.specs.Flow.{ends_here, ends_here_in_turn, ends_here_of_one, next_copies, next_copies_on, reads_next, reads_next_in_turn, reads_next_of_one}
+use Rattle.state_laws.specs.Flow.{ends_here, ends_here_in_turn, ends_here_of_one, reads_next, reads_next_in_turn, reads_next_of_one}
 use Rattle.js_pattern.specs.declared.re.Re.{Re}
 use Rattle.js_pattern.specs.View.{view}
 use Rattle.js_nfa.specs.Walk.{Quiet, begins_with, next_after}
@@ -13,23 +13,7 @@ use Rattle.js_nfa.proofs.Items.{rest, rest-tree, rest-none}
 use Rattle.js_nfa.proofs.Through.{reads_repeated, keeps, begins_once}
 use Rattle.js_nfa.proofs.Quiet.{ends-quiet, reads-quiet, reads_in_turn-quiet, next_after-quiet}
 use Rattle.js_nfa.proofs.EndsSteps.{one_less, nowhere}
-
--- ---- one flag a position
-length-copies : (next : ℕ → Bool → List Bool) (one : ℕ → Bool → Bool) (count : ℕ)
-    → ((base : ℕ) (b : Bool) → length (next base b) ≡ count) → (n base : ℕ) (b : Bool)
-    → length (next_copies next one count n base b) ≡ n * count
-length-copies next one count f zero base b = omega arith
-length-copies next one count f (suc n) base b =
-    length-append (next base b) (next_copies next one count n (base + count) (one base b))
-    ∙ omega (arith, f base b, length-copies next one count f n (base + count) (one base b))
-
-length-copies_on : (next : ℕ → Bool → List Bool) (one : ℕ → Bool → Bool) (count : ℕ)
-    → ((base : ℕ) (b : Bool) → length (next base b) ≡ count) → (n base : ℕ) (b : Bool)
-    → length (next_copies_on next one count n base b) ≡ suc n * count
-length-copies_on next one count f zero base b = omega (arith, f base (b || one base false))
-length-copies_on next one count f (suc n) base b =
-    length-append (next base b) (next_copies_on next one count n (base + count) (one base b))
-    ∙ omega (arith, f base b, length-copies_on next one count f n (base + count) (one base b))
+use Rattle.state_laws.proofs.RowsLemmas.{length_copies, length_copies_on}
 
 nothing : (xs : List Bool) → length xs ≡ 0 → xs ≡ []
 nothing [] e = refl
@@ -45,12 +29,12 @@ module _ (first : Bool) (read : ℕ → Bool) (c : ℕ) where
     length-reads (in_turn ts) base b = length-reads_in_turn ts base b
     length-reads (either ts) base b = length-reads_of_one ts base b
     length-reads (repeated t low None) base b =
-        length-copies_on (λ at some. reads_next t first read c at some)
+        length_copies_on (λ at some. reads_next t first read c at some)
         (λ at some. ends_here t first false read at some)
         (count_of t) (length-reads t) (low - 1) base b
         ∙ ap (λ k. k * count_of t) (omega arith)
     length-reads (repeated t low (Some high)) base b =
-        length-copies (λ at some. reads_next t first read c at some) (λ at some. ends_here t first false read at some)
+        length_copies (λ at some. reads_next t first read c at some) (λ at some. ends_here t first false read at some)
         (count_of t) (length-reads t) high base b
 
     pub length-reads_in_turn : (ts : Trees) (base : ℕ) (b : Bool)

@@ -105,49 +105,15 @@ pub has_room : (words : List ℕ) (len : ℕ) (s : Marks)
 has_room words len s e h =
     omega (arith, length-flags_of words len, ap (λ (s : Marks). length s.flags) e, ap Marks.room e, h)
 
-pub has_words : (words : List ℕ) (len count : ℕ) (s : Marks)
-    → record { flags = flags_of words len; room = 64 * length words } ≡ s
-    → 64 * count ≤ length s.flags → 64 * count ≤ len
-has_words words len count s e h = omega (arith, length-flags_of words len, ap (λ (s : Marks). length s.flags) e, h)
-
-pub word_read : (words : List ℕ) (len count k word : ℕ) (s : Marks)
-    → record { flags = flags_of words len; room = 64 * length words } ≡ s
-    → len ≤ 64 * length words → 64 * count ≤ length s.flags → k < count
-    → word ≡ get_or words k word → word ≡ slice_index words k
-word_read words len count k word s e room full within read =
-    get_or_read words k word (omega (arith, has_words words len count s e full, within, room)) read 0
-
-abbrev pub HaveSameBits : ℕ → ℕ → Type 0
-HaveSameBits a b = (i : ℕ) → i < 64 → bit_at a i ≡ bit_at b i
-
-module _ (xs ys : List ℕ) (m n count : ℕ) (ours : 64 * count ≤ m) (theirs : 64 * count ≤ n) where
-  pub equal_words-flags : ((k : ℕ) → k < count → HaveSameBits (slice_index xs k) (slice_index ys k))
-      → (p : ℕ) → p < 64 * count → flag_at (flags_of xs m) p ≡ flag_at (flags_of ys n) p
-  equal_words-flags h p l =
-      flag_at-flags_of xs m p (omega (arith, l, ours))
-      ∙ ap (λ x. eqb x 1) (h (p / 64) (omega (arith, l)) (p % 64) (omega arith))
-      ∙ sym (flag_at-flags_of ys n p (omega (arith, l, theirs)))
-
-  pub equal_flags-words : ((p : ℕ) → p < 64 * count → flag_at (flags_of xs m) p ≡ flag_at (flags_of ys n) p)
-      → (k : ℕ) → k < count → HaveSameBits (slice_index xs k) (slice_index ys k)
-  equal_flags-words h k within i l =
-      bit _ _ (bit_at-lt (slice_index xs k) i) (bit_at-lt (slice_index ys k) i)
-      (at xs i l
-      ∙ sym (flag_at-flags_of xs m (64 * k + i) (omega (arith, l, ours)))
-      ∙ h (64 * k + i) (omega (arith, l))
-      ∙ flag_at-flags_of ys n (64 * k + i) (omega (arith, l, theirs))
-      ∙ sym (at ys i l)) where
-        at : (zs : List ℕ) (i : ℕ) → i < 64 → eqb (bit_at (slice_index zs k) i) 1 ≡ bit_of zs (64 * k + i)
-        at zs i l = ap₂ (λ q r. eqb (bit_at (slice_index zs q) r) 1) (omega (arith, l)) (omega (arith, l))
-
-        bit : (x y : ℕ) → x < 2 → y < 2 → eqb x 1 ≡ eqb y 1 → x ≡ y
-        bit zero zero lx ly e = refl
-        bit zero (suc zero) lx ly e = absurd (cc e)
-        bit zero (suc (suc y)) lx ly e = absurd (omega (arith, ly))
-        bit (suc zero) zero lx ly e = absurd (cc e)
-        bit (suc zero) (suc zero) lx ly e = refl
-        bit (suc zero) (suc (suc y)) lx ly e = absurd (omega (arith, ly))
-        bit (suc (suc x)) y lx ly e = absurd (omega (arith, lx))
+-- ---- one bit
+pub same_bit : (x y : ℕ) → x < 2 → y < 2 → eqb x 1 ≡ eqb y 1 → x ≡ y
+same_bit zero zero lx ly e = refl
+same_bit zero (suc zero) lx ly e = absurd (cc e)
+same_bit zero (suc (suc y)) lx ly e = absurd (omega (arith, ly))
+same_bit (suc zero) zero lx ly e = absurd (cc e)
+same_bit (suc zero) (suc zero) lx ly e = refl
+same_bit (suc zero) (suc (suc y)) lx ly e = absurd (omega (arith, ly))
+same_bit (suc (suc x)) y lx ly e = absurd (omega (arith, lx))
 
 -- ---- bits that aren't set
 abbrev pub NoBits : List ℕ → ℕ → Type 0

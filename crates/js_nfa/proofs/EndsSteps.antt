@@ -1,5 +1,5 @@
 -- The copies of a repeated tree, one more gone through.
-use Rattle.std.proofs.Common.{◌≡◌, ℕ, suc, ◌+◌, ◌-◌, ◌*◌, ◌<◌, ◌≤◌, Bool, false, ◌&&◌, ◌||◌, nat_eq, nat_le, if◌then◌else◌, Option, sym, ◌∙◌, ap, arith}
+use Rattle.std.proofs.Common.{◌≡◌, ℕ, suc, ◌+◌, ◌-◌, ◌*◌, ◌<◌, ◌≤◌, Bool, false, ◌&&◌, ◌||◌, nat_eq, nat_le, if◌then◌else◌, Option, sym, ◌∙◌, ap, arith, add-one}
 use Rattle.std.proofs.Math.Nat.{mul-le-mul_right}
 use Rattle.patterns.specs.Tree.{Tree, repeated}
 use Rattle.word_states.specs.Position.{count_of, copies}
@@ -60,18 +60,16 @@ module _ (first last : Bool) (read : ℕ → Bool) (t : Tree) (low : ℕ) (high 
   ends-next n i at after here one ends more h e f g left =
       ap (λ k. ends_after (λ at some. ends_here t first last read at some) (count_of t) low
       (n - (i + 1)) k after one more)
-      (next i)
+      (add-one i)
       ∙ ap (λ k. ends_after (λ at some. ends_here t first last read at some) (count_of t) low (n - (i + 1))
       (suc i) k one more) f
       ∙ ap (ends_after (λ at some. ends_here t first last read at some) (count_of t) low (n - (i + 1)) (suc i)
-      (at + count_of t) one) (g ∙ ap (λ k. ends || (nat_le low k && one)) (next i))
+      (at + count_of t) one) (g ∙ ap (λ k. ends || (nat_le low k && one)) (add-one i))
       ∙ ap (λ x. ends_after (λ at some. ends_here t first last read at some) (count_of t) low (n - (i + 1)) (suc i)
       (at + count_of t) x (ends || (nat_le low (suc i) && x))) e
       ∙ sym (ap (λ k. ends_after (λ at some. ends_here t first last read at some) (count_of t) low k i at here ends)
       (one_less n i h))
-      ∙ left where
-        next : (i : ℕ) → i + 1 ≡ suc i
-        next i = omega arith
+      ∙ left
 
   pub ends-stopped : (k i at : ℕ) (here ends : Bool) → here ≡ false → Quiet read at → Left k i at here ends
       → ends ≡ ends_here (repeated t low high) first last read base begins

@@ -4,14 +4,14 @@
 -- characters; that is enough where those characters have every position that some character of ASCII has.
 use Rattle.std.proofs.Common.{◌≡◌, ℕ, zero, suc, ◌+◌, ◌<◌, ◌≤◌, inl, inr, Bool, true, false, ◌&&◌, ◌||◌, if◌then◌else◌, List, [], ◌∷◌, ◌++◌, length, replicate, get_or, take, refl, sym, ◌∙◌, ap, ap₂, subst, arith}
 use Rattle.std.proofs.Math.Path.{fun_ext}
-use Rattle.std.proofs.Math.Bool.{or_assoc, or-false, or-true}
+use Rattle.std.proofs.Math.Bool.{or_assoc, or-false, or-true, and-or_distrib_left, and-or_distrib_right}
 use Rattle.std.proofs.lemmas.List.{take_more, get_or_read}
-use Rattle.std.proofs.lemmas.Bool.{eq-eqb, ne_eqb, cases_eq, cases_lt}
+use Rattle.std.proofs.lemmas.Bool.{eq-eqb, ne_eqb, cases_eq, cases_lt, and_parts}
 use Rattle.patterns.specs.Tree.{Tree}
 use Rattle.word_states.specs.Position.{count_of, sets_of}
 use Rattle.state_laws.specs.Flow.{flag_at, ends_here, reads_next}
 use Rattle.state_laws.specs.Rows.{or_each, and_each, sets_have, none_read, only, may_follow, follow_each, ends_each}
-use Rattle.state_laws.proofs.RowsLemmas.{and_joined, or_each_none, flags_join}
+use Rattle.state_laws.proofs.RowsLemmas.{or_each_none, flags_join}
 use Rattle.state_laws.proofs.Sets.{next_asks_sets}
 use Rattle.state_laws.proofs.Each.{ends_of_each, next_of_each}
 use Rattle.js_nfa.specs.Marks.{Marks}
@@ -149,7 +149,7 @@ module _ (t : Tree) (read : ℕ → Bool) (q : ℕ) where
     joined-shown (suc n) h =
         (flags_join (joined always rows read n) (if read n then row rows n else []) q).0
         ∙ ap₂ (λ a b. a || b) (joined-shown n (omega (arith, h))) (one (read n))
-        ∙ sym (and_joined (flag_at (follow_each t false read true n) q)
+        ∙ sym (and-or_distrib_right (flag_at (follow_each t false read true n) q)
         (flag_at (if read n then may_follow t false (only n) 0 false else []) q) (is_shown t shown q))
         ∙ ap (λ b. b && is_shown t shown q)
         (sym (flags_join (follow_each t false read true n)
@@ -242,17 +242,14 @@ module _ (t : Tree) (count : ℕ) (having : List Marks) (characters : length hav
   set_has : (c q : ℕ) → flag_at (row having c) q ≡ true → flag_at (sets_have (sets_of t) c) q ≡ true
   set_has c q e = elim (cases_lt c 128) as (λ _. flag_at (sets_have (sets_of t) c) q ≡ true) [
     | inl ascii ↦
-        right (flag_at (follow_each t false (flag_at (replicate count true)) true (count_of t)) q)
+        (and_parts (flag_at (follow_each t false (flag_at (replicate count true)) true (count_of t)) q)
         (flag_at (sets_have (sets_of t) c) q)
         (sym ((flags_join (follow_each t false (flag_at (replicate count true)) true (count_of t))
         (sets_have (sets_of t) c) q).1)
         ∙ sym (ap (λ fs. flag_at fs q) (has c ascii ∙ next_of_each t false (flag_at (replicate count true)) c true))
-        ∙ e)
+        ∙ e)).1
     | inr past ↦ absurd (cc (sym (ap (λ fs. flag_at fs q) (row-past having c (omega (arith, past, characters)))) ∙ e))
-  ] where
-    right : (a b : Bool) → (a && b) ≡ true → b ≡ true
-    right true b f = f
-    right false b f = absurd (cc f)
+  ]
 
   pub shows_all : (cs : List ℕ) (q : ℕ) → is_in_some having cs q ≡ true → is_shown t cs q ≡ true
   shows_all [] q e = e
@@ -376,13 +373,10 @@ row-more t read begins cs i c flags reads after within is before e f q =
     ∙ ap₂ (λ a b. a || b) (before q)
     (ap (λ fs. flag_at fs q) (e ∙ next_asks_sets t false read c 0 begins)
     ∙ (flags_join (may_follow t false read 0 begins) (sets_have (sets_of t) c) q).1)
-    ∙ apart (flag_at (may_follow t false read 0 begins) q) (is_shown t (take i cs) q)
-    (flag_at (sets_have (sets_of t) c) q)
+    ∙ sym
+    (and-or_distrib_left (flag_at (may_follow t false read 0 begins) q) (is_shown t (take i cs) q)
+    (flag_at (sets_have (sets_of t) c) q))
     ∙ ap (λ b. flag_at (may_follow t false read 0 begins) q && b)
     (sym (ap (λ ds. is_shown t ds q) (more_taken) ∙ shown-append t (take i cs) c q)) where
       more_taken : take (i + 1) cs ≡ take i cs ++ c ∷ []
       more_taken = take_more cs i c within ∙ ap (λ d. take i cs ++ d ∷ []) (sym is)
-
-      apart : (a b d : Bool) → ((a && b) || (a && d)) ≡ (a && (b || d))
-      apart true b d = refl
-      apart false b d = refl

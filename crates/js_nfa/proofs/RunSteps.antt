@@ -1,5 +1,5 @@
 -- Copies of one set of characters, one more gone through.
-use Rattle.std.proofs.Common.{◌≡◌, ℕ, zero, suc, ◌+◌, ◌-◌, ◌<◌, ◌≤◌, Bool, true, false, not, ◌&&◌, ◌||◌, nat_le, List, [], ◌∷◌, ◌++◌, length, replicate, Option, Some, None, refl, sym, ◌∙◌, ap, arith}
+use Rattle.std.proofs.Common.{◌≡◌, ℕ, zero, suc, ◌+◌, ◌-◌, ◌<◌, ◌≤◌, Bool, true, false, not, ◌&&◌, ◌||◌, nat_le, List, [], ◌∷◌, ◌++◌, length, replicate, Option, Some, None, refl, sym, ◌∙◌, ap, arith, add-zero}
 use Rattle.std.proofs.Math.Bool.{or-false, or_assoc, and-false, and-true}
 use Rattle.std.proofs.lemmas.Bool.{lt-leb, le-leb}
 use Rattle.std.specs.Option.{is_none, is_some}
@@ -11,6 +11,7 @@ use Rattle.js_nfa.specs.Walk.{ends_after, next_after, some_in, copies_begun}
 use Rattle.js_nfa.proofs.Through.{reads_repeated}
 use Rattle.js_nfa.proofs.CopiesLemmas.{next_after-same}
 use Rattle.js_nfa.proofs.EndsSteps.{Left, ends-init, ends-next}
+use Rattle.list_laws.proofs.Numbers.{suc_add-add_suc}
 
 -- that there is no upper bound, as `is_none` says it
 pub none_of : (high : Option ℕ) (none : Bool) → is_some high ≡ not none → none ≡ is_none high
@@ -66,13 +67,10 @@ module _ (read : ℕ → Bool) (low : ℕ) where
       → after_run n i base here ends ≡ after_run (n - s) (i + s) (base + s) here ends
   run-skip zero n i base here ends h =
       ap (λ k. after_run k i base here ends) (same n)
-      ∙ ap (λ k. after_run (n - 0) k base here ends) (still i)
-      ∙ ap (λ k. after_run (n - 0) (i + 0) k here ends) (still base) where
+      ∙ ap (λ k. after_run (n - 0) k base here ends) (sym (add-zero i))
+      ∙ ap (λ k. after_run (n - 0) (i + 0) k here ends) (sym (add-zero base)) where
         same : (n : ℕ) → n ≡ n - 0
         same n = omega arith
-
-        still : (n : ℕ) → n ≡ n + 0
-        still n = omega arith
   run-skip (suc s) zero i base here ends h =
       sym (ap (λ k. after_run k (i + suc s) (base + suc s) here ends) (none s)) where
         none : (s : ℕ) → 0 - suc s ≡ 0
@@ -82,14 +80,11 @@ module _ (read : ℕ → Bool) (low : ℕ) where
       (ap (λ x. ends || (x && read base)) (lt-leb low (suc i) (omega (arith, h))) ∙ or-false ends)
       ∙ run-here n (suc i) (base + 1) (read base) here ends
       ∙ run-skip s n (suc i) (base + 1) here ends (omega (arith, h))
-      ∙ ap (λ k. after_run (n - s) k (base + 1 + s) here ends) (shift i s)
+      ∙ ap (λ k. after_run (n - s) k (base + 1 + s) here ends) (suc_add-add_suc i s)
       ∙ ap (λ k. after_run (n - s) (i + suc s) k here ends) (shift_one base s)
       ∙ ap (λ k. after_run k (i + suc s) (base + suc s) here ends) (less n s) where
         less : (n s : ℕ) → n - s ≡ suc n - suc s
         less n s = omega arith
-
-        shift : (i s : ℕ) → suc i + s ≡ i + suc s
-        shift i s = omega arith
 
         shift_one : (i s : ℕ) → i + 1 + s ≡ i + suc s
         shift_one i s = omega arith

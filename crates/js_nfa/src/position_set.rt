@@ -146,38 +146,13 @@ impl PositionSet {
         self.top = 0;
     }
 
-    /// Whether the sets have the same positions.
-    ///
-    /// As many flags on both sides are compared a word at a time, as far as words are full.
+    /// Whether the sets have the same positions, however many flags there are.
     pub(crate) fn same(&self, other: &PositionSet) -> bool
         ensures { IsTrue result ↔ (numbers_from 0 self.now.flags ≡ numbers_from 0 other.now.flags) }
     {
-        let len = self.len().max(other.len());
-        let full = if self.len() == other.len() {
-            self.len() / 64
-        } else {
-            0
-        };
-        if !self.same_words(other, full) {
-            return false;
-        }
-        for position in full * 64..len {
-            if self.contains(position) != other.contains(position) {
-                return false;
-            }
-        }
-        true
-    }
-
-    /// Whether so many words, full on both sides, have the same flags.
-    fn same_words(&self, other: &PositionSet, count: usize) -> bool
-        requires ours { 64 * count ≤ length self.now.flags }
-        requires theirs { 64 * count ≤ length other.now.flags }
-        ensures { IsTrue result
-            ↔ ((p : ℕ) → p < 64 * count → flag_at self.now.flags p ≡ flag_at other.now.flags p) }
-    {
+        let count = self.count_words().max(other.count_words());
         for index in 0..count {
-            if !have_same_bits(self.words[index], other.words[index]) {
+            if !have_same_bits(self.word(index), other.word(index)) {
                 return false;
             }
         }
@@ -243,7 +218,7 @@ impl PositionSet {
     }
 
     /// How many words there are up to `top`, from which on no bit is set.
-    fn count_words(&self) -> usize
+    pub(crate) fn count_words(&self) -> usize
         ensures quiet { Quiet (flag_at self.now.flags) (64 * result) }
         ensures within { 64 * result < length self.now.flags + 64 }
         ensures small { 64 * result ≤ 2 ^ 32 }
@@ -252,7 +227,7 @@ impl PositionSet {
     }
 
     /// The flags of 64 positions, the lowest bit for the first of them.
-    fn word(&self, index: usize) -> u64
+    pub(crate) fn word(&self, index: usize) -> u64
         ensures { (i : ℕ) → i < 64 → (bit_at result i == 1) ≡ flag_at self.now.flags (64 * index + i) }
     {
         if index < self.words.len() {

@@ -1,7 +1,7 @@
 //! What is kept of a word for a pattern, but for whether the word is empty.
 //!
-//! States are compared and hashed by their positions, in a look at each. So they serve as keys of a table, however a
-//! set of positions is stored.
+//! States are compared and hashed by their positions, in a look at each word of 64. So they serve as keys of a table,
+//! however a set of positions is stored.
 
 ghost use Rattle.std.specs.Prelude.{◌≡◌};
 ghost use Rattle.std.specs.Cmp.{on_equiv, on_per, partial_equiv_from_equiv};
@@ -64,13 +64,17 @@ fn is_same(x: &PatternState, y: &PatternState) -> bool
     }
 }
 
-/// Feeds a hasher the positions of a set.
+/// Feeds a hasher the positions of a set, as the words that have some of them.
+///
+/// A word goes with its number, so those without a position cost no feed.
 fn feed<H: Hasher>(positions: &PositionSet, state: &mut H)
     ensures { state.new ≡ fold H.write state.old (fed_places (numbers_from 0 positions.now.flags)) }
 {
-    for position in 0..positions.len() {
-        if positions.contains(position) {
-            position.hash(state);
+    for index in 0..positions.count_words() {
+        let word = positions.word(index);
+        if word != 0 {
+            index.hash(state);
+            word.hash(state);
         }
     }
 }
