@@ -1,3 +1,2 @@
--- The goal of a table is taken, and the word of a text may be requested.
+-- The goal of a table is taken.
 mod Taken
-mod Words

@@ -1,5 +1,5 @@
 -- Documents for what a complete plan places and for its fillers make an array that is arranged by the frame.
-use Rattle.std.proofs.Common.{◌≡◌, ℕ, zero, suc, ◌+◌, ◌<◌, ◌≤◌, min, ◌⊎◌, inl, inr, ⊎_elim, true, false, List, [], ◌∷◌, ◌++◌, map, flat_map, length, take, Option, Some, None, refl, ap, sym, ◌∙◌, subst, arith, length-append}
+use Rattle.std.proofs.Common.{◌≡◌, ℕ, zero, suc, ◌+◌, ◌<◌, ◌≤◌, min, ◌⊎◌, inl, inr, ⊎_elim, true, false, List, [], ◌∷◌, ◌++◌, map, flat_map, length, take, Option, Some, None, refl, ap, sym, ◌∙◌, subst, arith, length-append, add-zero, zero-add}
 use Rattle.std.proofs.lemmas.Bool.{and_from}
 use Rattle.std.proofs.lemmas.List.{length-map}
 use Rattle.std.specs.Option.{is_none}
@@ -21,6 +21,7 @@ use Rattle.frame_laws.proofs.CompletePlans.{IsComplete}
 use Rattle.array_laws.specs.ArrayValues.{stand, doc_at}
 use Rattle.array_laws.proofs.Lists.{in_doc}
 use Rattle.array_laws.proofs.Sets.{stand_head, stand_cell, arrangement}
+use Rattle.list_laws.proofs.Numbers.{suc_add-add_suc}
 
 pub elements_of : (es : List Document) → elements (items_of es) ≡ es
 elements_of [] = refl
@@ -60,15 +61,10 @@ module _ (T : List Position) (frame : Frame) (d : ℕ) where
       → (ds : List Signed) × IsFor (stand frame.heads (j + i), ds) (doc_at Js i)
   for_at j [] [] a i l = absurd (omega (arith, l))
   for_at j (s ∷ ss) (J ∷ Js) a zero l =
-      (s.1, subst (λ z. IsFor (z, s.1) J) (a.0 ∙ ap (stand frame.heads) (plus j)) a.1) where
-        plus : (j : ℕ) → j ≡ j + 0
-        plus j = omega arith
+      (s.1, subst (λ z. IsFor (z, s.1) J) (a.0 ∙ ap (stand frame.heads) (sym (add-zero j))) a.1)
   for_at j (s ∷ ss) (J ∷ Js) a (suc i) l =
       let (ds, f) = for_at (suc j) ss Js a.2 i (omega (arith, l)) in
-      (ds, subst (λ z. IsFor (stand frame.heads z, ds) (doc_at Js i)) (plus j i) f)
-    where
-      plus : (j i : ℕ) → suc j + i ≡ j + suc i
-      plus j i = omega arith
+      (ds, subst (λ z. IsFor (stand frame.heads z, ds) (doc_at Js i)) (suc_add-add_suc j i) f)
   for_at j [] (J ∷ Js) a i l = absurd a
   for_at j (s ∷ ss) [] a i l = absurd a
 
@@ -76,17 +72,16 @@ module _ (T : List Position) (frame : Frame) (d : ℕ) where
   pub for_in : (j : ℕ) (ss : List Slot) (Js : List Document) → AreFor j ss Js → (s : Slot) → IsIn s ss
       → (i : ℕ) × (i < length Js) × (s.0 ≡ stand frame.heads (j + i)) × IsFor s (doc_at Js i)
   for_in j [] Js a s i = absurd i
-  for_in j (t ∷ ss) (J ∷ Js) a s (inl e) =
-      (0, omega arith, ap (λ z. z.0) e ∙ a.0 ∙ ap (stand frame.heads) (plus j), subst (λ z. IsFor z J) (sym e) a.1)
-    where
-      plus : (j : ℕ) → j ≡ j + 0
-      plus j = omega arith
+  for_in j (t ∷ ss) (J ∷ Js) a s (inl e) = (
+    0,
+    omega arith,
+    ap (λ z. z.0) e ∙ a.0
+        ∙ ap (stand frame.heads) (sym (add-zero j)),
+    subst (λ z. IsFor z J) (sym e) a.1,
+  )
   for_in j (t ∷ ss) (J ∷ Js) a s (inr i) =
       let (k, l, e, f) = for_in (suc j) ss Js a.2 s i in
-      (suc k, omega (arith, l), e ∙ ap (stand frame.heads) (plus j k), f)
-    where
-      plus : (j i : ℕ) → suc j + i ≡ j + suc i
-      plus j i = omega arith
+      (suc k, omega (arith, l), e ∙ ap (stand frame.heads) (suc_add-add_suc j k), f)
   for_in j (t ∷ ss) [] a s i = absurd a
 
   -- documents for a list of slots, by a function
@@ -167,15 +162,10 @@ pub head_in : (x : Signed) (m j k : ℕ) (xs : List (List Signed)) → IsIn x (a
     → IsIn (Head (j + k), at_list xs k) (take m (heads_from j xs))
 head_in x zero j k xs i l = absurd (omega (arith, l))
 head_in x (suc m) j k [] i l = absurd i
-head_in x (suc m) j zero (y ∷ xs) i l = inl (ap (λ z. (Head z, y)) (plus j)) where
-  plus : (j : ℕ) → j + 0 ≡ j
-  plus j = omega arith
+head_in x (suc m) j zero (y ∷ xs) i l = inl (ap (λ z. (Head z, y)) (add-zero j))
 head_in x (suc m) j (suc k) (y ∷ xs) i l =
-    inr (subst (λ z. IsIn (Head z, at_list xs k) (take m (heads_from (suc j) xs))) (plus j k)
+    inr (subst (λ z. IsIn (Head z, at_list xs k) (take m (heads_from (suc j) xs))) (suc_add-add_suc j k)
     (head_in x m (suc j) k xs i (omega (arith, l))))
-  where
-    plus : (j k : ℕ) → suc j + k ≡ j + suc k
-    plus j k = omega arith
 
 module _ (T : List Position) (ok : IsTable T) (S : List Signed) (d : ℕ) (q : Plan)
     (k : IsComplete T (array_frame T S) q)
@@ -267,10 +257,7 @@ module _ (T : List Position) (ok : IsTable T) (S : List Signed) (d : ℕ) (q : P
       → (ds : List Signed) × IsFor T (array_frame T S) d (stand (longest T S) i, ds) (doc_at es i)
   at i l =
       let (ds, f) = for_at T (array_frame T S) d 0 slots es are_for i l in
-      (ds, subst (λ z. IsFor T (array_frame T S) d (stand (longest T S) z, ds) (doc_at es i)) (zero_more i) f)
-    where
-      zero_more : (i : ℕ) → 0 + i ≡ i
-      zero_more i = omega arith
+      (ds, subst (λ z. IsFor T (array_frame T S) d (stand (longest T S) z, ds) (doc_at es i)) (zero-add i) f)
 
   served : (x : Signed) (s : Slot) → IsIn s (placed (array_frame T S) q) → IsIn x s.1
       → (i : ℕ) × (i < length es)
@@ -282,11 +269,8 @@ module _ (T : List Position) (ok : IsTable T) (S : List Signed) (d : ℕ) (q : P
         n,
         l,
         subst (λ z. meets T ((array_frame T S).serving z x) (doc_at es n) ≡ true)
-            (e ∙ ap (stand (longest T S)) (zero_more n)) (serving_met T (array_frame T S) d s (doc_at es n) f x j),
+            (e ∙ ap (stand (longest T S)) (zero-add n)) (serving_met T (array_frame T S) d s (doc_at es n) f x j),
       )
-    where
-      zero_more : (i : ℕ) → 0 + i ≡ i
-      zero_more i = omega arith
 
   -- the array that is built is arranged as the frame asks
   pub built_arranged : IsArranged T (array_frame T S) (arrangement T (longest T S) es)
@@ -300,7 +284,7 @@ module _ (T : List Position) (ok : IsTable T) (S : List Signed) (d : ℕ) (q : P
     served = λ x i. ⊎_elim
         (λ s. ⊎_elim
         (λ (n, j). by x (Head n, at_list q.heads n) (in_left (Head n, at_list q.heads n) front behind
-        (subst (λ z. IsIn (Head z, at_list q.heads n) front) (zero_more n)
+        (subst (λ z. IsIn (Head z, at_list q.heads n) front) (zero-add n)
         (head_in x (size (array_frame T S) q) 0 n q.heads j (omega (arith, used_past x q.heads n j))))) j)
         (λ (m, j, h). by x (In m.cell, m.served)
         (in_right (In m.cell, m.served) front behind (in_map (λ m. (In m.cell, m.served)) m q.members j)) h) s)
@@ -308,9 +292,6 @@ module _ (T : List Position) (ok : IsTable T) (S : List Signed) (d : ℕ) (q : P
     capped = λ c b e. cc;
     formed = λ j l h e. formed j l e;
   } where
-    zero_more : (i : ℕ) → 0 + i ≡ i
-    zero_more i = omega arith
-
     any_inside : (x : Signed) (at : Place) → IsInside (array_frame T S) x at
     any_inside x (Head i) = tt
     any_inside x (In c) = refl

@@ -30,12 +30,12 @@ use Rattle.array_laws.proofs.Lists.{doc_in}
 use Rattle.array_laws.proofs.Sets.{AreMet, arrangement, is_arranged, literals_met}
 use Rattle.array_laws.proofs.Building.{Slot, IsFor, elements_of, used_long, built_arranged, built_document, built_depth}
 
-items_deep : (ds : D.Items) (J : Document) → IsIn J (elements ds) → depth J ≤ items_depth ds
+pub items_deep : (ds : D.Items) (J : Document) → IsIn J (elements ds) → depth J ≤ items_depth ds
 items_deep D.no_items J i = absurd i
 items_deep (D.item e ds) J (inl q) = let h : depth J ≡ depth e = ap depth q in omega (arith, h)
 items_deep (D.item e ds) J (inr i) = omega (arith, items_deep ds J i)
 
-items_good : (ds : D.Items) → are_documents ds ≡ true → (J : Document) → IsIn J (elements ds) → is_document J ≡ true
+pub items_good : (ds : D.Items) → are_documents ds ≡ true → (J : Document) → IsIn J (elements ds) → is_document J ≡ true
 items_good D.no_items a J i = absurd i
 items_good (D.item e ds) a J i =
     let (own, more) = and_parts (is_document e) (are_documents ds) a in

@@ -1,6 +1,6 @@
 -- An array meets the literals of a set exactly where its elements are arranged as the set's frame asks.
-use Rattle.std.proofs.Common.{◌≡◌, ℕ, ◌<◌, ◌≤◌, max, min, inl, inr, ⊎_elim, Bool, true, false, ◌||◌, not, nat_le, List, [], ◌∷◌, flat_map, length, Option, Some, None, refl, ap, sym, ◌∙◌, subst, arith}
-use Rattle.std.proofs.lemmas.Bool.{or_parts, or_from, leb-true, leb-false, le-leb, lt-leb, lt-ltb, le-ltb}
+use Rattle.std.proofs.Common.{◌≡◌, ℕ, ◌<◌, ◌≤◌, max, inl, inr, ⊎_elim, Bool, true, false, ◌||◌, not, List, [], ◌∷◌, flat_map, length, Option, Some, None, refl, ap, sym, ◌∙◌, subst, arith}
+use Rattle.std.proofs.lemmas.Bool.{or_parts, or_from, lt-ltb, le-ltb}
 use Rattle.std.specs.Option.{is_none}
 use Rattle.documents.specs.Tests.{every}
 use Rattle.documents.specs.Kind as K
@@ -22,6 +22,7 @@ use Rattle.frame_laws.proofs.Arranged.{Arrangement, IsInside, IsArranged}
 use Rattle.list_laws.proofs.Tests.{from_filter}
 use Rattle.array_laws.specs.ArrayValues.{stand, doc_at}
 use Rattle.array_laws.proofs.Literals.{IsPlus, IsMinus, is_plus, is_minus, from_plus, from_minus}
+use Rattle.frame_laws.proofs.Ends.{lesser_end}
 
 abbrev pub lower_at : List Position → Signed → ℕ
 lower_at T (Plus p) = plus_lower (position_at T p)
@@ -49,18 +50,6 @@ pub lower_to : (T : List Position) (S : List Signed) (n : ℕ) → lower T S ≤
 lower_to T [] n h x i = absurd i
 lower_to T (y ∷ S) n h x (inl e) = subst (λ z. lower_at T z ≤ n) (sym e) (omega (arith, lower_is T y S, h))
 lower_to T (y ∷ S) n h x (inr i) = lower_to T S n (omega (arith, lower_is T y S, h)) x i
-
-lesser_end : (n : ℕ) (a b : Option ℕ) → is_at_end n (lesser a b) ≡ (is_at_end n a || is_at_end n b)
-lesser_end n None b = refl
-lesser_end n (Some k) None = go (nat_le k n) where
-  go : (t : Bool) → t ≡ (t || false)
-  go true = refl
-  go false = refl
-lesser_end n (Some k) (Some l) = go (nat_le k n) (nat_le l n) refl refl where
-  go : (a b : Bool) → nat_le k n ≡ a → nat_le l n ≡ b → nat_le (min k l) n ≡ (a || b)
-  go true b e f = let h = leb-true k n e in le-leb (min k l) n (omega (arith, h))
-  go false true e f = let h = leb-true l n f in le-leb (min k l) n (omega (arith, h))
-  go false false e f = let h = leb-false k n e in let g = leb-false l n f in lt-leb (min k l) n (omega (arith, h, g))
 
 end_is : (T : List Position) (x : Signed) (S : List Signed) (n : ℕ)
     → is_at_end n (below T (x ∷ S)) ≡ (is_at_end n (below_at T x) || is_at_end n (below T S))

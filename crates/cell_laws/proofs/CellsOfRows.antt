@@ -19,24 +19,25 @@ use Rattle.list_laws.proofs.Tests.{from_filter, beq-true}
 use Rattle.cell_laws.specs.RightCells.{IsOf, AreCells, AreWords}
 use Rattle.cell_laws.proofs.WordsInOrderLaws.{differ_filter, shorter_is, shorter_differ}
 
-same_true : (u v : List Bool) → same_vector u v ≡ true → u ≡ v
-same_true [] [] e = refl
-same_true [] (b ∷ v) e = cc
-same_true (a ∷ u) [] e = cc
-same_true (a ∷ u) (b ∷ v) e =
-    let (h, k) = and_parts (beq a b) (same_vector u v) e in ap₂ (λ x xs. x ∷ xs) (beq-true a b h) (same_true u v k)
+pub same_vector-true : (u v : List Bool) → same_vector u v ≡ true → u ≡ v
+same_vector-true [] [] e = refl
+same_vector-true [] (b ∷ v) e = cc
+same_vector-true (a ∷ u) [] e = cc
+same_vector-true (a ∷ u) (b ∷ v) e =
+    let (h, k) = and_parts (beq a b) (same_vector u v) e in ap₂ (λ x xs. x ∷ xs) (beq-true a b h)
+    (same_vector-true u v k)
 
-same_self : (u : List Bool) → same_vector u u ≡ true
-same_self [] = refl
-same_self (true ∷ u) = same_self u
-same_self (false ∷ u) = same_self u
+pub same_vector-refl : (u : List Bool) → same_vector u u ≡ true
+same_vector-refl [] = refl
+same_vector-refl (true ∷ u) = same_vector-refl u
+same_vector-refl (false ∷ u) = same_vector-refl u
 
 -- what is mentioned is there
 
 any_in : (v : List Bool) (L : List (List Bool)) → list_any (same_vector v) L ≡ true → IsIn v L
 any_in v [] e = cc
 any_in v (u ∷ L) e = elim (or_cases (same_vector v u) (list_any (same_vector v) L) e) [
-  | inl h ↦ inl (same_true v u h)
+  | inl h ↦ inl (same_vector-true v u h)
   | inr h ↦ inr (any_in v L h)
 ]
 
@@ -69,8 +70,9 @@ place_at v (u ∷ vs) i = go (same_vector v u) refl i (place_at v vs) where
   go : (b : Bool) → same_vector v u ≡ b → IsIn v (u ∷ vs)
       → (IsIn v vs → (place v vs < length vs) × (vector_at vs (place v vs) ≡ v))
       → (cond b 0 (suc (place v vs)) < suc (length vs)) × (vector_at (u ∷ vs) (cond b 0 (suc (place v vs))) ≡ v)
-  go true e i more = (omega arith, sym (same_true v u e))
-  go false e (inl q) more = let f : same_vector v u ≡ true = subst (λ z. same_vector v z ≡ true) q (same_self v) in cc
+  go true e i more = (omega arith, sym (same_vector-true v u e))
+  go false e (inl q) more =
+      let f : same_vector v u ≡ true = subst (λ z. same_vector v z ≡ true) q (same_vector-refl v) in cc
   go false e (inr i) more = let (l, h) = more i in (omega (arith, l), h)
 
 -- a vector tells what a literal says

@@ -9,6 +9,7 @@ use Rattle.cell_laws.specs.Counting.{count, number, sum_to, asked_by, number_by}
 use Rattle.cell_laws.proofs.Sums.{sum_same, sum_cut, plus_cut, sum_part}
 use Rattle.cell_laws.proofs.Settled.{count_step, stable, settled}
 use Rattle.list_laws.specs.In.{IsIn}
+use Rattle.list_laws.proofs.Numbers.{min_twice, min-right}
 
 sum_to_same : (n : ℕ) (f g : ℕ → ℕ) → ((k : ℕ) → k < n → f k ≡ g k) → sum_to n f ≡ sum_to n g
 sum_to_same zero f g h = refl
@@ -89,10 +90,8 @@ module _ (letters : List ℕ) (class : ℕ → ℕ) (target : ℕ → ℕ → �
       (sum_over (λ c. count letters to in_cell n (to r c)) letters)
       (sum_cut bound (λ c. number letters to in_cell bound n (to r c)) (λ c. count letters to in_cell n (to r c))
       letters
-      (λ c i. twice bound (count letters to in_cell n (to r c))))
-      ∙ ap (λ z. min bound z) (sym (count_step letters to in_cell n r)) where
-        twice : (b x : ℕ) → min b (min b x) ≡ min b x
-        twice b x = grind arith
+      (λ c i. min_twice bound (count letters to in_cell n (to r c))))
+      ∙ ap (λ z. min bound z) (sym (count_step letters to in_cell n r))
 
   -- labels that keep the rule bound the numbers of words of any length
   module _ (label : ℕ → ℕ) (keeps : KeepsRule rows classes (width class letters) target in_cell label) where
@@ -134,13 +133,10 @@ module _ (letters : List ℕ) (class : ℕ → ℕ) (target : ℕ → ℕ → �
         (sum_same (λ c. number letters to in_cell bound far (to r c)) (λ c. count letters to in_cell far (to r c))
         letters (λ c i.
         let p = sum_part (λ c. count letters to in_cell far (to r c)) c letters i in
-        under bound (count letters to in_cell far (to r c)) (omega (arith, p, k, n, e, b))))
+        min-right bound (count letters to in_cell far (to r c)) (omega (arith, p, k, n, e, b))))
         ∙ sym k ∙ n ∙ sym e where
           one : (b y x : ℕ) → min b y ≡ min b x → min b x < b → y ≡ x
           one b y x e l = grind (arith, e, l)
-
-          under : (b x : ℕ) → x < b → min b x ≡ x
-          under b x l = grind (arith, l)
 
     -- where the first row's number isn't cut, no number of a row that words lead to is, and they keep the rule with
     -- equality

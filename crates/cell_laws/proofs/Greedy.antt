@@ -6,6 +6,7 @@ use Rattle.cell_laws.specs.FirstWords.{IsRelaxed, IsLeast, IsGreedy}
 use Rattle.cell_laws.proofs.WordLaws as F
 use Rattle.std.proofs.Common.{◌++◌}
 use Rattle.list_laws.specs.In.{IsIn}
+use Rattle.list_laws.proofs.Numbers.{three_ways}
 
 module _ (rank : ℕ → ℕ) (letters : List ℕ) (to : ℕ → ℕ → ℕ) (in_cell : ℕ → Bool) (rows : ℕ) (far : ℕ → ℕ)
     (closed : (r c : ℕ) → r < rows → IsIn c letters → to r c < rows)
@@ -35,10 +36,7 @@ module _ (rank : ℕ → ℕ) (letters : List ℕ) (to : ℕ → ℕ → ℕ) (i
       → (r k : ℕ) → ((j : ℕ) → j < k → far r ≤ far (target r j)) → (b : ℕ) → IsIn b letters → rank b < rank (first k)
       → far r ≤ far (to r b)
   first_class class first target is low rise r k none b i l =
-      subst (λ z. far r ≤ far z) (sym (is r b)) (none (class b) (before (order k (class b)))) where
-        order : (a b : ℕ) → (a < b) ⊎ ((a ≡ b) ⊎ (b < a))
-        order a b = grind arith
-
+      subst (λ z. far r ≤ far z) (sym (is r b)) (none (class b) (before (three_ways k (class b)))) where
         before : (k < class b) ⊎ ((k ≡ class b) ⊎ (class b < k)) → class b < k
         before (inl m) = let a = low b i in let c = rise k (class b) m in absurd (omega (arith, a, c, l))
         before (inr (inl m)) = let a = low b i in let c : rank (first k) ≡ rank (first (class b)) =

@@ -1,6 +1,6 @@
 -- Lists without repeats, and lists of words that all lead into the cell: their fronts, two of them joined, and a letter
 -- before each word.
-use Rattle.std.proofs.Common.{ℕ, zero, suc, ◌⊎◌, inl, inr, ⊎_elim, List, [], ◌∷◌, ◌++◌, map, take, Bool, refl, sym, subst}
+use Rattle.std.proofs.Common.{ℕ, zero, suc, inl, inr, ⊎_elim, List, [], ◌∷◌, ◌++◌, map, take, Bool, refl, sym, subst}
 use Rattle.cell_laws.specs.Leading.{Leads, AllLead}
 use Rattle.list_laws.specs.In.{Distinct, IsIn}
 use Rattle.list_laws.proofs.Lists.{in_append, in_take}

@@ -11,6 +11,7 @@ use Rattle.cell_laws.proofs.Lists.{lead_at}
 use Rattle.cell_laws.specs.FirstWords.{Lex, Before, IsOrdered, AreFirst, of_length, pick, word_at, count_of}
 use Rattle.list_laws.specs.In.{IsIn}
 use Rattle.list_laws.proofs.Lists.{in_append, in_right}
+use Rattle.list_laws.proofs.Numbers.{three_ways}
 
 module _ (letters : List ℕ) (to : ℕ → ℕ → ℕ) (in_cell : ℕ → Bool) where
   pub counted : (m r : ℕ) → length (of_length letters to in_cell m r) ≡ count_of letters to in_cell m r
@@ -85,16 +86,13 @@ module _ (letters : List ℕ) (to : ℕ → ℕ → ℕ) (in_cell : ℕ → Bool
 -- words of letters are in a total order, where letters with one rank are one
 module _ (rank : ℕ → ℕ) (letters : List ℕ)
     (apart : (c d : ℕ) → IsIn c letters → IsIn d letters → rank c ≡ rank d → c ≡ d) where
-  order : (a b : ℕ) → (a < b) ⊎ ((a ≡ b) ⊎ (b < a))
-  order a b = grind arith
-
   lex_total : (to : ℕ → ℕ → ℕ) (in_cell : ℕ → Bool) (r q : ℕ) (v w : List ℕ) → Leads letters to in_cell r v
       → Leads letters to in_cell q w → length v ≡ length w → Lex rank v w ⊎ ((v ≡ w) ⊎ Lex rank w v)
   lex_total to in_cell r q [] [] h k e = inr (inl refl)
   lex_total to in_cell r q [] (d ∷ w) h k e = absurd (omega (arith, e))
   lex_total to in_cell r q (c ∷ v) [] h k e = absurd (omega (arith, e))
   lex_total to in_cell r q (c ∷ v) (d ∷ w) h k e =
-      go (order (rank c) (rank d))
+      go (three_ways (rank c) (rank d))
       (lex_total to in_cell (to r c) (to q d) v w (h.0.1, h.1) (k.0.1, k.1) (omega (arith, e))) where
         go : (rank c < rank d) ⊎ ((rank c ≡ rank d) ⊎ (rank d < rank c)) → Lex rank v w ⊎ ((v ≡ w) ⊎ Lex rank w v)
             → Lex rank (c ∷ v) (d ∷ w) ⊎ ((c ∷ v ≡ d ∷ w) ⊎ Lex rank (d ∷ w) (c ∷ v))
@@ -106,7 +104,7 @@ module _ (rank : ℕ → ℕ) (letters : List ℕ)
 
   total : (to : ℕ → ℕ → ℕ) (in_cell : ℕ → Bool) (r : ℕ) (v w : List ℕ) → Leads letters to in_cell r v
       → Leads letters to in_cell r w → Before rank v w ⊎ ((v ≡ w) ⊎ Before rank w v)
-  total to in_cell r v w h k = go (order (length v) (length w)) where
+  total to in_cell r v w h k = go (three_ways (length v) (length w)) where
     go : (length v < length w) ⊎ ((length v ≡ length w) ⊎ (length w < length v))
         → Before rank v w ⊎ ((v ≡ w) ⊎ Before rank w v)
     go (inl l) = inl (inl l)

@@ -1,6 +1,6 @@
 -- Numbers of rows that rise step by step up to a bound, each step a function of the one before, rise no more after as
 -- many steps as rows times the bound.
-use Rattle.std.proofs.Common.{◌≡◌, ℕ, zero, suc, ◌+◌, ◌*◌, ◌-◌, ◌<◌, ◌≤◌, ◌⊎◌, inl, inr, sym, subst, arith}
+use Rattle.std.proofs.Common.{◌≡◌, ℕ, zero, suc, ◌+◌, ◌*◌, ◌-◌, ◌<◌, ◌≤◌, ◌⊎◌, inl, inr, sym, subst, arith, zero-add, suc-add}
 use Rattle.std.proofs.lemmas.Bool.{cases_eq}
 
 -- f 0 + .. + f (n - 1)
@@ -43,12 +43,8 @@ module _ (rows bound : ℕ) (at : ℕ → ℕ → ℕ)
     IsSettled n = (r : ℕ) → r < rows → at (suc n) r ≡ at n r
 
     stays : (n k : ℕ) → IsSettled n → IsSettled (k + n)
-    stays n zero s = subst IsSettled (zero_plus n) s where
-      zero_plus : (n : ℕ) → n ≡ 0 + n
-      zero_plus n = omega arith
-    stays n (suc k) s = subst IsSettled (suc_plus k n) (λ r l. known (suc (k + n)) (k + n) (stays n k s) r l) where
-      suc_plus : (k n : ℕ) → suc (k + n) ≡ suc k + n
-      suc_plus k n = omega arith
+    stays n zero s = subst IsSettled (sym (zero-add n)) s
+    stays n (suc k) s = subst IsSettled (sym (suc-add k n)) (λ r l. known (suc (k + n)) (k + n) (stays n k s) r l)
 
     by_then : (n : ℕ) → ((i : ℕ) × (i ≤ n) × IsSettled i) ⊎ (n < sum_to rows (at (suc n)))
     by_then zero = elim (sum_more rows (at 0) (at 1) (λ r l. rises 0 r l)) [

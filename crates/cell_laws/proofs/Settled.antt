@@ -12,6 +12,7 @@ use Rattle.cell_laws.proofs.Settle as S
 use Rattle.cell_laws.specs.Counting.{count, number}
 use Rattle.cell_laws.proofs.Sums.{sum_none, sum_plus, sum_cut, plus_cut}
 use Rattle.list_laws.specs.In.{Distinct, IsIn}
+use Rattle.list_laws.proofs.Numbers.{min-right}
 
 module _ (letters : List ℕ) (to : ℕ → ℕ → ℕ) (in_cell : ℕ → Bool) where
   -- the number is the length of the list
@@ -96,12 +97,10 @@ module _ (letters : List ℕ) (to : ℕ → ℕ → ℕ) (in_cell : ℕ → Bool
           → AtMost letters to in_cell r (count letters to in_cell far r)
       at_most r l b =
           let e : number letters to in_cell bound far r ≡ count letters to in_cell far r =
-          same bound (count letters to in_cell far r) b in
+          min-right bound (count letters to in_cell far r) b in
           subst (λ k. AtMost letters to in_cell r k) e
           (upper rows letters to in_cell bound (number letters to in_cell bound far) closed stable r l
-          (omega (arith, e, b))) where
-            same : (b x : ℕ) → x < b → min b x ≡ x
-            same b x l = grind (arith, l)
+          (omega (arith, e, b)))
 
       -- the cut number is the capacity
       pub capacity : Distinct letters → (r : ℕ) → r < rows

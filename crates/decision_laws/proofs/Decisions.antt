@@ -41,6 +41,11 @@ use Rattle.expander_laws.proofs.Inside.{goals_named, formed_goal}
 use Rattle.decision_laws.proofs.Verdicts.{Says, verdict_says, says_verdict}
 use Rattle.decision_laws.proofs.Full.{IsKept, explored_kept}
 use Rattle.decision_laws.proofs.Few.{many, few_goals}
+use Rattle.std.proofs.lemmas.Option.{same_Some}
+use Rattle.list_laws.proofs.Booleans.{and_not-implies}
+
+pub no_document : (ps : List Part) (i : ℕ) → Document ps i ≡ NoDocument → ⊥
+no_document ps i e = cc
 
 module _ (F : Finders) (T : List Position) (most most_places a b : ℕ) where
   abbrev pub Decision : Decided
@@ -112,12 +117,6 @@ module _ (F : Finders) (T : List Position) (most most_places a b : ℕ) where
           → meets T root J ≡ (holds T a J && not (holds T b J))
       root_met root p J = sym (ap (λ o. meets_goal T o J) p) ∙ meets-root T ok J a b
 
-      same_goal : (g h : List Signed) → Some g ≡ Some h → g ≡ h
-      same_goal g h e = cc
-
-      no_document : (ps : List Part) (i : ℕ) → Document ps i ≡ NoDocument → ⊥
-      no_document ps i e = cc
-
       module _ (root : List Signed) (is_root : root_of T a b ≡ Some root) where
         abbrev E : List Signed → Expansion
         E = expansion T (leaf F T)
@@ -137,7 +136,7 @@ module _ (F : Finders) (T : List Position) (most most_places a b : ℕ) where
         parts_right (Some x) q h =
             let w : IsWitness F T ok numbers strings cells f 0 x.0 (unshared Ps own) =
             witness_made F T ok numbers strings cells f 0 x.0 x.1 q in
-            let same : w.goal ≡ root = same_goal w.goal root (sym w.at ∙ root_first most most_places E root) in
+            let same : w.goal ≡ root = same_Some w.goal root (sym w.at ∙ root_first most most_places E root) in
             let (good, deep, m) = w.made in
             let met = subst (λ g. meets T g (unshared Ps own) ≡ true) same m in
             let (first, second) = and_parts _ _ (sym (root_met root is_root (unshared Ps own)) ∙ met) in
@@ -168,16 +167,12 @@ module _ (F : Finders) (T : List Position) (most most_places a b : ℕ) where
       pub none_right : 0 < most → Decision.verdict ≡ NoDocument → IsIncluded T a b
       none_right l e J good first =
           go (root_of T a b) refl (subst (λ v. RootSays (root_of T a b) v) e (root_says (root_of T a b))) where
-            by : (x y : Bool) → (x && not y) ≡ false → x ≡ true → y ≡ true
-            by true true m h = refl
-            by true false m h = cc
-            by false y m h = cc
-
             go : (o : Option (List Signed)) → root_of T a b ≡ o → RootSays o NoDocument → holds T b J ≡ true
-            go None p s = by (holds T a J) (holds T b J)
+            go None p s = and_not-implies (holds T a J) (holds T b J)
                 (sym (meets-root T ok J a b) ∙ ap (λ o. meets_goal T o J) p) first
             go (Some root) p (unmet, over, open_) =
-                by (holds T a J) (holds T b J) (sym (root_met root p J) ∙ none (meets T root J) refl) first where
+                and_not-implies (holds T a J) (holds T b J)
+                (sym (root_met root p J) ∙ none (meets T root J) refl) first where
                   none : (m : Bool) → meets T root J ≡ m → m ≡ false
                   none false h = refl
                   none true h =

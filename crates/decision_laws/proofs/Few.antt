@@ -1,14 +1,14 @@
 -- There are no more goals over n positions than lists that say of each position that it holds, that it doesn't, or
 -- nothing.
 use Rattle.std.proofs.Common.{◌≡◌, ℕ, zero, suc, ◌+◌, ◌<◌, ◌≤◌, inl, inr, ⊎_elim, true, ◌||◌, nat_lt, List, [], ◌∷◌, ◌++◌, map, length, Option, Some, None, is_some, refl, ap, sym, ◌∙◌, subst, arith, length-append}
-use Rattle.std.proofs.lemmas.Bool.{and_parts, or_parts, ltb-true, leb-true, cases_eq, true≢false}
+use Rattle.std.proofs.lemmas.Bool.{and_parts, or_parts, ltb-true, cases_eq, true≢false}
 use Rattle.std.proofs.lemmas.List.{length-map}
-use Rattle.std.proofs.lemmas.Option.{slice_get_within}
+use Rattle.std.proofs.lemmas.Option.{slice_get_within, same_Some}
 use Rattle.documents.specs.Tests.{every}
 use Rattle.positions.specs.Position.{Position}
 use Rattle.goals.specs.Signed.{Signed, Plus, Minus, position_of, opposite, has, comes_before, is_rising}
 use Rattle.goals.specs.Goal.{is_never}
-use Rattle.goal_laws.proofs.Signs.{some-none}
+use Rattle.goal_laws.proofs.Signs.{some-none, comes_before-le, comes_before-lt}
 use Rattle.list_laws.specs.In.{IsIn, Distinct}
 use Rattle.list_laws.proofs.Lists.{every_at, in_left, in_right, in_map, from_map}
 use Rattle.list_laws.proofs.Pigeons.{pigeon}
@@ -46,22 +46,6 @@ many_rise zero (suc n) l = omega (arith, many_rise zero n (omega arith))
 many_rise (suc m) zero l = absurd (omega (arith, l))
 many_rise (suc m) (suc n) l = omega (arith, many_rise m n (omega (arith, l)))
 
-low_first : (x y : Signed) → comes_before x y ≡ true → position_of x ≤ position_of y
-low_first (Plus p) (Plus q) e = omega (arith, ltb-true p q e)
-low_first (Plus p) (Minus q) e = leb-true p q e
-low_first (Minus p) (Plus q) e = omega (arith, ltb-true p q e)
-low_first (Minus p) (Minus q) e = omega (arith, ltb-true p q e)
-
--- past the first, where its opposite isn't there
-past_first : (x y : Signed) → comes_before x y ≡ true → (opposite x ≡ y → ⊥) → position_of x < position_of y
-past_first (Plus p) (Plus q) e h = ltb-true p q e
-past_first (Plus p) (Minus q) e h = elim (cases_eq p q) [
-  | inl s ↦ absurd (h (ap Minus s))
-  | inr s ↦ omega (arith, s, leb-true p q e)
-]
-past_first (Minus p) (Plus q) e h = ltb-true p q e
-past_first (Minus p) (Minus q) e h = ltb-true p q e
-
 pub over_in : (n k : ℕ) (g : List Signed) → is_rising g ≡ true
     → ((x : Signed) → IsIn x g → IsIn (opposite x) g → ⊥)
     → ((x : Signed) → IsIn x g → (k ≤ position_of x) × (position_of x < k + n)) → IsIn g (goals_over k n)
@@ -73,7 +57,7 @@ over_in (suc n) k (x ∷ g) r c h =
     elim (cases_eq (position_of x) k) [
       | inl s ↦
           let j = over_in n (suc k) g rest (λ y i u. c y (inr i) (inr u)) (λ y i.
-          let l = past_first x y (every_at (comes_before x) y g first i)
+          let l = comes_before-lt x y (every_at (comes_before x) y g first i)
           (λ e. c x (inl refl) (inr (subst (λ z. IsIn z g) (sym e) i))) in
           let (u, v) = h y (inr i) in (omega (arith, l, s), omega (arith, v))) in
           in_right (x ∷ g) (goals_over (suc k) n) _ (headed x s g j)
@@ -83,7 +67,7 @@ over_in (suc n) k (x ∷ g) r c h =
           let (a, b) = h y i in
           let low : position_of x ≤ position_of y = ⊎_elim
           (λ q. let s : position_of y ≡ position_of x = ap position_of q in omega (arith, s))
-          (λ j. low_first x y (every_at (comes_before x) y g first j)) i in
+          (λ j. comes_before-le x y (every_at (comes_before x) y g first j)) i in
           (omega (arith, u, ne, low), omega (arith, b))))
     ]
   where
@@ -124,12 +108,9 @@ module _ (L : List (List Signed)) where
     go None e = cc
     go (Some n) e = refl
 
-  same : (g h : List Signed) → Some g ≡ Some h → g ≡ h
-  same g h e = cc
-
   place_once : (g h : List Signed) → IsIn g L → IsIn h L → place g ≡ place h → g ≡ h
   place_once g h i j e =
-      same g h (sym (number_at L g (place g) (placed g i))
+      same_Some g h (sym (number_at L g (place g) (placed g i))
       ∙ number_at L h (place g) (placed h j ∙ ap Some (sym e)))
 
   places_differ : (gs : List (List Signed)) → Distinct gs → ((g : List Signed) → IsIn g gs → IsIn g L)

@@ -11,6 +11,7 @@ use Rattle.alternatives.specs.Limit.{LimitKind, Goals, Total}
 use Rattle.alternatives.specs.Expansion.{Expansion, first_limit}
 use Rattle.search.specs.Explored.{Found, found, same_goal, number_in, is_listed, mention, mention_goals, take_goal, step, after, explored}
 use Rattle.search_laws.proofs.Numbers.{same_goal_itself}
+use Rattle.std.proofs.lemmas.Option.{same_Some}
 
 pub in_listed : (gs : List (List Signed)) (g : List Signed) → IsIn g gs → is_listed gs g ≡ true
 in_listed [] g i = absurd i
@@ -23,8 +24,9 @@ in_listed (h ∷ gs) g (inr i) = go (same_goal g h) (number_in gs g) (in_listed 
   go false (Some n) e = refl
   go false None e = cc
 
-limit_inner : (k l : LimitKind) → Some k ≡ Some l → k ≡ l
-limit_inner k l e = cc
+pub not_total : (o : Option LimitKind) → first_limit o Total ≡ Some Goals → o ≡ Some Goals
+not_total None e = cc
+not_total (Some j) e = e
 
 module _ (most most_total : ℕ) (expansion : List Signed → Expansion) (good : List Signed → Bool)
     (all_named : (g : List Signed) → every good (named (expansion g).alternatives) ≡ true) where
@@ -39,17 +41,13 @@ module _ (most most_total : ℕ) (expansion : List Signed → Expansion) (good :
 
   with_goals : (o : Option LimitKind) → ((k : LimitKind) → o ≡ Some k → (k ≡ Goals) ⊎ (k ≡ Total))
       → (k : LimitKind) → first_limit o Goals ≡ Some k → (k ≡ Goals) ⊎ (k ≡ Total)
-  with_goals None h k e = inl (sym (limit_inner Goals k e))
+  with_goals None h k e = inl (sym (same_Some Goals k e))
   with_goals (Some j) h k e = h k e
 
   with_total : (o : Option LimitKind) → ((k : LimitKind) → o ≡ Some k → (k ≡ Goals) ⊎ (k ≡ Total))
       → (k : LimitKind) → first_limit o Total ≡ Some k → (k ≡ Goals) ⊎ (k ≡ Total)
-  with_total None h k e = inr (sym (limit_inner Total k e))
+  with_total None h k e = inr (sym (same_Some Total k e))
   with_total (Some j) h k e = h k e
-
-  not_total : (o : Option LimitKind) → first_limit o Total ≡ Some Goals → o ≡ Some Goals
-  not_total None e = cc
-  not_total (Some j) e = e
 
   mentioned : (s : Found) (g : List Signed) → good g ≡ true → IsKept s → IsKept (mention most s g)
   mentioned s g good_g h = go (is_listed s.goals g) (nat_lt (length s.goals) most) refl refl where

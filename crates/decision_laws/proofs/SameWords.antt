@@ -13,7 +13,7 @@ use Rattle.goals.specs.Signed.{Signed}
 use Rattle.goals.specs.Tree as G
 use Rattle.goal_laws.specs.Saturated.{IsSaturated}
 use Rattle.list_laws.specs.In.{IsIn}
-use Rattle.list_laws.proofs.Lists.{from_flat_map}
+use Rattle.list_laws.proofs.Lists.{from_flat_map, in_slice}
 use Rattle.cells.specs.Cells.{Cells}
 use Rattle.alternatives.specs.Alternative as Alt
 use Rattle.alternatives.specs.Alternative.{Slot, Index, Name, Shape, Alternative}
@@ -24,7 +24,7 @@ use Rattle.expansions.specs.Leaves.{Finders, leaf, name, names_of, word_of, word
 use Rattle.expansions.specs.Expansion.{expansion}
 use Rattle.expansions.specs.DocumentOf.{slot_name, by_branch}
 use Rattle.expansion_laws.proofs.Containers.{IsCells}
-use Rattle.expansion_laws.proofs.Goals.{get_in, get_is}
+use Rattle.expansion_laws.proofs.Goals.{get_is}
 use Rattle.expansion_laws.proofs.Origins.{IsFrom, origin}
 use Rattle.search.specs.Explored.{Found, explored}
 use Rattle.search.specs.Rounds.{NumberedPlaced, Numbered, number_members, with_members, numbered, alternatives_at, alternatives_of}
@@ -81,7 +81,7 @@ module _ (v w : List Signed → Kind → ℕ → ℕ → ℕ → List ℕ) (expa
   part_same place n = go (slice_get f.goals n) refl (chosen expansion f n) refl where
     picked : (bs : List Numbered) (s : Option (ℕ × ℕ)) (a : Numbered) → chosen_in bs s ≡ Some a → IsIn a bs
     picked bs None a e = cc
-    picked bs (Some x) a e = get_in a bs x.1 e
+    picked bs (Some x) a e = in_slice a bs x.1 e
 
     listed : (g : List Signed) → slice_get f.goals n ≡ Some g → (b : Bool) (a : Numbered)
         → IsIn a (cond b (alternatives_at expansion f (slice_get f.goals n)) [])

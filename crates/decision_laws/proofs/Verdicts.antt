@@ -13,6 +13,18 @@ use Rattle.search_laws.proofs.Rise.{answer_round}
 use Rattle.search_laws.proofs.Settled.{settled}
 use Rattle.decisions.specs.Meaning.{IsUnmet, AreOpen, IsLeast}
 use Rattle.decisions.specs.Decision.{Verdict, Document, Limit, NoDocument, by_limits, or_later, first_hole, verdict_of}
+use Rattle.std.proofs.lemmas.Option.{same_Some}
+
+-- the hole of a goal that was taken, and of the goals past those
+module _ (expansion : List Signed → Expansion) (f : Found) where
+  pub hole_taken : (n : ℕ) (g : List Signed) → n < f.taken → slice_get f.goals n ≡ Some g
+      → hole_of expansion f n ≡ (expansion g).hole
+  hole_taken n g l e =
+      ap (λ b. cond b (hole_at expansion f (slice_get f.goals n)) None) (lt-ltb n f.taken l)
+      ∙ ap (hole_at expansion f) e
+
+  pub hole_past : (n : ℕ) → f.taken ≤ n → hole_of expansion f n ≡ None
+  hole_past n l = ap (λ b. cond b (hole_at expansion f (slice_get f.goals n)) None) (le-ltb n f.taken l)
 
 module _ (words : List Signed → Kind → ℕ → ℕ → ℕ → List ℕ) (expansion : List Signed → Expansion) where
   -- the first goal of a list that has a hole
@@ -25,9 +37,6 @@ module _ (words : List Signed → Kind → ℕ → ℕ → ℕ → List ℕ) (ex
   -- none of a list has a hole
   abbrev pub HaveNone : List (List Signed) → Type 0
   HaveNone gs = (m : ℕ) (h : List Signed) → slice_get gs m ≡ Some h → (expansion h).hole ≡ None
-
-  same_goal : (g h : List Signed) → Some g ≡ Some h → g ≡ h
-  same_goal g h e = cc
 
   abbrev pub hole : LimitKind → List Signed → Option (LimitKind × List Signed)
   hole k g = Some (k, g)
@@ -64,7 +73,7 @@ module _ (words : List Signed → Kind → ℕ → ℕ → ℕ → List ℕ) (ex
         record { number = suc r.number; at = r.at; hole = r.hole; before = before r } where
           before : (r : IsFirst gs k g) (m : ℕ) (h : List Signed) → m < suc r.number
               → slice_get (x ∷ gs) m ≡ Some h → (expansion h).hole ≡ None
-          before r zero h l f = ap (λ z. (expansion z).hole) (sym (same_goal x h f)) ∙ p
+          before r zero h l f = ap (λ z. (expansion z).hole) (sym (same_Some x h f)) ∙ p
           before r (suc m) h l f = r.before m h (omega (arith, l)) f
 
   pub none_open : (gs : List (List Signed)) → first_hole expansion gs ≡ None → HaveNone gs
@@ -74,7 +83,7 @@ module _ (words : List Signed → Kind → ℕ → ℕ → ℕ → List ℕ) (ex
         → or_later x o (first_hole expansion gs) ≡ None → (m : ℕ) → slice_get (x ∷ gs) m ≡ Some h
         → (first_hole expansion gs ≡ None → HaveNone gs) → (expansion h).hole ≡ None
     go (Some l) p e m f more = cc
-    go None p e zero f more = ap (λ z. (expansion z).hole) (sym (same_goal x h f)) ∙ p
+    go None p e zero f more = ap (λ z. (expansion z).hole) (sym (same_Some x h f)) ∙ p
     go None p e (suc m) f more = more e m h f
 
   -- the explored goals that were taken are those that have a hole or none
@@ -92,15 +101,6 @@ module _ (words : List Signed → Kind → ℕ → ℕ → ℕ → List ℕ) (ex
   at_taken (suc n) (suc m) (x ∷ gs) l = at_taken n m gs (omega (arith, l))
 
   module _ (f : Found) where
-    hole_taken : (n : ℕ) (g : List Signed) → n < f.taken → slice_get f.goals n ≡ Some g
-        → hole_of expansion f n ≡ (expansion g).hole
-    hole_taken n g l e =
-        ap (λ b. cond b (hole_at expansion f (slice_get f.goals n)) None) (lt-ltb n f.taken l)
-        ∙ ap (hole_at expansion f) e
-
-    hole_past : (n : ℕ) → f.taken ≤ n → hole_of expansion f n ≡ None
-    hole_past n l = ap (λ b. cond b (hole_at expansion f (slice_get f.goals n)) None) (le-ltb n f.taken l)
-
     hole_none : (n : ℕ) → slice_get f.goals n ≡ None → hole_of expansion f n ≡ None
     hole_none n e = ap (λ o. cond (nat_lt n f.taken) (hole_at expansion f o) None) e ∙ same (nat_lt n f.taken) where
       same : (b : Bool) → cond b (hole_at expansion f None) None ≡ None
@@ -113,7 +113,7 @@ module _ (words : List Signed → Kind → ℕ → ℕ → ℕ → List ℕ) (ex
         record {
           number = r.number;
           at = e;
-          hole = hole_taken r.number g l e ∙ r.hole;
+          hole = hole_taken expansion f r.number g l e ∙ r.hole;
           before = λ m j. before m j (slice_get f.goals m) refl;
         }
       where
@@ -122,16 +122,16 @@ module _ (words : List Signed → Kind → ℕ → ℕ → ℕ → List ℕ) (ex
         before m j None e = hole_none m e
         before m j (Some h) e = by (cases_lt m f.taken) where
           by : (m < f.taken) ⊎ (f.taken ≤ m) → hole_of expansion f m ≡ None
-          by (inl l) = hole_taken m h l e ∙ r.before m h j (at_taken f.taken m f.goals l ∙ e)
-          by (inr l) = hole_past m l
+          by (inl l) = hole_taken expansion f m h l e ∙ r.before m h j (at_taken f.taken m f.goals l ∙ e)
+          by (inr l) = hole_past expansion f m l
 
     all_open : HaveNone (take f.taken f.goals) → (n : ℕ) → hole_of expansion f n ≡ None
     all_open h n = go (slice_get f.goals n) refl (cases_lt n f.taken) where
       go : (o : Option (List Signed)) → slice_get f.goals n ≡ o → (n < f.taken) ⊎ (f.taken ≤ n)
           → hole_of expansion f n ≡ None
       go None e c = hole_none n e
-      go (Some g) e (inl l) = hole_taken n g l e ∙ h n g (at_taken f.taken n f.goals l ∙ e)
-      go (Some g) e (inr l) = hole_past n l
+      go (Some g) e (inl l) = hole_taken expansion f n g l e ∙ h n g (at_taken f.taken n f.goals l ∙ e)
+      go (Some g) e (inr l) = hole_past expansion f n l
 
     unmet : is_some (satisfied expansion f 0) ≡ false → (r : ℕ) → round expansion f r 0 ≡ false
     unmet e r = go (round expansion f r 0) refl where
@@ -175,9 +175,6 @@ module _ (words : List Signed → Kind → ℕ → ℕ → ℕ → List ℕ) (ex
       some_not : (k : LimitKind) → Some k ≡ None → ⊥
       some_not k e = cc
 
-    kind_inner : (k l : LimitKind) → Some k ≡ Some l → k ≡ l
-    kind_inner k l e = cc
-
     least_once : (k l : LimitKind) (g h : List Signed) → IsLeast expansion f k g → IsLeast expansion f l h
         → Limit k (Some g) ≡ Limit l (Some h)
     least_once k l g h x y = elim (cases_lt x.number y.number) [
@@ -188,8 +185,8 @@ module _ (words : List Signed → Kind → ℕ → ℕ → ℕ → List ℕ) (ex
             let n = x.number in let m = y.number in
             let s : n ≡ m = omega (arith, i, j) in
             ap₂ (λ a b. Limit a (Some b))
-            (kind_inner k l (sym x.hole ∙ ap (hole_of expansion f) s ∙ y.hole))
-            (same_goal g h (sym x.at ∙ ap (slice_get f.goals) s ∙ y.at))
+            (same_Some k l (sym x.hole ∙ ap (hole_of expansion f) s ∙ y.hole))
+            (same_Some g h (sym x.at ∙ ap (slice_get f.goals) s ∙ y.at))
       ]
     ] where
       some_not : (k : LimitKind) → Some k ≡ None → ⊥
@@ -208,7 +205,7 @@ module _ (words : List Signed → Kind → ℕ → ℕ → ℕ → List ℕ) (ex
     says_once (Limit k (Some g)) NoDocument (u, x) (v, o, h) = open_not k g x h
     says_once (Limit k None) (Limit l (Some g)) (u, o, h) (v, x) = open_not l g x h
     says_once NoDocument (Limit l (Some g)) (u, o, h) (v, x) = open_not l g x h
-    says_once (Limit k None) (Limit l None) (u, o, h) (v, p, i) = ap (λ z. Limit z None) (kind_inner k l (sym o ∙ p))
+    says_once (Limit k None) (Limit l None) (u, o, h) (v, p, i) = ap (λ z. Limit z None) (same_Some k l (sym o ∙ p))
     says_once (Limit k None) NoDocument (u, o, h) (v, p, i) = over_not k o p
     says_once NoDocument (Limit k None) (u, o, h) (v, p, i) = over_not k p o
     says_once NoDocument NoDocument x y = refl

@@ -1,5 +1,5 @@
 -- What bytes are read as: one table at most, or one line at which they stop being the beginning of one.
-use Rattle.std.proofs.Common.{◌≡◌, ◌⊎◌, inl, inr, ℕ, zero, suc, ◌+◌, ◌-◌, ◌<◌, ◌≤◌, List, [], ◌∷◌, ◌++◌, length, Bool, true, refl, sym, ap, ap₂, ◌∙◌, subst, arith, append_assoc, append-nil}
+use Rattle.std.proofs.Common.{◌≡◌, ◌⊎◌, inl, inr, ℕ, zero, suc, ◌+◌, ◌-◌, ◌<◌, ◌≤◌, List, [], ◌∷◌, ◌++◌, length, true, refl, sym, ap, ap₂, ◌∙◌, subst, arith, append_assoc, append-nil}
 use Rattle.std.proofs.lemmas.Bool.{cases_eq, cases_lt, eq-eqb, ne_eqb, and_parts, and_from}
 use Rattle.std.proofs.lemmas.List.{length-append}
 use Rattle.documents.specs.Tests.{every}
@@ -10,6 +10,8 @@ use Rattle.document_texts.specs.PartsRead.{is_named, is_told, IsRead, Begins, li
 use Rattle.document_text_laws.specs.Lines.{Within, FirstLine}
 use Rattle.document_text_laws.proofs.PartLaws.{same-line, same-count, same-table}
 use Rattle.document_text_laws.proofs.LineLaws.{Whole, whole-append, whole-line, line-whole, count-whole, lines-whole}
+use Rattle.list_laws.proofs.Numbers.{suc_add-add_suc}
+use Rattle.list_laws.proofs.Every.{every-append}
 
 -- ---- one table for each text, one line for each fault
 
@@ -86,11 +88,8 @@ goes-on i (p ∷ ps) (q ∷ qs) more l size hp hq e =
     record {
       others = rest.others;
       is = ap₂ (λ x xs. x ∷ xs) (sym one.1.0) rest.is;
-      text = rest.text ∙ ap (λ k. lines_text k rest.others) (moved i (length ps));
+      text = rest.text ∙ ap (λ k. lines_text k rest.others) (suc_add-add_suc i (length ps));
     }
-  where
-    moved : (i n : ℕ) → suc i + n ≡ i + suc n
-    moved i n = omega arith
 
 -- ---- what is known while a text is read
 
@@ -100,13 +99,6 @@ lines-append i k [] qs e = ap (λ n. lines_text n qs) (omega (arith, e))
 lines-append i k (p ∷ ps) qs e =
     ap (λ xs. line_text i p ++ xs) (lines-append (suc i) k ps qs (omega (arith, e)))
     ∙ sym (append_assoc (line_text i p) (lines_text (suc i) ps) (lines_text k qs))
-
-pub every-join : {A : Type 0} (p : A → Bool) (xs ys : List A) → every p xs ≡ true → every p ys ≡ true
-    → every p (xs ++ ys) ≡ true
-every-join p [] ys h g = g
-every-join p (x ∷ xs) ys h g =
-    let both = and_parts (p x) (every p xs) h in
-    and_from (p x) (every p (xs ++ ys)) both.0 (every-join p xs ys both.1 g)
 
 -- so many parts are to come, these came, and so much is left
 pub record Reading (count : ℕ) (ps : List Part) (left bytes : List ℕ) : Type 0 where
@@ -138,7 +130,7 @@ reading-next n ps p line left rest bytes r less cut is part told =
     lines-append 0 k ps (p ∷ []) (omega arith) ∙ ap (λ xs. lines_text 0 ps ++ xs) one in
     record {
       table = is_table-pushed ps p r.table part;
-      told = every-join is_told ps (p ∷ []) r.told (and_from (is_told p) true told refl);
+      told = every-append is_told ps (p ∷ []) r.told (and_from (is_told p) true told refl);
       some = r.some;
       few = r.few;
       within = omega (arith, length-append ps (p ∷ []), less);
@@ -204,7 +196,7 @@ front-begins n ps left bytes r =
       behind = lines_text (length ps) more.others;
       read = record {
         table = more.table;
-        told = every-join is_told ps more.others r.told more.told;
+        told = every-append is_told ps more.others r.told more.told;
         some = omega (arith, size, r.some);
         few = omega (arith, size, r.few);
         text = ap (λ k. count_text k ++ lines_text 0 (ps ++ more.others)) size

@@ -5,7 +5,7 @@ use Rattle.std.proofs.lemmas.Bool.Decides.{Decides-int_eq}
 use Rattle.documents.specs.Tests.{same_word}
 use Rattle.documents.specs.Document.{Document, null, boolean, number, string, array, object, Items, no_items, item, Members, no_members, member}
 use Rattle.documents.specs.Measures.{same_document, same_items, same_members}
-use Rattle.schema_laws.proofs.Pointers.{same_word-eq, same_word-refl}
+use Rattle.list_laws.proofs.Tests.{same_word-refl, same_word-true}
 
 truths : (b c : Bool) → cond b c (not c) ≡ true → b ≡ c
 truths true c h = sym h
@@ -21,7 +21,7 @@ mutual
   same_document-eq (boolean b) _ h = absurd (true≢false (sym h))
   same_document-eq (number m) (number n) h = ap number ((Decides-int_eq m n).0 h)
   same_document-eq (number m) _ h = absurd (true≢false (sym h))
-  same_document-eq (string v) (string w) h = ap string (same_word-eq v w h)
+  same_document-eq (string v) (string w) h = ap string (same_word-true v w h)
   same_document-eq (string v) _ h = absurd (true≢false (sym h))
   same_document-eq (array ds) (array es) h = ap array (same_items-eq ds es h)
   same_document-eq (array ds) _ h = absurd (true≢false (sym h))
@@ -43,7 +43,7 @@ mutual
   same_members-eq (member k d ms) (member l e ns) h =
       let last = and_parts (same_word k l && same_document d e) (same_members ms ns) h in
       let first = and_parts (same_word k l) (same_document d e) last.0 in
-      ap (λ n. member n d ms) (same_word-eq k l first.0)
+      ap (λ n. member n d ms) (same_word-true k l first.0)
       ∙ ap₂ (λ x y. member l x y) (same_document-eq d e first.1) (same_members-eq ms ns last.1)
 
 truth : (b : Bool) → cond b b (not b) ≡ true

@@ -10,11 +10,12 @@ use Rattle.schemas.specs.Entry.{TypeName}
 use Rattle.schemas.specs.Entry as E
 use Rattle.schemas.specs.Entries.{word, type_named, types_of}
 use Rattle.schemas.specs.Schema.{if_there}
-use Rattle.schema_laws.proofs.Pointers.{same_word-eq}
 use Rattle.draft06.specs.Validity.{names_kind, type_names}
 use Rattle.draft06.specs.EntryValidity.{kind_named, has_type}
 use Rattle.levels.proofs.LevelsLaws.{everywhere}
 use Rattle.draft06_laws.proofs.Lists.{some_same}
+use Rattle.std.proofs.Math.Bool.{or-false}
+use Rattle.list_laws.proofs.Tests.{same_word-true}
 
 -- the type is of that kind
 abbrev is_named : Kind → TypeName → Bool
@@ -26,10 +27,6 @@ is_read k w = if_there false (is_named k) (type_named w)
 
 abbrev agree : Bool → Bool → Bool
 agree a b = cond a b (not b)
-
-or_false : (a : Bool) → (a || false) ≡ a
-or_false true = refl
-or_false false = refl
 
 agree-eq : (a b : Bool) → agree a b ≡ true → a ≡ b
 agree-eq true b h = sym h
@@ -60,7 +57,7 @@ of_all test h Object =
 -- each word that names a type is read as a type of that kind
 at_word : (k : Kind) (w x : List ℕ) → same_word w x ≡ true → all_agree x ≡ true → is_read k w ≡ names_kind w k
 at_word k w x h all =
-    subst (λ u. is_read k u ≡ names_kind u k) (sym (same_word-eq w x h))
+    subst (λ u. is_read k u ≡ names_kind u k) (sym (same_word-true w x h))
     (agree-eq (is_read k x) (names_kind x k) (of_all (λ j. agree (is_read j x) (names_kind x j)) all k))
 
 -- what the tests of a word say of the types that it is read as, and of the kinds that it names
@@ -128,7 +125,7 @@ one_type : (J : Document) (w : List ℕ) → some (has_type J) (filter_map (λ x
     ≡ names_kind w (kind_of J)
 one_type J w =
     some-filter_map (has_type J) (λ x. type_named x) (w ∷ [])
-    ∙ or_false (is_read (kind_of J) w) ∙ is_read-names (kind_of J) w
+    ∙ or-false (is_read (kind_of J) w) ∙ is_read-names (kind_of J) w
 
 -- the types of a keyword's value
 pub types_name : (J : Document) (v : Json) → some (has_type J) (types_of v) ≡ type_names (kind_of J) v

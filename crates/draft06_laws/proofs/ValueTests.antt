@@ -1,5 +1,5 @@
 -- What a field of an entry asks is what its value asks: types, values, and counts.
-use Rattle.std.proofs.Common.{◌≡◌, ℕ, suc, pos, negsuc, int_le, List, [], ◌∷◌, ◌++◌, map, ◌&&◌, nat_le, Option, Some, None, option_map, refl, ap, sym, ◌∙◌}
+use Rattle.std.proofs.Common.{◌≡◌, ℕ, suc, pos, negsuc, int_le, List, [], ◌∷◌, ◌++◌, map, ◌&&◌, nat_le, Some, None, refl, ap, sym, ◌∙◌}
 use Rattle.std.specs.List.{AllByRecursion}
 use Rattle.std.proofs.lemmas.Option.{none-some}
 use Rattle.documents.specs.Tests.{some, same_word}
@@ -12,6 +12,7 @@ use Rattle.schemas.specs.Entries.{document_of, items_of, members_of, listed, who
 use Rattle.schema_laws.proofs.Faultless.{neither}
 use Rattle.draft06.specs.Equality.{is_equal, are_equal, have_equal}
 use Rattle.draft06_laws.proofs.Lists.{both, some_same, some-map}
+use Rattle.list_laws.proofs.Options.{option_map-None}
 
 -- ---- values of `const` and `enum`, which have whole numbers alone
 
@@ -51,11 +52,6 @@ mutual
       both (ap (λ b. same_word k l && b) (is_equal-document_of (p ++ k ∷ []) v d parts.0))
       (have_equal-members_of p ms ns parts.1)
 
--- no fault is left out
-none_mapped : {A B : Type 0} (f : A → B) (o : Option A) → option_map f o ≡ None → o ≡ None
-none_mapped f None h = refl
-none_mapped f (Some x) h = absurd (none-some (f x) (sym h))
-
 equal_among : (p : Pointer) (i : ℕ) (vs : J.Items) (K : D.Document) → not_whole_among p i vs ≡ None
     → AllByRecursion (λ v. same_document (document_of v) K ≡ is_equal v K) (J.elements vs)
 equal_among p i J.no_items K h = tt
@@ -66,14 +62,14 @@ equal_among p i (J.item v vs) K h =
 module _ {P R : Type 0} (rules : Rules P R) (k : List ℕ) (p : Pointer) (K : D.Document) where
   -- a value that is read as a document equals a document exactly where the JSON value does
   pub value_same : (v : J.Json) → value_fault rules p v ≡ None → same_document (document_of v) K ≡ is_equal v K
-  value_same v h = is_equal-document_of p v K (none_mapped NotWhole (first_not_whole p v) h)
+  value_same v h = is_equal-document_of p v K (option_map-None NotWhole (first_not_whole p v) h)
 
   pub values_same : (v : J.Json) → values_fault rules k p v ≡ None
       → some (λ d. same_document d K) (map document_of (listed v)) ≡ some (λ w. is_equal w K) (listed v)
   values_same (J.array vs) h =
       some-map (λ d. same_document d K) document_of (J.elements vs)
       ∙ some_same (λ v. same_document (document_of v) K) (λ w. is_equal w K) (J.elements vs)
-      (equal_among p 0 vs K (none_mapped NotWhole (first_not_whole p (J.array vs)) h))
+      (equal_among p 0 vs K (option_map-None NotWhole (first_not_whole p (J.array vs)) h))
   values_same _ h = refl
 
 -- ---- counts, which are not below 0

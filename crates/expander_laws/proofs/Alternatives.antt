@@ -1,5 +1,5 @@
 -- What holds of an alternative by its branch: its kind and number, its slots, and the words that they name.
-use Rattle.std.proofs.Common.{◌≡◌, ℕ, zero, suc, ◌+◌, ◌-◌, ◌<◌, ◌≤◌, min, inl, inr, ⊎_elim, Bool, true, false, ◌&&◌, cond, nat_eq, nat_lt, nat_le, List, [], ◌∷◌, ◌++◌, map, flat_map, length, Some, None, Ok, refl, ap, ap₂, sym, ◌∙◌, subst, arith}
+use Rattle.std.proofs.Common.{◌≡◌, ℕ, zero, suc, ◌+◌, ◌-◌, ◌<◌, ◌≤◌, min, inl, inr, ⊎_elim, Bool, true, false, ◌&&◌, cond, nat_eq, nat_lt, nat_le, List, [], ◌∷◌, ◌++◌, map, flat_map, length, Some, None, Ok, refl, ap, ap₂, sym, ◌∙◌, subst, arith, zero-add}
 use Rattle.std.proofs.lemmas.Bool.{and_from, lt-ltb, le-leb, ltb-true, ltb-false}
 use Rattle.std.proofs.lemmas.List.FromFn.{get_or-map-range_with_len, length-map-range_with_len}
 use Rattle.std.specs.List.{range_with_len}
@@ -90,9 +90,7 @@ cell_of_one c (m ∷ ms) (inr i) = let (n, j, e) = cell_of_one c ms i in (n, inr
 
 -- the words of a cell are those of the cells
 pub cell_is : (C : Cells) (c : ℕ) → c < length C.vectors → cell_at (name_cells (Ok C)) c ≡ C.words c
-cell_is C c l = get_or-map-range_with_len C.words 0 (length C.vectors) c c [] l (plus c) where
-  plus : (c : ℕ) → 0 + c ≡ c
-  plus c = omega arith
+cell_is C c l = get_or-map-range_with_len C.words 0 (length C.vectors) c c [] l (zero-add c)
 
 pub cells_many : (C : Cells) → length (name_cells (Ok C)) ≡ length C.vectors
 cells_many C = length-map-range_with_len C.words 0 (length C.vectors)

@@ -1,5 +1,5 @@
 -- The test of formed goals decides which are formed.
-use Rattle.std.proofs.Common.{◌≡◌, true, not, ◌&&◌, ◌||◌, List, Option, Some, None, refl, ap}
+use Rattle.std.proofs.Common.{◌≡◌, true, not, ◌&&◌, ◌||◌, List, ap}
 use Rattle.std.proofs.lemmas.Bool.{and_parts, and_from, or_parts, not-true}
 use Rattle.std.specs.Option.{is_none}
 use Rattle.positions.specs.Position.{Position}
@@ -9,10 +9,7 @@ use Rattle.documents.specs.Tests.{every}
 use Rattle.goal_laws.specs.Formed.{IsFormed}
 use Rattle.goal_laws.proofs.Signs.{every-has, has-every, some-none}
 use Rattle.expander_laws.specs.Expander.{is_formed}
-
-no_one : {A : Type 0} (o : Option A) → is_none o ≡ true → o ≡ None
-no_one None e = refl
-no_one (Some x) e = cc
+use Rattle.list_laws.proofs.Options.{is_none-None}
 
 -- a goal that passes the test is formed
 pub is_formed-true : (T : List Position) (g : List Signed) → is_formed T g ≡ true → IsFormed T g
@@ -30,7 +27,7 @@ is_formed-true T g e =
       none_always = λ x i. not-true (is_always T x) (parts x i).0;
       none_never = λ x i. (or_parts (is_never T x) (has (opposite x) g)
           (some-none (λ y. is_never T y || has (opposite y) g) g x (not-true (clashes T g) clear) i)).0;
-      no_reference = λ x i. no_one (reference T x) (parts x i).1;
+      no_reference = λ x i. is_none-None (reference T x) (parts x i).1;
     }
 
 pub is_formed-from : (T : List Position) (g : List Signed) → IsFormed T g → is_formed T g ≡ true

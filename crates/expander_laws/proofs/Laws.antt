@@ -14,14 +14,14 @@ use Rattle.goals.specs.Goal.{form, contains}
 use Rattle.goals.specs.Tree as G
 use Rattle.goal_laws.specs.Saturated.{IsSaturated}
 use Rattle.goal_laws.proofs.Branches.{branches-are}
-use Rattle.list_laws.proofs.Lists.{every_from, every_at}
+use Rattle.list_laws.proofs.Lists.{every_from, every_at, in_slice}
 use Rattle.cells.specs.Cells.{Cells}
 use Rattle.alternatives.specs.Alternative.{Alternative, named}
 use Rattle.alternatives.specs.Slots.{has_words, has_fitting_slots, has_different_slots, has_different_words}
 use Rattle.expansions.specs.Leaves.{Finders, leaf}
 use Rattle.expansions.specs.Expansion.{expansion}
 use Rattle.expansion_laws.proofs.Containers.{IsCells}
-use Rattle.expansion_laws.proofs.Goals.{all_in, get_in, get_is}
+use Rattle.expansion_laws.proofs.Goals.{all_in, get_is}
 use Rattle.expansion_laws.proofs.Origins.{IsFrom, origin}
 use Rattle.expander_laws.specs.Expander.{is_goal, takes, branch_count, set_cells, branch_cells}
 use Rattle.expander_laws.proofs.Inside.{goals_named, formed_goal}
@@ -52,7 +52,7 @@ module _ (T : List Position) (ranks : List ℕ) where
       → slice_get (G.branches (G.steps T t g)) k ≡ Some S → IsSaturated T t S
   branch_saturated ok t g S k e =
       (all_in (λ C. IsSaturated T t C × (contains C g ≡ true)) S (G.branches (G.steps T t g)) (branches-are T ok t g)
-      (get_in S (G.branches (G.steps T t g)) k e)).0
+      (in_slice S (G.branches (G.steps T t g)) k e)).0
 
   module _ (F : Finders) (g : List Signed) where
     -- what holds of each alternative of a branch, by its kind, its number and its set, holds of those of the goal

@@ -1,5 +1,5 @@
 -- A branch of which a goal has an alternative: it is among the branches, and at texts and objects its words were found.
-use Rattle.std.proofs.Common.{◌≡◌, ℕ, ◌≤◌, true, ◌&&◌, nat_eq, List, [], Some, Ok, slice_get, refl, ap, sym, ◌∙◌, subst}
+use Rattle.std.proofs.Common.{◌≡◌, ℕ, ◌≤◌, true, ◌&&◌, nat_eq, List, [], Some, Ok, slice_get, ap, sym, ◌∙◌, subst}
 use Rattle.std.proofs.lemmas.Bool.{and_parts, eqb-true}
 use Rattle.documents.specs.Kind as K
 use Rattle.documents.specs.Kind.{Kind, same_kind}
@@ -17,15 +17,7 @@ use Rattle.expansion_laws.proofs.Goals.{get_is}
 use Rattle.expansion_laws.proofs.Origins.{IsFrom, origin}
 use Rattle.expander_laws.specs.Expander.{set_cells, branch_cells}
 use Rattle.expander_laws.proofs.Alternatives.{of_branch}
-
-same_kind-true : (t u : Kind) → same_kind t u ≡ true → t ≡ u
-same_kind-true K.Null K.Null e = refl
-same_kind-true K.Boolean K.Boolean e = refl
-same_kind-true K.Number K.Number e = refl
-same_kind-true K.Text K.Text e = refl
-same_kind-true K.Array K.Array e = refl
-same_kind-true K.Object K.Object e = refl
-same_kind-true _ _ e = cc
+use Rattle.position_laws.proofs.SameKind.{same_kind-true}
 
 module _ (F : Finders) (T : List Position) where
   abbrev pub IsFound : Kind → List Signed → Type 0

@@ -34,10 +34,9 @@ use Rattle.list_laws.proofs.Pigeons.{range_distinct}
 use Rattle.list_laws.proofs.Counts.{distinct_filter}
 use Rattle.std.specs.List.{range_with_len}
 use Rattle.expansion_laws.proofs.Leaf.{ok_same, AllPass, AreChildren, IsMade, IsLeaf}
-use Rattle.expansion_laws.proofs.PlanLeaf.{met_same, complete_plan, IsOpen, leaf_is, not_crossed}
-
-end_not : (b : Bool) → b ≡ true → b ≡ false → ⊥
-end_not b e f = cc
+use Rattle.expansion_laws.proofs.PlanLeaf.{met_same, complete_plan, IsOpen, leaf_is}
+use Rattle.std.proofs.lemmas.Bool.{both_ways}
+use Rattle.frame_laws.proofs.Ends.{at_end_down}
 
 module _ (T : List Position) (ok : IsTable T) where
   -- arrays
@@ -61,8 +60,7 @@ module _ (T : List Position) (ok : IsTable T) where
       let r = is_arranged T ok S ds k' in
       ⊎_elim
       (λ (x, y). absurd
-      (end_not (is_at_end (A.lower T S) (A.below T S)) x
-      (not_crossed (A.lower T S) _ (A.below T S) r.low r.high)))
+      (both_ways (is_at_end (A.lower T S) (A.below T S)) (at_end_down (A.lower T S) _ (A.below T S) r.low r.high) x))
       (λ (x, o).
       let (q, i, h) =
       AH.array_follows T ok S d can (λ g J a b c. pass g J a (omega (arith, b)) c)
@@ -151,8 +149,8 @@ module _ (T : List Position) (ok : IsTable T) where
     high_at (Plus p) i = (plus_at p i).high
     high_at (Minus p) i = (minus_at p i).high
 
-    object_bounds : is_at_end (O.lower T S) (O.below T S) ≡ false
-    object_bounds = not_crossed (O.lower T S) (length (entries ms)) (O.below T S)
+    pub object_bounds : is_at_end (O.lower T S) (O.below T S) ≡ false
+    object_bounds = at_end_down (O.lower T S) (length (entries ms)) (O.below T S)
         (lower_from T S (length (entries ms)) low_at) (below_from T S (length (entries ms)) high_at)
 
   -- the cells of a set are cells of all names, with words, counted up to 65,537
@@ -198,7 +196,7 @@ module _ (T : List Position) (ok : IsTable T) where
         → (ms : D.Members) → are_members ms ≡ true → members_depth ms ≤ d → meets T S (object ms) ≡ true
         → (a : Alternative) × IsIn a more × (is_met can a ≡ true)
     object_in k S full more e d can pass ms good deep m = ⊎_elim
-        (λ (x, y). absurd (end_not (is_at_end (O.lower T S) (O.below T S)) x (object_bounds S ms m)))
+        (λ (x, y). absurd (both_ways (is_at_end (O.lower T S) (O.below T S)) (object_bounds S ms m) x))
         (λ (x, o).
         let (C, p, is, planned) = object_open k S more o in
         let h = right S full C p in

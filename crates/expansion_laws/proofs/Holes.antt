@@ -1,6 +1,6 @@
 -- A hole means that a count of the goal passes its limit: which one, of which kind and branch, and that none did
 -- before.
-use Rattle.std.proofs.Common.{◌≡◌, ℕ, ◌+◌, ◌<◌, ◌≤◌, ◌⊎◌, inl, inr, Bool, true, false, cond, nat_lt, List, [], ◌∷◌, ◌++◌, map, flat_map, Option, Some, None, Result, Ok, Err, slice_get, refl, ap, sym, ◌∙◌, subst, arith}
+use Rattle.std.proofs.Common.{◌≡◌, ℕ, ◌+◌, ◌<◌, ◌≤◌, ◌⊎◌, inl, inr, Bool, true, false, cond, nat_lt, List, [], ◌∷◌, ◌++◌, map, flat_map, Option, Some, None, Result, Ok, Err, slice_get, refl, ap, sym, ◌∙◌, subst, zero-add}
 use Rattle.std.proofs.lemmas.Bool.{ltb-true, ltb-false}
 use Rattle.documents.specs.Tests.{some}
 use Rattle.documents.specs.Kind as K
@@ -24,9 +24,7 @@ use Rattle.expansions.specs.Leaves.{by_index, by_name, plan_alternative, with_fr
 use Rattle.expansions.specs.Expansion.{from_branch, at_kind, expansion}
 use Rattle.expansion_laws.proofs.Leaf.{Answer}
 use Rattle.expansion_laws.proofs.Kept.{branch_from}
-
-kind_same : (k l : LimitKind) → Some k ≡ Some l → k ≡ l
-kind_same k l e = cc
+use Rattle.std.proofs.lemmas.Option.{same_Some}
 
 err_same : (k l : LimitKind) (r : Answer) → r ≡ Err k → r ≡ Err l → k ≡ l
 err_same k l r a b = cc
@@ -71,12 +69,12 @@ stays_all e (r ∷ rs) k h = stays_all (keep e r) rs k (stays e r k h)
 exceeded : (e : Expansion) (r : Answer) (k : LimitKind) → e.hole ≡ None → (keep e r).hole ≡ Some k → Exceeds e r k
 exceeded e (Err j) k h p = first e.hole h p where
   first : (o : Option LimitKind) → o ≡ None → first_limit o j ≡ Some k → j ≡ k
-  first None q p = kind_same j k p
+  first None q p = same_Some j k p
   first (Some i) q p = cc
 exceeded e (Ok more) k h p =
     go (some is_wide (named more)) (nat_lt most_places (places e.alternatives + places more)) refl refl p where
       first : (j : LimitKind) (o : Option LimitKind) → o ≡ None → first_limit o j ≡ Some k → k ≡ j
-      first j None q p = sym (kind_same j k p)
+      first j None q p = sym (same_Some j k p)
       first j (Some i) q p = cc
 
       go : (a b : Bool) → some is_wide (named more) ≡ a → nat_lt most_places (places e.alternatives + places more) ≡ b
@@ -106,7 +104,7 @@ first_limit_is (r ∷ rs) e k h p = go (keep e r).hole refl (first_limit_is rs (
         exceeds = f.exceeds;
       }
   go (Some j) q more =
-      let same : j ≡ k = kind_same j k (sym (stays_all (keep e r) rs j q) ∙ p) in
+      let same : j ≡ k = same_Some j k (sym (stays_all (keep e r) rs j q) ∙ p) in
       record {
         before = [];
         answer = r;
@@ -166,13 +164,10 @@ module _ (T : List Position) (leaf : Kind → ℕ → List Signed → Answer) (g
                 S,
                 q,
                 subst (λ z. Exceeds kept z l)
-                    (e ∙ ap (λ z. leaf t z S) (plus k)) x,
+                    (e ∙ ap (λ z. leaf t z S) (zero-add k)) x,
               ),
             ),
           )
-        where
-          plus : (k : ℕ) → 0 + k ≡ k
-          plus k = omega arith
 
 -- the limits of leaves
 

@@ -1,5 +1,5 @@
 -- What an expansion keeps: without a hole all that the leaves give, and in any case nothing else.
-use Rattle.std.proofs.Common.{◌≡◌, ℕ, suc, ◌+◌, ◌≤◌, ◌⊎◌, inl, inr, ⊎_elim, Bool, true, false, cond, nat_lt, List, [], ◌∷◌, ◌++◌, flat_map, Option, Some, None, Result, Ok, Err, slice_get, refl, ap, sym, ◌∙◌, subst, arith}
+use Rattle.std.proofs.Common.{◌≡◌, ℕ, suc, ◌+◌, ◌≤◌, ◌⊎◌, inl, inr, ⊎_elim, Bool, true, false, cond, nat_lt, List, [], ◌∷◌, ◌++◌, flat_map, Option, Some, None, Result, Ok, Err, slice_get, refl, ap, sym, ◌∙◌, subst, add-zero, zero-add}
 use Rattle.std.proofs.lemmas.Bool.{ltb-false}
 use Rattle.documents.specs.Tests.{some}
 use Rattle.documents.specs.Kind as K
@@ -13,9 +13,10 @@ use Rattle.alternatives.specs.Alternative.{Alternative, named, places}
 use Rattle.alternatives.specs.Limit.{LimitKind, Branches, Width, Places, most_ends, most_places}
 use Rattle.alternatives.specs.Expansion.{Expansion, expansion_of, first_limit, with_limit, is_wide, keep, keep_all}
 use Rattle.expansions.specs.Expansion.{from_branch, at_kind, expansion}
+use Rattle.list_laws.proofs.Numbers.{suc_add-add_suc}
 
 -- a hole stays
-first_some : (o : Option LimitKind) (k : LimitKind) → first_limit o k ≡ None → ⊥
+pub first_some : (o : Option LimitKind) (k : LimitKind) → first_limit o k ≡ None → ⊥
 first_some None k e = cc
 first_some (Some j) k e = cc
 
@@ -99,14 +100,10 @@ module _ (T : List Position) (leaf : Kind → ℕ → List Signed → Answer) wh
   pub branch_from : (t : Kind) (k : ℕ) (Ss : List (List Signed)) (r : Answer) → IsIn r (from_branch T leaf t k Ss)
       → (j : ℕ) × ((S : List Signed) × (slice_get Ss j ≡ Some S) × (r ≡ leaf t (k + j) S))
   branch_from t k [] r i = absurd i
-  branch_from t k (S ∷ Ss) r (inl e) = (0, (S, refl, e ∙ ap (λ z. leaf t z S) (plus k))) where
-    plus : (k : ℕ) → k ≡ k + 0
-    plus k = omega arith
+  branch_from t k (S ∷ Ss) r (inl e) = (0, (S, refl, e ∙ ap (λ z. leaf t z S) (sym (add-zero k))))
   branch_from t k (S ∷ Ss) r (inr i) =
-      let (j, (R, h, e)) = branch_from t (suc k) Ss r i in (suc j, (R, h, e ∙ ap (λ z. leaf t z R) (plus k j)))
-    where
-      plus : (k j : ℕ) → suc k + j ≡ k + suc j
-      plus k j = omega arith
+      let (j, (R, h, e)) = branch_from t (suc k) Ss r i in
+      (suc j, (R, h, e ∙ ap (λ z. leaf t z R) (suc_add-add_suc k j)))
 
   any_kind : (t : Kind) → IsIn t all_kinds
   any_kind K.Null = inl refl
@@ -182,7 +179,4 @@ module _ (T : List Position) (leaf : Kind → ℕ → List Signed → Answer) wh
               go t false few v =
                   let (k, (S, p, e)) = branch_from t 0 (G.branches (G.steps T t g)) (Ok more) v in
                   let l = ltb-false most_ends (G.ends (G.steps T t g)) few in
-                  (t, (k, (S, p, l, (more, sym (e ∙ ap (λ z. leaf t z S) (plus k)), y))))
-                where
-                  plus : (k : ℕ) → 0 + k ≡ k
-                  plus k = omega arith
+                  (t, (k, (S, p, l, (more, sym (e ∙ ap (λ z. leaf t z S) (zero-add k)), y))))

@@ -20,16 +20,13 @@ use Rattle.alternatives.specs.Alternative.{Slot, Index, Name, Placed}
 use Rattle.expansions.specs.Leaves.{by_index, by_name, cell_of, placed_as, members_of, filling_of, plan_alternative}
 use Rattle.expansions.specs.DocumentOf.{copies, with_name, filled, document_of}
 use Rattle.list_laws.specs.In.{Distinct}
+use Rattle.std.proofs.lemmas.List.{map-append}
 
 abbrev part_value : Slot × Document → Document
 part_value s = s.1
 
 abbrev value_of : ℕ × Document → Document
 value_of v = v.1
-
-map_over : {A B : Type 0} (f : A → B) (xs ys : List A) → map f (xs ++ ys) ≡ map f xs ++ map f ys
-map_over f [] ys = refl
-map_over f (x ∷ xs) ys = ap (λ z. f x ∷ z) (map_over f xs ys)
 
 -- without first places nothing stands at them
 pub no_heads : (n : ℕ) (xs : List (List Signed)) → length xs ≡ 0 → take n (heads_from 0 xs) ≡ []
@@ -82,15 +79,15 @@ module _ (can : List Signed → Bool) (child : List Signed → Document) (T : Li
         (fill can child n fs))
     go false more = more n
     go true more =
-        map_over part_value (copies (Index k) (min n f.room) (child f.goal))
+        map-append part_value (copies (Index k) (min n f.room) (child f.goal))
         (filled can child (n - f.room) (map (filling_of by_index k) fs))
         ∙ ap₂ (λ x y. x ++ y) (element_copies (Index k) f.cell (min n f.room) (child f.goal)) (more (n - f.room))
-        ∙ sym (map_over value_of (replicate (min n f.room) (f.cell, child f.goal)) (fill can child (n - f.room) fs))
+        ∙ sym (map-append value_of (replicate (min n f.room) (f.cell, child f.goal)) (fill can child (n - f.room) fs))
 
   pub array_same : (names : ℕ → ℕ → List ℕ) (k : ℕ) (q : Plan) → IsComplete T frame q
       → document_of can child names (plan_alternative by_index K.Array k T frame q) ≡ array_of can child T frame q
   array_same names k q c = ap (λ z. array (items_of z))
-      (map_over part_value (map (λ m. (m.slot, child m.goal)) (members_of by_index T frame 0 [] (placed frame q)))
+      (map-append part_value (map (λ m. (m.slot, child m.goal)) (members_of by_index T frame 0 [] (placed frame q)))
       (filled can child (need frame q) (map (filling_of by_index (length (placed frame q))) (fillers T frame q)))
       ∙ ap₂ (λ x y. x ++ y) (element_members 0 0 [] (placed frame q) c.clear)
       (element_fillers (length (placed frame q)) (need frame q) (fillers T frame q)))
@@ -150,10 +147,10 @@ module _ (can : List Signed → Bool) (child : List Signed → Document) (T : Li
           ++ filler_slots can child (n - f.room) fs) (filler_slots can child n fs))
       go false more = more n
       go true more =
-          map_over (with_name (name C)) (copies (Name f.cell f.first) (min n f.room) (child f.goal))
+          map-append (with_name (name C)) (copies (Name f.cell f.first) (min n f.room) (child f.goal))
           (filled can child (n - f.room) (map (filling_of by_name k) fs))
           ∙ ap₂ (λ x y. x ++ y) (name_copies f.cell f.first (min n f.room) (child f.goal)) (more (n - f.room))
-          ∙ sym (map_over (at_slot C) (O.copies f.cell f.first (min n f.room) (child f.goal))
+          ∙ sym (map-append (at_slot C) (O.copies f.cell f.first (min n f.room) (child f.goal))
           (filler_slots can child (n - f.room) fs))
 
     pub object_same : (k : ℕ) (q : Plan) → IsComplete T frame q → frame.heads ≡ 0 → Distinct frame.cells
@@ -164,7 +161,7 @@ module _ (can : List Signed → Bool) (child : List Signed → Document) (T : Li
         ap (λ z. z ++ map (λ m. (In m.cell, m.served)) q.members)
         (no_heads (size frame q) q.heads (c.kept.heads_long ∙ h)) in
         ap (λ z. object (sorted z))
-        (map_over (with_name (name C))
+        (map-append (with_name (name C))
         (map (λ m. (m.slot, child m.goal)) (members_of by_name T frame 0 [] (placed frame q)))
         (filled can child (need frame q) (map (filling_of by_name (length (placed frame q))) (fillers T frame q)))
         ∙ ap₂ (λ x y. x ++ y)
@@ -172,7 +169,7 @@ module _ (can : List Signed → Bool) (child : List Signed → Document) (T : Li
         front
         ∙ name_members 0 0 [] q.members (sym (ap (clash_from T frame 0) front) ∙ c.clear))
         (name_fillers (length (placed frame q)) (need frame q) (fillers T frame q))
-        ∙ sym (map_over (at_slot C)
+        ∙ sym (map-append (at_slot C)
         (member_slots (λ m. child_of can child (goal_of T frame (In m.cell, m.served))) [] q.members)
         (filler_slots can child (need frame q) (fillers T frame q)))
         ∙ sym (slots_named C can child T frame q d))

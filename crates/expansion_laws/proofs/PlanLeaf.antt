@@ -1,6 +1,6 @@
 -- Leaves of arrays and objects: an alternative for each complete plan.
 use Rattle.std.proofs.Common.{◌≡◌, ℕ, suc, ◌+◌, ◌≤◌, ◌⊎◌, inl, inr, Bool, true, false, ◌&&◌, cond, nat_le, nat_lt, List, [], ◌∷◌, ◌++◌, map, length, Option, Some, None, Result, Ok, Err, refl, ap, ap₂, sym, arith}
-use Rattle.std.proofs.lemmas.Bool.{leb-false, lt-leb, ltb-false}
+use Rattle.std.proofs.lemmas.Bool.{ltb-false}
 use Rattle.std.specs.Option.{is_none}
 use Rattle.documents.specs.Tests.{every}
 use Rattle.documents.specs.Kind.{Kind}
@@ -94,8 +94,3 @@ module _ (make : Frame → Plan → Alternative) (T : List Position) (lower : �
     go true b p q e = inl (p, sym (inner [] more _ _ refl refl e))
     go false true p q e = cc
     go false false p q e = inr (p, with_is fr more (let h = ltb-false most_counts lower q in omega (arith, h)) e)
-
--- a count within bounds keeps them from crossing
-pub not_crossed : (lower n : ℕ) (o : Option ℕ) → lower ≤ n → is_at_end n o ≡ false → is_at_end lower o ≡ false
-not_crossed lower n None l e = refl
-not_crossed lower n (Some b) l e = let h = leb-false b n e in lt-leb b lower (omega (arith, h, l))

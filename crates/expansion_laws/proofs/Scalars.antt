@@ -164,7 +164,7 @@ module _ (here : ℕ → Bool) (below : ℕ → Document → Bool) (b : Bool) wh
   minus_agrees_met _ a = refl
 
 module _ (T : List Position) (ok : IsTable T) where
-  agrees_met : (b : Bool) (x : Signed) → met (λ p. holds T p (boolean b)) x ≡ true → agrees T b x ≡ true
+  pub agrees_met : (b : Bool) (x : Signed) → met (λ p. holds T p (boolean b)) x ≡ true → agrees T b x ≡ true
   agrees_met b (Plus p) h =
       plus_agrees_met (λ q. holds T q (boolean b)) (holds T) b (position_at T p)
       (sym (holds-asks T ok p (boolean b)) ∙ h)

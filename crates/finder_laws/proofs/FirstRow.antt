@@ -1,6 +1,6 @@
 -- The word of the first row whose word is wanted is the first word that is wanted, and none is where no row's word is.
 use Rattle.std.proofs.Common.{◌≡◌, ℕ, zero, suc, ◌<◌, ◌≤◌, ◌⊎◌, inl, inr, ⊎_elim, List, [], ◌∷◌, take, true, false, length, get_or, Some, None, refl, ap, sym, ◌∙◌, subst, arith}
-use Rattle.list_laws.proofs.Lists.{in_get}
+use Rattle.list_laws.proofs.Lists.{in_get, in_at}
 use Rattle.std.specs.List.{list_all}
 use Rattle.std.proofs.lemmas.Bool.{true≢false}
 use Rattle.patterns.specs.CharSet.{is_scalar}
@@ -20,12 +20,7 @@ use Rattle.finders.specs.Strings.{string_atoms, is_wanted}
 use Rattle.finder_laws.proofs.Wanted.{wanted_same}
 use Rattle.finder_laws.proofs.Strings.{wanted_words, wanted_is, wanted_first, first_in}
 use Rattle.finder_laws.proofs.RowOrder.{NoLater, no_later, rows_ordered, word_row}
-
--- where a member of a list stands
-in_at : {A : Type 0} (L : List A) (x d : A) → IsIn x L → (k : ℕ) × (k < length L) × (x ≡ get_or L k d)
-in_at [] x d i = absurd i
-in_at (y ∷ L) x d (inl e) = (0, omega arith, e)
-in_at (y ∷ L) x d (inr i) = let (k, l, e) = in_at L x d i in (suc k, omega (arith, l), e)
+use Rattle.list_laws.proofs.Numbers.{three_ways}
 
 ordered_at : {A : Type 0} (R : A → A → Type 0) (xs : List A) (d : A) (i j : ℕ) → IsOrdered R xs → i < j
     → j < length xs
@@ -80,10 +75,7 @@ module _ (T : List Position) (S : List Signed) (L : List (List ℕ)) (rows : Are
       e ∙ ap Some (same u e (no_later v (get_or L j []) u (between j m c) n))
     where
       between : (j : ℕ) → j < length L → is_wanted T S (get_or L j []) ≡ true → NoLater (get_or L i []) (get_or L j [])
-      between j m c = order (places i j) where
-        places : (i j : ℕ) → (i < j) ⊎ ((i ≡ j) ⊎ (j < i))
-        places i j = grind arith
-
+      between j m c = order (three_ways i j) where
         order : (i < j) ⊎ ((i ≡ j) ⊎ (j < i)) → NoLater (get_or L i []) (get_or L j [])
         order (inl o) =
             inr (ordered_at (Before C.rank) L [] i j (rows_ordered (string_atoms T S) L rows) o m)

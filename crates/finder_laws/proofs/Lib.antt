@@ -1,4 +1,4 @@
-mod Grow
+pub mod Grow
 pub mod RowsFound
 pub mod Once
 mod Literals

@@ -1,10 +1,9 @@
 -- A string meets a literal exactly where its length is within the literal's bounds and its word is one that the literal
 -- wants.
-use Rattle.std.proofs.Common.{◌≡◌, ℕ, suc, ◌≤◌, Bool, true, false, ◌&&◌, ◌||◌, not, List, [], ◌∷◌, length, nat_eq, nat_le, None, refl, ap, ap₂, sym, ◌∙◌, arith}
+use Rattle.std.proofs.Common.{◌≡◌, ℕ, suc, ◌≤◌, Bool, true, false, not, List, length, nat_le, None, refl, ap, sym, ◌∙◌, arith}
 use Rattle.std.specs.List.{list_any}
-use Rattle.std.specs.Cmp.Lexicographic.{pointwise}
 use Rattle.std.proofs.lemmas.Bool.{leb-true, leb-false, le-leb, lt-leb, not-false, not-true}
-use Rattle.documents.specs.Tests.{every, some, same_word}
+use Rattle.documents.specs.Tests.{every, some}
 use Rattle.documents.specs.Kind as K
 use Rattle.documents.specs.Kind.{same_kind}
 use Rattle.documents.specs.Document.{Document, string}
@@ -17,20 +16,8 @@ use Rattle.goals.specs.Signed.{Signed, Plus, Minus, met}
 use Rattle.goals.specs.Choices.{plus_choices, minus_choices, choices, plus_wrong, minus_wrong, is_wrong}
 use Rattle.frames.specs.Frame.{is_at_end}
 use Rattle.finders.specs.Strings.{plus_lower, minus_lower, lower_at, plus_below, minus_below, below_at, word_atoms, wants}
-
-pointwise-same : (v w : List ℕ) → pointwise nat_eq v w ≡ same_word v w
-pointwise-same [] [] = refl
-pointwise-same [] (y ∷ ys) = refl
-pointwise-same (x ∷ xs) [] = refl
-pointwise-same (x ∷ xs) (y ∷ ys) = ap (λ b. nat_eq x y && b) (pointwise-same xs ys)
-
-listed-same : (w : List ℕ) (ws : List (List ℕ)) → list_any (W.same_word w) ws ≡ some (same_word w) ws
-listed-same w [] = refl
-listed-same w (v ∷ vs) = ap₂ (λ a b. a || b) (pointwise-same w v) (listed-same w vs)
-
-and_end : (b : Bool) → (b && true) ≡ b
-and_end true = refl
-and_end false = refl
+use Rattle.name_laws.proofs.NameLaws.{listed-same}
+use Rattle.std.proofs.Math.Bool.{and-true}
 
 module _ (here : ℕ → Bool) (below : ℕ → Document → Bool) (w : List ℕ) where
   abbrev Asks : Position → Bool
@@ -53,8 +40,8 @@ module _ (here : ℕ → Bool) (below : ℕ → Document → Bool) (w : List ℕ
   high_plus _ e = refl
 
   wanted_plus : (P : Position) → Asks P ≡ true → wants_plus P ≡ true
-  wanted_plus (Words ws) e = and_end (list_any (W.same_word w) ws) ∙ listed-same w ws ∙ e
-  wanted_plus (Match r) e = and_end (is_true (W.Match r.tree) w) ∙ e
+  wanted_plus (Words ws) e = and-true (list_any (W.same_word w) ws) ∙ listed-same w ws ∙ e
+  wanted_plus (Match r) e = and-true (is_true (W.Match r.tree) w) ∙ e
   wanted_plus _ e = refl
 
   low_minus : (P : Position) → not (Asks P) ≡ true → minus_lower P ≤ length w
@@ -66,8 +53,8 @@ module _ (here : ℕ → Bool) (below : ℕ → Document → Bool) (w : List ℕ
   high_minus _ e = refl
 
   wanted_minus : (P : Position) → not (Asks P) ≡ true → wants_minus P ≡ true
-  wanted_minus (Words ws) e = and_end (not (list_any (W.same_word w) ws)) ∙ ap not (listed-same w ws) ∙ e
-  wanted_minus (Match r) e = and_end (not (is_true (W.Match r.tree) w)) ∙ e
+  wanted_minus (Words ws) e = and-true (not (list_any (W.same_word w) ws)) ∙ ap not (listed-same w ws) ∙ e
+  wanted_minus (Match r) e = and-true (not (is_true (W.Match r.tree) w)) ∙ e
   wanted_minus _ e = refl
 
   -- the converse: what is said is met, where it is a literal that isn't wrong
@@ -77,8 +64,8 @@ module _ (here : ℕ → Bool) (below : ℕ → Document → Bool) (w : List ℕ
       → Asks P ≡ true
   from_plus (Types ts) c x l h e = not-false (some (same_kind K.Text) ts) x
   from_plus (Words ws) c x l h e =
-      sym (listed-same w ws) ∙ sym (and_end (list_any (W.same_word w) ws)) ∙ e
-  from_plus (Match r) c x l h e = sym (and_end (is_true (W.Match r.tree) w)) ∙ e
+      sym (listed-same w ws) ∙ sym (and-true (list_any (W.same_word w) ws)) ∙ e
+  from_plus (Match r) c x l h e = sym (and-true (is_true (W.Match r.tree) w)) ∙ e
   from_plus (LengthMin n) c x l h e = le-leb n (length w) l
   from_plus (LengthMax n) c x l h e = let a = leb-false (suc n) (length w) h in le-leb (length w) n (omega (arith, a))
   from_plus True c x l h e = cc
@@ -96,8 +83,8 @@ module _ (here : ℕ → Bool) (below : ℕ → Document → Bool) (w : List ℕ
       → not (Asks P) ≡ true
   from_minus (Types ts) c x l h e = ap not x
   from_minus (Words ws) c x l h e =
-      ap not (sym (listed-same w ws)) ∙ sym (and_end (not (list_any (W.same_word w) ws))) ∙ e
-  from_minus (Match r) c x l h e = sym (and_end (not (is_true (W.Match r.tree) w))) ∙ e
+      ap not (sym (listed-same w ws)) ∙ sym (and-true (not (list_any (W.same_word w) ws))) ∙ e
+  from_minus (Match r) c x l h e = sym (and-true (not (is_true (W.Match r.tree) w))) ∙ e
   from_minus (LengthMin n) c x l h e = ap not h
   from_minus (LengthMax n) c x l h e = ap not (lt-leb (length w) n l)
   from_minus _ c x l h e = cc

@@ -1,7 +1,6 @@
 -- The cells that are found for a set are cells of names: each name is in one, which tells what the literals of the set
 -- say of it, and the words of a cell are different names of it, all of them where they are few.
-use Rattle.std.proofs.Common.{◌≡◌, ℕ, ◌*◌, ◌≤◌, ◌<◌, inl, inr, Bool, true, false, ◌||◌, ◌&&◌, not, List, [], ◌∷◌, map, length, nat_eq, get_or, Option, Some, None, Ok, is_some, refl, ap, ap₂, sym, ◌∙◌, subst, arith}
-use Rattle.std.specs.Cmp.Lexicographic.{pointwise}
+use Rattle.std.proofs.Common.{◌≡◌, ℕ, ◌*◌, ◌≤◌, ◌<◌, inl, inr, Bool, true, ◌||◌, ◌&&◌, not, List, [], ◌∷◌, map, length, nat_eq, get_or, Option, Some, None, Ok, is_some, refl, ap, ap₂, sym, ◌∙◌, subst, arith}
 use Rattle.documents.specs.Tests.{every, some, same_word}
 use Rattle.documents.specs.Tests as D
 use Rattle.word_states.specs.Atom as W
@@ -16,10 +15,10 @@ use Rattle.positions.specs.NameFormula.{NameFormula, name_meets}
 use Rattle.goals.specs.Signed.{Signed, position_of}
 use Rattle.list_laws.specs.In.{IsIn, Distinct}
 use Rattle.list_laws.proofs.Lists.{in_left, in_right, in_map, in_get, in_flat_map}
-use Rattle.list_laws.proofs.Tests.{from_filter}
+use Rattle.list_laws.proofs.Tests.{from_filter, same_word_comm}
 use Rattle.name_truths.specs.NameTruth.{atoms, AreTrue}
 use Rattle.name_truths.specs.NameAtoms.{formula_of, set_atoms, formula_atoms, position_atoms, name_atoms}
-use Rattle.name_laws.proofs.NameLaws.{holds_by_truths}
+use Rattle.name_laws.proofs.NameLaws.{holds_by_truths, pointwise-same_word}
 use Rattle.cells.specs.Cells.{Cells, meets_formula, says, naming, vector, place, vectors_of, cells}
 use Rattle.cell_laws.specs.RightCells.{IsOf}
 use Rattle.cell_laws.proofs.Rows.{target_in, leads_on, row_is, first_row}
@@ -35,30 +34,14 @@ use Rattle.finder_laws.proofs.Once.{once_has}
 use Rattle.finder_laws.proofs.RowsFound.{none_passed}
 use Rattle.finder_laws.proofs.Strings.{scalars_same}
 use Rattle.finder_laws.proofs.Wanted.{truth_same}
+use Rattle.std.proofs.Math.Bool.{or-false}
+use Rattle.list_laws.proofs.Numbers.{nat_eq-refl}
 
 -- what is said of words whose atoms have the same truths
 
-swapped : (m n : ℕ) → nat_eq m n ≡ nat_eq n m
-swapped m n = grind arith
-
-same_listed : (w n : List ℕ) → pointwise nat_eq w n ≡ same_word n w
-same_listed [] [] = refl
-same_listed [] (d ∷ n) = refl
-same_listed (c ∷ w) [] = refl
-same_listed (c ∷ w) (d ∷ n) = ap₂ (λ a b. a && b) (swapped c d) (same_listed w n)
-
 -- one name is an atom
 one_name : (w n : List ℕ) → is_true (W.Words (n ∷ [])) w ≡ same_word n w
-one_name w n = alone (W.same_word w n) ∙ same_listed w n where
-  alone : (b : Bool) → (b || false) ≡ b
-  alone true = refl
-  alone false = refl
-
-one_swapped : (w n : List ℕ) → same_word w n ≡ same_word n w
-one_swapped [] [] = refl
-one_swapped [] (d ∷ n) = refl
-one_swapped (c ∷ w) [] = refl
-one_swapped (c ∷ w) (d ∷ n) = ap₂ (λ a b. a && b) (swapped c d) (one_swapped w n)
+one_name w n = or-false (W.same_word w n) ∙ pointwise-same_word w n ∙ same_word_comm w n
 
 some_same : {A : Type 0} (p q : A → Bool) (xs : List A) → ((x : A) → IsIn x xs → p x ≡ q x)
     → some p xs ≡ some q xs
@@ -91,11 +74,11 @@ module _ (T : List Position) (v w : List ℕ) where
   set_same (Others ns rs) h =
       ap₂ (λ a b. not a && not b)
       (some_same (same_word v) (same_word w) ns (λ n i.
-      one_swapped v n
+      same_word_comm v n
       ∙ one_same n (λ a j.
       h a (in_left a (map (λ n. W.Words (n ∷ [])) ns) (map (λ r. W.Match r.tree) rs)
       (listed n ns i a j)))
-      ∙ one_swapped n w))
+      ∙ same_word_comm n w))
       (some_same (λ r. matches r v) (λ r. matches r w) rs (λ r i.
       h (W.Match r.tree)
       (in_right (W.Match r.tree) (map (λ n. W.Words (n ∷ [])) ns) (map (λ r. W.Match r.tree) rs)
@@ -120,7 +103,7 @@ module _ (T : List Position) (v w : List ℕ) where
 
 module _ (T : List Position) (S : List Signed) where
   -- of words of one state the literals say the same
-  vector_same : (v w : List ℕ) → have_same_state (atoms_of_names T S) v w ≡ true
+  pub vector_same : (v w : List ℕ) → have_same_state (atoms_of_names T S) v w ≡ true
       → vector T (naming T S) v ≡ vector T (naming T S) w
   vector_same v w same =
       map_same (λ x. says T x v) (λ x. says T x w) (naming T S) (λ x i.
@@ -159,9 +142,7 @@ module _ (T : List Position) (S : List Signed) where
         (λ v w e. ap (λ z. nat_eq (place z (vectors_of T (naming T S) L)) c) (vector_same v w e))
         characters (C.different 0x110000) (C.scalars 0x110000) C.whole most_words far enough 0 []
         (first_row (atoms_of_names T S) L rows) l ws d
-        (λ w i. let (s, e) = of_cell w i in (sym (scalars_same w) ∙ s, ap (λ z. nat_eq z c) e ∙ same c)) where
-          same : (c : ℕ) → nat_eq c c ≡ true
-          same c = grind arith
+        (λ w i. let (s, e) = of_cell w i in (sym (scalars_same w) ∙ s, ap (λ z. nat_eq z c) e ∙ nat_eq-refl c))
 
     found_cells : (ok : IsTable T) → IsCells T ok S found
     found_cells ok = record {

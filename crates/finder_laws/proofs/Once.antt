@@ -1,5 +1,5 @@
 -- What is taken once has each of the atoms.
-use Rattle.std.proofs.Common.{◌≡◌, List, [], refl, sym, subst}
+use Rattle.std.proofs.Common.{List, [], refl, sym, subst}
 use Rattle.word_states.specs.Atom.{Atom}
 use Rattle.word_states.specs.SameAtom.{same_atom}
 use Rattle.state_laws.proofs.SameAtoms.{same_atom-Decides, same_atom_equiv}

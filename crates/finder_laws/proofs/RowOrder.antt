@@ -1,5 +1,5 @@
 -- Rows stand in the order of their words, and the word of a row is the first that leads there.
-use Rattle.std.proofs.Common.{◌≡◌, ℕ, suc, ◌<◌, ◌⊎◌, inl, inr, List, [], ◌∷◌, ◌++◌, true, map, flat_map, length, refl, ap, ap₂, sym, ◌∙◌, subst, append-nil, append_assoc, length-append, arith}
+use Rattle.std.proofs.Common.{◌≡◌, ℕ, suc, ◌<◌, ◌⊎◌, inl, inr, List, [], ◌∷◌, ◌++◌, true, map, flat_map, length, refl, ap, ap₂, sym, ◌∙◌, subst, append-nil, append_assoc, arith}
 use Rattle.std.specs.List.{list_all}
 use Rattle.std.proofs.lemmas.Bool.{and_parts}
 use Rattle.patterns.specs.CharSet.{is_scalar}
@@ -13,7 +13,7 @@ use Rattle.word_laws.proofs.States.{same_laws}
 use Rattle.word_laws.proofs.Firsts as F
 use Rattle.word_laws.proofs.Firsts.{firsts_are}
 use Rattle.list_laws.specs.In.{IsIn}
-use Rattle.list_laws.proofs.Lists.{from_map, in_map, from_flat_map, in_flat_map}
+use Rattle.list_laws.proofs.Lists.{from_map, in_map, from_flat_map, in_flat_map, length-end}
 use Rattle.cell_laws.specs.FirstWords.{Lex, Before, IsOrdered}
 use Rattle.cell_laws.proofs.Characters.{rank, rank_rises, rising_ordered}
 use Rattle.finder_laws.proofs.InOrder.{ordered_append, ordered_left, mentions_ordered, HasFirst, mentions_first}
@@ -30,16 +30,13 @@ lex_more (x ∷ v) [] c d l = absurd l
 lex_more (x ∷ v) (y ∷ w) c d (inl l) = inl l
 lex_more (x ∷ v) (y ∷ w) c d (inr l) = inr (l.0, lex_more v w c d l.1)
 
-one_more : (w : List ℕ) (c : ℕ) → length (w ++ c ∷ []) ≡ suc (length w)
-one_more w c = let e = length-append w (c ∷ []) in omega (arith, e)
-
 before_end : (w : List ℕ) (c d : ℕ) → rank c < rank d → Before rank (w ++ c ∷ []) (w ++ d ∷ [])
-before_end w c d l = inr (one_more w c ∙ sym (one_more w d), lex_end w c d l)
+before_end w c d l = inr (length-end w c ∙ sym (length-end w d), lex_end w c d l)
 
 before_more : (v w : List ℕ) (c d : ℕ) → Before rank v w → Before rank (v ++ c ∷ []) (w ++ d ∷ [])
-before_more v w c d (inl l) = inl (let e = one_more v c in let f = one_more w d in omega (arith, e, f, l))
+before_more v w c d (inl l) = inl (let e = length-end v c in let f = length-end w d in omega (arith, e, f, l))
 before_more v w c d (inr l) =
-    inr (one_more v c ∙ ap suc l.0 ∙ sym (one_more w d), lex_more v w c d l.1)
+    inr (length-end v c ∙ ap suc l.0 ∙ sym (length-end w d), lex_more v w c d l.1)
 
 lex_next : (u v w : List ℕ) → Lex rank u v → Lex rank v w → Lex rank u w
 lex_next [] v w l m = absurd l

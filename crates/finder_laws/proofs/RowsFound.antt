@@ -3,7 +3,7 @@ use Rattle.std.proofs.Common.{◌≡◌, ℕ, zero, suc, ◌≤◌, ◌<◌, inl
 use Rattle.list_laws.specs.In.{IsIn}
 use Rattle.list_laws.proofs.Lists.{from_map, in_get}
 use Rattle.std.specs.List.{list_all, IsDistinct, AllByRecursion}
-use Rattle.std.proofs.lemmas.Bool.{cases_lt, and_parts, and_from, lt-ltb, le-ltb, ltb-true, ltb-false}
+use Rattle.std.proofs.lemmas.Bool.{cases_lt, lt-ltb, le-ltb, ltb-true, ltb-false}
 use Rattle.std.proofs.lemmas.List.{length-take}
 use Rattle.patterns.specs.CharSet.{is_scalar}
 use Rattle.word_states.specs.Atom.{Atom}
@@ -20,19 +20,7 @@ use Rattle.alternatives.specs.Limit.{LimitKind, Positions, Classes, States, most
 use Rattle.finders.specs.RowsFound.{longer, rows_by}
 use Rattle.finders.specs.Limits.{limit_passed}
 use Rattle.finder_laws.proofs.Grow.{grow_rows, grow_distinct}
-
-all_words : (K : List (List ℕ)) → ((w : List ℕ) → IsIn w K → list_all is_scalar w ≡ true)
-    → list_all (list_all is_scalar) K ≡ true
-all_words [] h = refl
-all_words (w ∷ K) h =
-    and_from (list_all is_scalar w) (list_all (list_all is_scalar) K) (h w (inl refl))
-    (all_words K (λ v i. h v (inr i)))
-
-all_take : {A : Type 0} (p : A → Bool) (n : ℕ) (K : List A) → list_all p K ≡ true → list_all p (take n K) ≡ true
-all_take p zero K h = refl
-all_take p (suc n) [] h = refl
-all_take p (suc n) (x ∷ K) h =
-    let (a, b) = and_parts (p x) (list_all p K) h in and_from (p x) (list_all p (take n K)) a (all_take p n K b)
+use Rattle.list_laws.proofs.Tests.{all_from, all_take}
 
 distinct_take : {A : Type 0} (same : A → A → Bool) (n : ℕ) (K : List A) → IsDistinct same K → IsDistinct same (take n K)
 unfolding IsDistinct
@@ -75,7 +63,7 @@ module _ (atoms : List Atom) where
   grown_states n = (
     rows_by (class_firsts atoms) atoms n,
     refl,
-    all_words (rows_by (class_firsts atoms) atoms n) (grown_words n),
+    (all_from (list_all is_scalar) (rows_by (class_firsts atoms) atoms n)) (grown_words n),
     grow_distinct (have_same_state atoms) (same_laws atoms) (longer (class_firsts atoms)) [] n,
   )
 

@@ -24,13 +24,13 @@ use Rattle.alternatives.specs.Alternative.{Text}
 use Rattle.alternatives.specs.Limit.{LimitKind, most_states}
 use Rattle.expansions.specs.Leaves.{word_of}
 use Rattle.expansion_laws.proofs.Leaf.{IsMade, IsFinder}
-use Rattle.expansion_laws.proofs.PlanLeaf.{not_crossed}
 use Rattle.finders.specs.RowsFound.{rows_by}
 use Rattle.finders.specs.Limits.{limit_passed, unless_passed}
 use Rattle.finders.specs.WordsFound.{far, words_found, first_of}
 use Rattle.finders.specs.Strings.{lower, below, string_atoms, wants, is_wanted, if_below, strings_of}
 use Rattle.finder_laws.proofs.RowsFound.{none_passed}
 use Rattle.finder_laws.proofs.Wanted.{wanted_from, wanted_meets, wanted_same}
+use Rattle.frame_laws.proofs.Ends.{at_end_down}
 
 pub states_far : most_states ≤ far
 unfolding far
@@ -148,7 +148,7 @@ module _ (T : List Position) (S : List Signed) where
   none_wanted e w s t h =
       let (a, b) = and_parts (every (wants T w) S) (nat_le (lower T S) (length w)) t in
       let low = leb-true (lower T S) (length w) b in
-      let open_ = not_crossed (lower T S) (length w) (below T S) low h in
+      let open_ = at_end_down (lower T S) (length w) (below T S) low h in
       ⊎_elim (λ (x, y). true≢false (sym x ∙ open_)) (λ o. go o) (come_from None e) where
         go : IsFree None → ⊥
         go o =
@@ -159,7 +159,7 @@ module _ (T : List Position) (S : List Signed) where
             (λ q. let n : None ≡ Some v = sym q ∙ f in cc n)
             (λ (u, q, g). let same : Some u ≡ Some v = sym q ∙ f in
             let i : u ≡ v = cc same in
-            let k = not_crossed (length v) (length w) (below T S) l h in
+            let k = at_end_down (length v) (length w) (below T S) l h in
             true≢false (sym g ∙ ap (λ z. is_at_end (length z) (below T S)) i ∙ k))
             (below_none (below T S) (first_of (wanted_words T S)) o.is)
 

@@ -17,12 +17,12 @@ use Rattle.goal_laws.specs.Saturated.{IsSaturated}
 use Rattle.goal_laws.proofs.Saturated.{meets-saturated}
 use Rattle.frames.specs.Frame.{is_at_end}
 use Rattle.frame_laws.proofs.Signs.{has_in}
-use Rattle.object_laws.proofs.Sets.{lesser_end}
 use Rattle.list_laws.specs.In.{IsIn}
 use Rattle.list_laws.proofs.Lists.{every_at, every_from, in_left, in_right, in_flat_map}
 use Rattle.finders.specs.Strings.{lower_at, lower, below_at, below, word_atoms, length_atoms, string_atoms, wants, is_wanted}
 use Rattle.finder_laws.proofs.Once.{once_has}
 use Rattle.finder_laws.proofs.Literals.{IsLiteral, is_literal, literal_met}
+use Rattle.frame_laws.proofs.Ends.{lesser_end}
 
 lower_from : (T : List Position) (S : List Signed) (n : ℕ) → ((x : Signed) → IsIn x S → lower_at T x ≤ n)
     → lower T S ≤ n

@@ -1,6 +1,6 @@
 -- What stands where in an array or an object follows one of the frame's complete plans.
-use Rattle.std.proofs.Common.{◌≡◌, ℕ, zero, suc, ◌+◌, ◌-◌, ◌<◌, ◌≤◌, ◌⊎◌, inl, inr, ⊎_elim, Bool, true, false, ◌&&◌, cond, not, List, [], ◌∷◌, ◌++◌, map, filter, flat_map, length, take, nat_eq, Option, Some, None, refl, ap, sym, ◌∙◌, subst, arith, suc-ne-zero}
-use Rattle.std.proofs.lemmas.Bool.{and_from, cases_lt, leb-false, lt-leb, eqb-true}
+use Rattle.std.proofs.Common.{◌≡◌, ℕ, zero, suc, ◌+◌, ◌-◌, ◌<◌, ◌≤◌, ◌⊎◌, inl, inr, ⊎_elim, Bool, true, false, ◌&&◌, cond, not, List, [], ◌∷◌, ◌++◌, map, filter, flat_map, length, take, nat_eq, Option, Some, None, refl, ap, sym, ◌∙◌, subst, arith, suc-ne-zero, add-zero, zero-add}
+use Rattle.std.proofs.lemmas.Bool.{and_from, cases_lt, lt-leb, eqb-true}
 use Rattle.std.specs.Option.{is_none}
 use Rattle.std.specs.List.{range_with_len}
 use Rattle.documents.specs.Tests.{every}
@@ -12,6 +12,10 @@ use Rattle.frames.specs.Plan.{Member, Plan, plan, member, serve_head, serve_memb
 use Rattle.list_laws.specs.In.{IsIn, Distinct}
 use Rattle.list_laws.proofs.Lists.{every_at, every_from, in_left, in_right, in_append, from_flat_map, in_map, to_filter}
 use Rattle.list_laws.proofs.Pigeons.{dec_in, pigeon}
+use Rattle.list_laws.proofs.Numbers.{suc_add-add_suc}
+use Rattle.std.proofs.Math.Numerals.{suc-eq-add-one}
+use Rattle.frame_laws.proofs.Lengths.{length-serve_head}
+use Rattle.frame_laws.proofs.Ends.{at_end_down}
 
 -- the elements or members of a document by number: where each stands, and what it meets
 pub record Arrangement : Type 0 where
@@ -72,11 +76,6 @@ module _ (T : List Position) (frame : Frame) (A : Arrangement) where
   in_bound e [] k i = absurd i
   in_bound e (x ∷ xs) zero i = omega arith
   in_bound e (x ∷ xs) (suc k) i = omega (arith, in_bound e xs k i)
-
-  serve_length : (d : Signed) (xs : List (List Signed)) (k : ℕ) → length (serve_head d xs k) ≡ length xs
-  serve_length d [] k = refl
-  serve_length d (x ∷ xs) zero = refl
-  serve_length d (x ∷ xs) (suc k) = ap suc (serve_length d xs k)
 
   from_serve : (e d : Signed) (xs : List (List Signed)) (k m : ℕ) → IsIn e (at_list (serve_head d xs k) m)
       → ((e ≡ d) × (m ≡ k)) ⊎ IsIn e (at_list xs m)
@@ -209,12 +208,8 @@ module _ (T : List Position) (frame : Frame) (A : Arrangement) where
       (suc i, later (frame.inside d x.cell) i a, (s.0, t)) where
         later : (v : Bool) (i : ℕ) → IsIn (suc b + i) (servers frame d (suc b) ms)
             → IsIn (b + suc i) (cond v (b ∷ servers frame d (suc b) ms) (servers frame d (suc b) ms))
-        later true i a = inr (subst (λ z. IsIn z (servers frame d (suc b) ms)) (shift b i) a) where
-          shift : (b i : ℕ) → suc b + i ≡ b + suc i
-          shift b i = omega arith
-        later false i a = subst (λ z. IsIn z (servers frame d (suc b) ms)) (shift b i) a where
-          shift : (b i : ℕ) → suc b + i ≡ b + suc i
-          shift b i = omega arith
+        later true i a = inr (subst (λ z. IsIn z (servers frame d (suc b) ms)) (suc_add-add_suc b i) a)
+        later false i a = subst (λ z. IsIn z (servers frame d (suc b) ms)) (suc_add-add_suc b i) a
   serves_there d b j [] (y ∷ ys) s i e m = absurd s
   serves_there d b j (x ∷ ms) [] s i e m = absurd i
 
@@ -236,10 +231,6 @@ module _ (T : List Position) (frame : Frame) (A : Arrangement) where
         (used_le A.count 0 p.heads (λ k d i. omega (arith, (f.heads_fit k d i).0))) in
         omega (arith, k.floor, u, members_le p.members f.who f.stand f.distinct)
 
-    under : (n m : ℕ) (o : Option ℕ) → n ≤ m → is_at_end m o ≡ false → is_at_end n o ≡ false
-    under n m None l e = refl
-    under n m (Some b) l e = let h = leb-false b m e in lt-leb b n (omega (arith, h, l))
-
     room : (ms : List Member) (ys : List ℕ) → Stand ms ys → Distinct ys → (c j : ℕ) → j < A.count → A.at j ≡ In c
         → (IsIn j ys → ⊥) → has_room frame ms c ≡ true
     room ms ys s d c j l at new = go (frame.cap c) refl where
@@ -257,11 +248,11 @@ module _ (T : List Position) (frame : Frame) (A : Arrangement) where
       go : (a n j : ℕ) → a ≤ j → j < a + n → IsIn j (range_with_len a n)
       go a zero j x y = absurd (omega arith)
       go a (suc n) j x y = elim (cases_lt a j) [
-        | inl l ↦ inr (subst (λ z. IsIn j (range_with_len z n)) (plus a) (go (suc a) n j (omega arith) (omega arith)))
+        | inl l ↦
+            inr
+            (subst (λ z. IsIn j (range_with_len z n)) (suc-eq-add-one a) (go (suc a) n j (omega arith) (omega arith)))
         | inr l ↦ inl (omega arith)
-      ] where
-        plus : (a : ℕ) → suc a ≡ a + 1
-        plus a = omega arith
+      ]
 
     abbrev by_head : Signed → Plan → List Plan
     by_head d p = map (λ k. plan (serve_head d p.heads k) p.members) (range_with_len 0 (length p.heads))
@@ -287,7 +278,7 @@ module _ (T : List Position) (frame : Frame) (A : Arrangement) where
               (in_map (λ k. plan (serve_head d p.heads k) p.members) j (range_with_len 0 (length p.heads))
               (in_range (length p.heads) j (omega (arith, h, f.heads_long))))),
           record {
-            heads_long = serve_length d p.heads j ∙ f.heads_long;
+            heads_long = length-serve_head d p.heads j ∙ f.heads_long;
             heads_fit = λ n x i. ⊎_elim
                 (λ (a, b). subst (λ z. (z < A.count) × Meets A z (frame.serving (Head z) x)) (sym b) (
                   l,
@@ -371,17 +362,11 @@ module _ (T : List Position) (frame : Frame) (A : Arrangement) where
           omega (arith, l),
           at,
           list_met a (Head a) x (omega (arith, l)) at
-              (λ d i. subst (λ z. Meets A z (frame.serving (Head z) d)) (zero_more a) (h 0 d i)),
+              (λ d i. subst (λ z. Meets A z (frame.serving (Head z) d)) (add-zero a) (h 0 d i)),
         )
-      where
-        zero_more : (a : ℕ) → a + 0 ≡ a
-        zero_more a = omega arith
     heads_met (suc n) a (x ∷ xs) e l h s (inr i) =
         heads_met n (suc a) xs (omega (arith, e)) (omega (arith, l))
-        (λ i d j. subst (λ z. Meets A z (frame.serving (Head z) d)) (one_more_is a i) (h (suc i) d j)) s i
-      where
-        one_more_is : (a i : ℕ) → a + suc i ≡ suc a + i
-        one_more_is a i = omega arith
+        (λ i d j. subst (λ z. Meets A z (frame.serving (Head z) d)) (sym (suc_add-add_suc a i)) (h (suc i) d j)) s i
 
     members_met : (ms : List Member) (ys : List ℕ) → Stand ms ys → (s : Place × List Signed)
         → IsIn s (map (λ m. (In m.cell, m.served)) ms) → Is s
@@ -395,12 +380,9 @@ module _ (T : List Position) (frame : Frame) (A : Arrangement) where
     placed_met p f s i =
         ⊎_elim
         (λ a. heads_met (size frame p) 0 p.heads (omega (arith, f.heads_long)) (omega (arith, size_le p f))
-        (λ i d j. subst (λ z. Meets A z (frame.serving (Head z) d)) (sym (plus i)) (f.heads_fit i d j).1) s a)
+        (λ i d j. subst (λ z. Meets A z (frame.serving (Head z) d)) (sym (zero-add i)) (f.heads_fit i d j).1) s a)
         (λ a. members_met p.members f.who f.stand s a)
         (in_append s (take (size frame p) (heads_from 0 p.heads)) (map (λ m. (In m.cell, m.served)) p.members) i)
-      where
-        plus : (i : ℕ) → 0 + i ≡ i
-        plus i = omega arith
 
     no_clash : (n : ℕ) (ss : List (Place × List Signed)) → ((s : Place × List Signed) → IsIn s ss → Is s)
         → clash_from T frame n ss ≡ None
@@ -411,7 +393,7 @@ module _ (T : List Position) (frame : Frame) (A : Arrangement) where
 
     pub not_dropped : (p : Plan) → Fits p → (ss : List PlanStep) → unless_dropped T frame p ss ≡ ss
     not_dropped p f ss =
-        rw (under (size frame p) A.count frame.below (size_le p f) k.high)
+        rw (at_end_down (size frame p) A.count frame.below (size_le p f) k.high)
         (rw (no_clash 0 (placed frame p) (placed_met p f)) refl)
 
     in_complete : (p : Plan) (xs ys : List PlanStep) → IsIn p (complete xs) ⊎ IsIn p (complete ys)

@@ -1,7 +1,7 @@
 -- What a complete plan has: each demand is served, no cell is over its bound, nothing placed clashes.
 use Rattle.std.proofs.Common.{◌≡◌, ℕ, zero, suc, ◌+◌, ◌<◌, ◌≤◌, ◌⊎◌, inl, inr, ⊎_elim, Bool, true, false, ◌&&◌, cond, not, List, [], ◌∷◌, ◌++◌, map, filter, flat_map, length, nat_eq, nat_le, Option, Some, None, refl, ap, sym, ◌∙◌, subst, arith}
 use Rattle.std.proofs.Math.ListN.{length-replicate}
-use Rattle.std.proofs.lemmas.Bool.{and_parts, leb-false, eqb-true}
+use Rattle.std.proofs.lemmas.Bool.{and_parts, leb-false, eqb-true, not-true}
 use Rattle.std.specs.List.{range_with_len}
 use Rattle.positions.specs.Position.{Position}
 use Rattle.goals.specs.Signed.{Signed}
@@ -10,6 +10,8 @@ use Rattle.frames.specs.Plan.{Member, Plan, plan, member, empty_plan, serve_head
 use Rattle.list_laws.specs.In.{IsIn}
 use Rattle.list_laws.proofs.Lists.{in_append, from_map}
 use Rattle.frame_laws.proofs.Arranged.{at_list}
+use Rattle.frame_laws.proofs.Lengths.{length-serve_head}
+use Rattle.list_laws.proofs.Tests.{from_filter}
 
 module _ (T : List Position) (frame : Frame) where
   abbrev IsServedBy : Signed → Plan → Type 0
@@ -23,11 +25,6 @@ module _ (T : List Position) (frame : Frame) where
     pub served : (d : Signed) → IsIn d frame.demands → IsServedBy d p ⊎ IsIn d left
 
   -- serving at a first place
-
-  length_serve : (d : Signed) (xs : List (List Signed)) (k : ℕ) → length (serve_head d xs k) ≡ length xs
-  length_serve d [] k = refl
-  length_serve d (x ∷ xs) zero = refl
-  length_serve d (x ∷ xs) (suc k) = ap suc (length_serve d xs k)
 
   still : (e d : Signed) (xs : List (List Signed)) (k m : ℕ) → IsIn e (at_list xs m)
       → IsIn e (at_list (serve_head d xs k) m)
@@ -144,16 +141,6 @@ module _ (T : List Position) (frame : Frame) where
   range_below a (suc n) j (inl e) = omega (arith, e)
   range_below a (suc n) j (inr i) = omega (arith, range_below (a + 1) n j i)
 
-  from_filter : (p : ℕ → Bool) (x : ℕ) (xs : List ℕ) → IsIn x (filter p xs) → IsIn x xs × (p x ≡ true)
-  from_filter p x [] i = absurd i
-  from_filter p x (y ∷ xs) i = go (p y) refl i (from_filter p x xs) where
-    go : (b : Bool) → p y ≡ b → IsIn x (cond b (y ∷ filter p xs) (filter p xs))
-        → (IsIn x (filter p xs) → IsIn x xs × (p x ≡ true))
-        → IsIn x (y ∷ xs) × (p x ≡ true)
-    go true e (inl q) more = (inl q, subst (λ z. p z ≡ true) (sym q) e)
-    go true e (inr i) more = (inr (more i).0, (more i).1)
-    go false e i more = (inr (more i).0, (more i).1)
-
   served_on : (d : Signed) (left : List Signed) (p q : Plan) → IsKept (d ∷ left) p
       → IsServedBy d q → ((e : Signed) → IsServedBy e p → IsServedBy e q)
       → (e : Signed) → IsIn e frame.demands → IsServedBy e q ⊎ IsIn e left
@@ -187,7 +174,7 @@ module _ (T : List Position) (frame : Frame) where
     where
       by_head : (n : ℕ) → n < length p.heads → IsKept left (plan (serve_head d p.heads n) p.members)
       by_head n l = record {
-        heads_long = length_serve d p.heads n ∙ k.heads_long;
+        heads_long = length-serve_head d p.heads n ∙ k.heads_long;
         cells = k.cells;
         inside = k.inside;
         capped = k.capped;
@@ -241,12 +228,8 @@ module _ (T : List Position) (frame : Frame) where
             let g : not (is_at_end (count_in c p.members) (Some b)) ≡ true =
             subst (λ o. not (is_at_end (count_in c p.members) o) ≡ true) f v in
             let r = subst (λ z. count_in z p.members < b) (eqb-true c a h)
-            (leb-false b (count_in c p.members) (no (nat_le b (count_in c p.members)) g)) in
+            (leb-false b (count_in c p.members) (not-true (nat_le b (count_in c p.members)) g)) in
             omega (arith, r)
-          where
-            no : (b : Bool) → not b ≡ true → b ≡ false
-            no true e = sym e
-            no false e = refl
 
   -- complete plans
 

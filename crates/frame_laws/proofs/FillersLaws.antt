@@ -9,7 +9,7 @@ use Rattle.frames.specs.Frame.{In, Frame}
 use Rattle.frames.specs.Plan.{Plan, count_in, goal_of, need}
 use Rattle.list_laws.specs.In.{IsIn, Distinct}
 use Rattle.list_laws.proofs.Lists.{in_append, from_flat_map}
-use Rattle.frame_laws.proofs.Occurrences.{cells_of, times_append}
+use Rattle.frame_laws.proofs.Occurrences.{cells_of, times_append, cells_append}
 use Rattle.frames.specs.Fillers.{Filler, with_room, filler_at, fillers, rooms_of, times, fill}
 
 -- the fillers of a cell
@@ -93,10 +93,6 @@ module _ (can : List Signed → Bool) (child : List Signed → Document) where
     go false e zero = omega arith
     go true e (suc n) = rw e (omega (arith, go true e n))
     go false e (suc n) = rw e (omega (arith, go false e n))
-
-  cells_append : (us ws : List (ℕ × Document)) → cells_of (us ++ ws) ≡ cells_of us ++ cells_of ws
-  cells_append [] ws = refl
-  cells_append (u ∷ us) ws = ap (λ z. u.0 ∷ z) (cells_append us ws)
 
   pub fill_times : (c n : ℕ) (fs : List Filler) → times c (cells_of (fill can child n fs)) ≤ rooms_in c fs
   fill_times c n [] = omega arith

@@ -1,3 +1,5 @@
+pub mod Lengths
+pub mod Ends
 pub mod Occurrences
 pub mod Signs
 pub mod Arranged

@@ -1,5 +1,6 @@
 -- How often a cell occurs.
 use Rattle.std.proofs.Common.{◌≡◌, ℕ, suc, ◌+◌, Bool, true, false, cond, List, [], ◌∷◌, ◌++◌, map, nat_eq, arith}
+use Rattle.std.proofs.lemmas.List.{map-append}
 use Rattle.documents.specs.Document.{Document}
 use Rattle.frames.specs.Fillers.{times}
 
@@ -14,3 +15,6 @@ times_append c (x ∷ xs) ys = go (nat_eq x c) (times_append c xs ys) where
 
 abbrev pub cells_of : List (ℕ × Document) → List ℕ
 cells_of vs = map (λ v. v.0) vs
+
+pub cells_append : (us ws : List (ℕ × Document)) → cells_of (us ++ ws) ≡ cells_of us ++ cells_of ws
+cells_append us ws = map-append (λ (u : ℕ × Document). u.0) us ws

@@ -1,6 +1,6 @@
 -- Lines that show a plan dead leave no room for what is arranged by it.
 use Rattle.std.proofs.Common.{◌≡◌, ℕ, suc, ◌+◌, ◌-◌, ◌<◌, ◌≤◌, inl, inr, Bool, true, false, cond, List, [], ◌∷◌, length, nat_eq, Option, Some, None, Ok, slice_get, refl, ap, sym, ◌∙◌, subst, arith}
-use Rattle.std.proofs.lemmas.Bool.{ltb-true, leb-true, le-leb, eqb-true}
+use Rattle.std.proofs.lemmas.Bool.{ltb-true, eqb-true}
 use Rattle.positions.specs.Position.{Position}
 use Rattle.goals.specs.Signed.{Signed}
 use Rattle.frames.specs.Frame.{Place, Head, In, Frame, list_at, is_at_end}
@@ -10,6 +10,7 @@ use Rattle.list_laws.specs.In.{IsIn, Distinct}
 use Rattle.list_laws.proofs.Counts.{sum_over, up_from, subset_length, with_key, from_key, distinct_key, keyed, all_keyed, up_from_low, up_from_distinct, up_from_length}
 use Rattle.frame_laws.proofs.Arranged.{Arrangement, Meets, IsArranged, Stand, Fits, chosen, chosen_count, size_le, option_fits, placed_met, list_met}
 use Rattle.list_laws.proofs.Lists.{in_slice}
+use Rattle.frame_laws.proofs.Ends.{at_end_up}
 
 module _ (T : List Position) (frame : Frame) (A : Arrangement) (k : IsArranged T frame A)
     (cite : ℕ → List Signed → Bool)
@@ -135,10 +136,6 @@ module _ (T : List Position) (frame : Frame) (A : Arrangement) (k : IsArranged T
   Rest [] = []
   Rest (d ∷ left) = left
 
-  at_end : (n m : ℕ) (o : Option ℕ) → n ≤ m → is_at_end n o ≡ true → is_at_end m o ≡ true
-  at_end n m None l e = e
-  at_end n m (Some b) l e = le-leb b m (omega (arith, leb-true b n e, l))
-
   none_true : (b : Bool) (r : ℕ) (qs : List Plan) → where_true b r ≡ Ok qs → b ≡ true
   none_true true r qs e = refl
   none_true false r qs e = cc
@@ -147,7 +144,7 @@ module _ (T : List Position) (frame : Frame) (A : Arrangement) (k : IsArranged T
       → after T cite frame p left l ≡ Ok qs
       → ((q : Plan) → IsIn q qs → IsFree (Rest left) q) → IsFree left p
   after_free p left Count qs e more f w =
-      let o = at_end (size frame p) A.count frame.below (size_le T frame A k p f)
+      let o = at_end_up (size frame p) A.count frame.below (size_le T frame A k p f)
       (none_true (is_at_end (size frame p) frame.below) 24 qs e) in
       let x : true ≡ false = sym o ∙ k.high in cc
   after_free p (d ∷ left) Split qs e more f w =

@@ -1,7 +1,7 @@
 -- A document meets a set exactly where it meets one of the branches of the set's tree at the document's kind.
 use Rattle.std.proofs.Common.{◌≡◌, Bool, true, false, ◌&&◌, ◌||◌, List, [], ◌∷◌, ◌++◌, flat_map, Some, IfSome, refl, ap, sym, ◌∙◌, subst}
 use Rattle.std.specs.List.{AllByRecursion}
-use Rattle.std.proofs.Math.Bool.{and-false, or-false}
+use Rattle.std.proofs.Math.Bool.{and-false, or-false, and-or_distrib_right}
 use Rattle.std.proofs.lemmas.Bool.{and_parts, and_from}
 use Rattle.documents.specs.Tests.{some}
 use Rattle.documents.specs.Kind.{Kind}
@@ -42,13 +42,7 @@ meets-add_all T C S J = every-add_all (met (λ p. holds T p J)) C S
 -- a test of the set may be made once for all choices
 some-and : {A : Type 0} (p : A → Bool) (b : Bool) (xs : List A) → (some p xs && b) ≡ some (λ x. p x && b) xs
 some-and p b [] = refl
-some-and p b (x ∷ xs) = split (p x) (some p xs) b ∙ ap (λ c. (p x && b) || c) (some-and p b xs) where
-  split : (a s b : Bool) → ((a || s) && b) ≡ ((a && b) || (s && b))
-  split true true true = refl
-  split true true false = refl
-  split true false true = refl
-  split true false false = refl
-  split false s b = refl
+some-and p b (x ∷ xs) = and-or_distrib_right (p x) (some p xs) b ∙ ap (λ c. (p x && b) || c) (some-and p b xs)
 
 module _ (T : List Position) (ok : IsTable T) (J : Document) where
   abbrev Agrees : List Signed → List Step → Type 0

@@ -1,7 +1,7 @@
 -- A document meets a list exactly where it meets the goal that the list forms; that goal forms itself.
 use Rattle.std.proofs.Common.{◌≡◌, ℕ, zero, suc, ◌<◌, inl, inr, Bool, true, false, ◌&&◌, ◌||◌, cond, not, List, [], ◌∷◌, length, Option, Some, None, nat_lt, is_none, refl, ap, ap₂, sym, ◌∙◌, subst, arith}
 use Rattle.std.proofs.Math.Bool.{and-true}
-use Rattle.std.proofs.lemmas.Bool.{and_from, or_parts, or_cases, not-true, ltb-true, lt-ltb, cond-false}
+use Rattle.std.proofs.lemmas.Bool.{and_from, or_parts, or_cases, not-true, ltb-true, lt-ltb, cond-false, false_from_ne_true}
 use Rattle.std.specs.List.{AllByRecursion}
 use Rattle.documents.specs.Tests.{every}
 use Rattle.documents.specs.Document.{Document}
@@ -12,7 +12,8 @@ use Rattle.goals.specs.Signed.{Signed, Plus, Minus, position_of, opposite, has, 
 use Rattle.goals.specs.Goal.{plus_reference, minus_reference, reference, follow_on, follow_within, follow, is_always, is_never, followed, clashes, form_of, form, contains}
 use Rattle.goal_laws.specs.Formed.{meets_goal, IsFormed}
 use Rattle.goal_laws.proofs.Signs.{has-here, has-there, has-every, every-has, some-has, some-none, every-add_all, met-opposite, is_rising-add_all, add_all-itself}
-use Rattle.goal_laws.proofs.Rules.{unmet, meets-clash}
+use Rattle.goal_laws.proofs.Rules.{meets-clash}
+use Rattle.list_laws.proofs.Options.{is_none-None}
 
 -- the end of a chain of references
 
@@ -81,10 +82,6 @@ module _ (T : List Position) (ok : IsTable T) where
   unfolding follow
   follow-inside x l = follow_within-inside (length T) x l
 
-has_none : {A : Type 0} (o : Option A) → is_none o ≡ true → o ≡ None
-has_none None e = refl
-has_none (Some x) e = cc
-
 -- what a reference means
 
 module _ (T : List Position) (ok : IsTable T) (J : Document) where
@@ -133,10 +130,7 @@ module _ (T : List Position) (ok : IsTable T) (J : Document) where
     go _ e = cc
 
   pub is_never-met : (x : Signed) → is_never T x ≡ true → met here x ≡ false
-  is_never-met x e = go (met here x) (sym (met-opposite here x) ∙ is_always-met (opposite x) e) where
-    go : (b : Bool) → not b ≡ true → b ≡ false
-    go true h = cc
-    go false h = refl
+  is_never-met x e = not-true (met here x) (sym (met-opposite here x) ∙ is_always-met (opposite x) e)
 
   followed-met : (xs : List Signed) → every (met here) (followed T xs) ≡ every (met here) xs
   followed-met [] = refl
@@ -154,7 +148,7 @@ module _ (T : List Position) (ok : IsTable T) (J : Document) where
   clashes-met S e =
       let (x, i, h) = some-has (λ x. is_never T x || has (opposite x) S) S e in
       elim (or_cases (is_never T x) (has (opposite x) S) h) [
-        | inl never ↦ unmet (meets T S J) (λ m. cc (every-has (met here) S x m i, is_never-met x never))
+        | inl never ↦ false_from_ne_true (meets T S J) (λ m. cc (every-has (met here) S x m i, is_never-met x never))
         | inr both ↦ meets-clash T ok J S x i both
       ]
 
@@ -227,7 +221,7 @@ module _ (T : List Position) (ok : IsTable T) where
             (form-every (λ y. not (is_always T y)) xs g e (λ y j h. ap not h)) i);
         none_never =
             λ x i. (or_parts _ _ (some-none (λ y. is_never T y || has (opposite y) g) g x clear i)).0;
-        no_reference = λ x i. has_none (reference T x) (every-has (λ y. is_none (reference T y)) g x
+        no_reference = λ x i. is_none-None (reference T x) (every-has (λ y. is_none (reference T y)) g x
             (form-every (λ y. is_none (reference T y)) xs g e (λ y j h. ap is_none (follow-ends T ok y))) i);
       }
 

@@ -1,6 +1,6 @@
 -- What a test makes of the choices of exactly one position, and of not exactly one.
-use Rattle.std.proofs.Common.{◌≡◌, ℕ, Bool, true, false, ◌&&◌, ◌||◌, List, [], ◌∷◌, map, refl, ap, ap₂, sym, ◌∙◌}
-use Rattle.std.proofs.Math.Bool.{and-true, and-false}
+use Rattle.std.proofs.Common.{◌≡◌, ℕ, Bool, ◌&&◌, ◌||◌, List, [], ◌∷◌, map, refl, ap, ap₂, sym, ◌∙◌}
+use Rattle.std.proofs.Math.Bool.{and-true, and-false, and-or_distrib_left}
 use Rattle.documents.specs.Tests.{every, some}
 use Rattle.position_laws.proofs.Lists.{some-append}
 use Rattle.goals.specs.Signed.{Signed, Plus, Minus}
@@ -11,10 +11,8 @@ module _ (p : Signed → Bool) where
   some-put : (x : Signed) (cs : List (List Signed)) → some (every p) (map (λ C. x ∷ C) cs) ≡ (p x && some (every p) cs)
   some-put x [] = sym (and-false (p x))
   some-put x (C ∷ cs) =
-      ap (λ b. (p x && every p C) || b) (some-put x cs) ∙ gather (p x) (every p C) (some (every p) cs) where
-        gather : (a b c : Bool) → ((a && b) || (a && c)) ≡ (a && (b || c))
-        gather true b c = refl
-        gather false b c = refl
+      ap (λ b. (p x && every p C) || b) (some-put x cs)
+      ∙ sym (and-or_distrib_left (p x) (every p C) (some (every p) cs))
 
   -- of single ones some passes
   some-single : (f : ℕ → Signed) (qs : List ℕ) → some (every p) (map (λ q. f q ∷ []) qs) ≡ some (λ q. p (f q)) qs

@@ -1,8 +1,8 @@
 -- The choices of a signed position mean what it means: a clause for each kind of position.
 use Rattle.std.proofs.Common.{◌≡◌, ℕ, Bool, true, false, ◌&&◌, ◌||◌, not, cond, List, [], ◌∷◌, map, IfSome, refl, ap, ap₂, sym, ◌∙◌, subst}
 use Rattle.std.specs.List.{AllByRecursion}
-use Rattle.std.proofs.Math.Bool.{and-true, or-false}
-use Rattle.std.proofs.lemmas.Bool.{not-true}
+use Rattle.std.proofs.Math.Bool.{and-true, or-false, not-not}
+use Rattle.std.proofs.lemmas.Bool.{not-true, false_from_ne_true}
 use Rattle.documents.specs.Tests.{every, some}
 use Rattle.documents.specs.Measures.{exactly_one}
 use Rattle.documents.specs.Kind.{Kind, Object, same_kind}
@@ -17,10 +17,6 @@ use Rattle.goals.specs.Choices.{one_plus, two_plus, for_objects, plus_choices, m
 use Rattle.goals.specs.Choices.{is_elsewhere, plus_wrong, minus_wrong, is_wrong}
 use Rattle.goal_laws.proofs.Signs.{met-opposite, every-has}
 use Rattle.goal_laws.proofs.OneLaws.{one_plus-some, two_plus-some}
-
-not-not : (b : Bool) → b ≡ not (not b)
-not-not true = refl
-not-not false = refl
 
 not-or : (a b : Bool) → (not a && not b) ≡ not (a || b)
 not-or true b = refl
@@ -106,7 +102,7 @@ module _ (here : ℕ → Bool) where
     minus_choices-asks True J = refl
     minus_choices-asks False J = refl
     minus_choices-asks (Same q) J = single (Minus q)
-    minus_choices-asks (Not q) J = single (Plus q) ∙ not-not (here q)
+    minus_choices-asks (Not q) J = single (Plus q) ∙ sym (not-not (here q))
     minus_choices-asks (All qs) J = each_minus qs
     minus_choices-asks (Any qs) J = or-false _ ∙ all_minus qs
     minus_choices-asks (One qs) J = not_one-met qs
@@ -197,10 +193,6 @@ module _ (Q : ℕ → Type 0) (t : Kind) where
   choices-names T (Plus p) h = plus_choices-names (position_at T p) h
   choices-names T (Minus p) h = minus_choices-names (position_at T p) h
 
-pub unmet : (b : Bool) → (b ≡ true → ⊥) → b ≡ false
-unmet true f = absurd (f refl)
-unmet false f = refl
-
 -- of a table: a document meets a choice exactly where it meets the signed position
 module _ (T : List Position) (ok : IsTable T) (J : Document) where
   pub choices-met : (x : Signed)
@@ -222,7 +214,7 @@ module _ (T : List Position) (ok : IsTable T) (J : Document) where
   -- a set with both signs of a position is met by no document
   pub meets-clash : (S : List Signed) (x : Signed) → has x S ≡ true → has (opposite x) S ≡ true
       → meets T S J ≡ false
-  meets-clash S x a b = unmet (meets T S J) (λ e.
+  meets-clash S x a b = false_from_ne_true (meets T S J) (λ e.
       let here : ℕ → Bool = λ p. holds T p J in
       both (met here x) (every-has (met here) S x e a)
       (sym (met-opposite here x) ∙ every-has (met here) S (opposite x) e b)) where
@@ -234,4 +226,4 @@ module _ (T : List Position) (ok : IsTable T) (J : Document) where
   pub meets-wrong : (S : List Signed) (x : Signed) → has x S ≡ true → is_wrong T (kind_of J) x ≡ true
       → meets T S J ≡ false
   meets-wrong S x i w =
-      unmet (meets T S J) (λ e. cc (every-has (met (λ p. holds T p J)) S x e i, is_wrong-met x w))
+      false_from_ne_true (meets T S J) (λ e. cc (every-has (met (λ p. holds T p J)) S x e i, is_wrong-met x w))

@@ -1,11 +1,12 @@
 -- Signed positions, and sets of them as rising lists: what is in a set, and what adding to it does.
-use Rattle.std.proofs.Common.{Contains, ◌≡◌, ℕ, ◌+◌, ◌*◌, ◌<◌, ◌⊎◌, inl, inr, Bool, true, false, ◌&&◌, ◌||◌, cond, not, List, [], ◌∷◌, refl, ap, sym, ◌∙◌, subst, arith}
-use Rattle.std.proofs.Math.Bool.{and_assoc, or_assoc}
+use Rattle.std.proofs.Common.{Contains, ◌≡◌, ℕ, ◌+◌, ◌*◌, ◌<◌, ◌⊎◌, inl, inr, Bool, true, false, ◌&&◌, ◌||◌, cond, not, List, [], ◌∷◌, refl, ap, sym, ◌∙◌, subst, arith, ◌≤◌}
+use Rattle.std.proofs.Math.Bool.{and_assoc, or_assoc, not-not, and_self_left, or_self_left}
 use Rattle.std.specs.List.{AllByRecursion}
-use Rattle.std.proofs.lemmas.Bool.{eqb-true, eqb-false, eq-eqb, ltb-true, ltb-false, lt-ltb, leb-true, leb-false, le-leb, and_parts, and_from, or_cases, or_left, or_right}
+use Rattle.std.proofs.lemmas.Bool.{eqb-true, eqb-false, eq-eqb, ltb-true, ltb-false, lt-ltb, leb-true, leb-false, le-leb, and_parts, and_from, or_cases, or_left, or_right, cases_eq}
 use Rattle.documents.specs.Tests.{every, some}
 use Rattle.position_laws.proofs.Lists.{some-contains}
-use Rattle.goals.specs.Signed.{Signed, Plus, Minus, opposite, same_signed, comes_before, has, add, add_all, is_rising, met}
+use Rattle.goals.specs.Signed.{Signed, Plus, Minus, opposite, same_signed, comes_before, has, add, add_all, is_rising, met, position_of}
+use Rattle.list_laws.proofs.Booleans.{and_left_comm, or_left_comm}
 
 -- signed positions
 
@@ -25,10 +26,7 @@ opposite-opposite (Minus p) = refl
 
 pub met-opposite : (here : ℕ → Bool) (x : Signed) → met here (opposite x) ≡ not (met here x)
 met-opposite here (Plus p) = refl
-met-opposite here (Minus p) = twice (here p) where
-  twice : (b : Bool) → b ≡ not (not b)
-  twice true = refl
-  twice false = refl
+met-opposite here (Minus p) = sym (not-not (here p))
 
 -- the order, as that of numbers
 
@@ -150,42 +148,24 @@ module _ (p : Signed → Bool) where
   pub every-add : (x : Signed) (S : List Signed) → every p (add x S) ≡ (p x && every p S)
   every-add x [] = refl
   every-add x (y ∷ S) = go (same_signed x y) (comes_before x y) refl (every-add x S) where
-    once : (a b : Bool) → (a && b) ≡ (a && (a && b))
-    once true b = refl
-    once false b = refl
-
-    swap : (a b c : Bool) → (a && (b && c)) ≡ (b && (a && c))
-    swap true b c = refl
-    swap false true c = refl
-    swap false false c = refl
-
     go : (b c : Bool) → same_signed x y ≡ b → every p (add x S) ≡ (p x && every p S)
         → every p (cond b (y ∷ S) (cond c (x ∷ y ∷ S) (y ∷ add x S))) ≡ (p x && (p y && every p S))
     go true c e more =
         subst (λ z. (p y && every p S) ≡ (p z && (p y && every p S))) (sym (same_signed-true x y e))
-        (once (p y) (every p S))
+        (sym (and_self_left (p y) (every p S)))
     go false true e more = refl
-    go false false e more = ap (λ b. p y && b) more ∙ swap (p y) (p x) (every p S)
+    go false false e more = ap (λ b. p y && b) more ∙ and_left_comm (p y) (p x) (every p S)
 
   pub some-add : (x : Signed) (S : List Signed) → some p (add x S) ≡ (p x || some p S)
   some-add x [] = refl
   some-add x (y ∷ S) = go (same_signed x y) (comes_before x y) refl (some-add x S) where
-    once : (a b : Bool) → (a || b) ≡ (a || (a || b))
-    once true b = refl
-    once false b = refl
-
-    swap : (a b c : Bool) → (a || (b || c)) ≡ (b || (a || c))
-    swap true true c = refl
-    swap true false c = refl
-    swap false b c = refl
-
     go : (b c : Bool) → same_signed x y ≡ b → some p (add x S) ≡ (p x || some p S)
         → some p (cond b (y ∷ S) (cond c (x ∷ y ∷ S) (y ∷ add x S))) ≡ (p x || (p y || some p S))
     go true c e more =
         subst (λ z. (p y || some p S) ≡ (p z || (p y || some p S))) (sym (same_signed-true x y e))
-        (once (p y) (some p S))
+        (sym (or_self_left (p y) (some p S)))
     go false true e more = refl
-    go false false e more = ap (λ b. p y || b) more ∙ swap (p y) (p x) (some p S)
+    go false false e more = ap (λ b. p y || b) more ∙ or_left_comm (p y) (p x) (some p S)
 
   pub every-add_all : (C S : List Signed) → every p (add_all C S) ≡ (every p C && every p S)
   every-add_all [] S = refl
@@ -248,3 +228,21 @@ add_all-itself [] e = refl
 add_all-itself (x ∷ S) e =
     let (least, rest) = and_parts (every (comes_before x) S) (is_rising S) e in
     ap (add x) (add_all-itself S rest) ∙ add-head x S least
+
+-- the order of positions
+
+pub comes_before-le : (x y : Signed) → comes_before x y ≡ true → position_of x ≤ position_of y
+comes_before-le (Plus p) (Plus q) e = omega (arith, ltb-true p q e)
+comes_before-le (Plus p) (Minus q) e = leb-true p q e
+comes_before-le (Minus p) (Plus q) e = omega (arith, ltb-true p q e)
+comes_before-le (Minus p) (Minus q) e = omega (arith, ltb-true p q e)
+
+-- past the first, where its opposite isn't there
+pub comes_before-lt : (x y : Signed) → comes_before x y ≡ true → (opposite x ≡ y → ⊥) → position_of x < position_of y
+comes_before-lt (Plus p) (Plus q) e h = ltb-true p q e
+comes_before-lt (Plus p) (Minus q) e h = elim (cases_eq p q) [
+  | inl s ↦ absurd (h (ap Minus s))
+  | inr s ↦ omega (arith, s, leb-true p q e)
+]
+comes_before-lt (Minus p) (Plus q) e h = ltb-true p q e
+comes_before-lt (Minus p) (Minus q) e h = ltb-true p q e

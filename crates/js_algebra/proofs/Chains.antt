@@ -1,10 +1,11 @@
 -- A chain of positions, each of which names no other than the one before it, is a table. Tests make such tables.
-use Rattle.std.proofs.Common.{◌≡◌, ℕ, zero, suc, ◌+◌, ◌<◌, ◌≤◌, List, [], ◌∷◌, ◌++◌, length, get_or, Bool, true, ◌&&◌, nat_eq, nat_lt, ◌⊎◌, inl, inr, refl, ap, sym, ◌∙◌, arith}
-use Rattle.std.proofs.lemmas.Bool.{eq-eqb, and_from, and_parts, cases_lt, lt-ltb}
+use Rattle.std.proofs.Common.{◌≡◌, ℕ, zero, suc, ◌+◌, ◌<◌, ◌≤◌, List, [], ◌∷◌, ◌++◌, length, get_or, true, ◌&&◌, nat_eq, nat_lt, ◌⊎◌, inl, inr, refl, ap, sym, ◌∙◌, arith}
+use Rattle.std.proofs.lemmas.Bool.{eq-eqb, and_from, cases_lt, lt-ltb}
 use Rattle.std.proofs.lemmas.List.{length-append}
 use Rattle.documents.specs.Tests.{every}
 use Rattle.positions.specs.Position.{Position, Not, LengthMin, in_place, names_below, in_range, ranks_fall, is_table}
-use Rattle.position_laws.proofs.Lists.{every-append}
+use Rattle.list_laws.proofs.Every.{every-append}
+use Rattle.position_laws.proofs.Joined.{ranks_fall-append}
 
 -- ranks
 
@@ -48,20 +49,6 @@ pub record IsLink (n : ℕ) (P : Position) : Type 0 where
   pub falls : (ranks : List ℕ) (p : ℕ) → get_or ranks n 0 < get_or ranks p 0
       → every (λ q. nat_lt (get_or ranks q 0) (get_or ranks p 0)) (in_place P) ≡ true
 
-joined : {A : Type 0} (f : A → Bool) (xs ys : List A) → every f xs ≡ true → every f ys ≡ true
-    → every f (xs ++ ys) ≡ true
-joined f xs ys a b = every-append f xs ys ∙ and_from (every f xs) (every f ys) a b
-
-ranks_fall-append : (ranks : List ℕ) (k : ℕ) (xs ys : List Position)
-    → ranks_fall ranks k xs ≡ true → ranks_fall ranks (k + length xs) ys ≡ true → ranks_fall ranks k (xs ++ ys) ≡ true
-ranks_fall-append ranks k [] ys g h =
-    let same : k ≡ k + 0 = omega arith in ap (λ i. ranks_fall ranks i ys) same ∙ h
-ranks_fall-append ranks k (x ∷ xs) ys g h =
-    let (one, more) = and_parts _ (ranks_fall ranks (suc k) xs) g in
-    let same : suc k + length xs ≡ k + suc (length xs) = omega arith in
-    and_from _ (ranks_fall ranks (suc k) (xs ++ ys)) one
-    (ranks_fall-append ranks (suc k) xs ys more (ap (λ i. ranks_fall ranks i ys) same ∙ h))
-
 -- one condition on strings, and so many links
 module _ (link : ℕ → Position) where
   -- one condition, and n links behind it
@@ -77,7 +64,7 @@ module _ (link : ℕ → Position) where
     below : (n m : ℕ) → n < m → every (names_below m) (chain n) ≡ true
     below zero m l = refl
     below (suc n) m l =
-        joined (names_below m) (chain n) (link n ∷ []) (below n m (omega (arith, l)))
+        every-append (names_below m) (chain n) (link n ∷ []) (below n m (omega (arith, l)))
         (ap (λ b. b && true) ((is n).named m (omega (arith, l))))
 
     fall : (n m : ℕ) → n ≤ m → ranks_fall (numbers m) 0 (chain n) ≡ true
@@ -87,12 +74,12 @@ module _ (link : ℕ → Position) where
         let at : p ≡ suc n = omega (arith, length-chain n) in
         let less : get_or (numbers m) n 0 < get_or (numbers m) p 0 =
         omega (arith, number-at m n (omega (arith, l)), number-at m p (omega (arith, l, at)), at) in
-        ranks_fall-append (numbers m) 0 (chain n) (link n ∷ []) (fall n m (omega (arith, l)))
-        (ap (λ b. b && true) ((is n).falls (numbers m) p less))
+        ranks_fall-append (numbers m) 0 (chain n) (link n ∷ [])
+        ∙ and_from _ _ (fall n m (omega (arith, l))) (ap (λ b. b && true) ((is n).falls (numbers m) p less))
 
     ranged : (n : ℕ) → every in_range (chain n) ≡ true
     ranged zero = refl
-    ranged (suc n) = joined in_range (chain n) (link n ∷ []) (ranged n) (ap (λ b. b && true) (is n).ranged)
+    ranged (suc n) = every-append in_range (chain n) (link n ∷ []) (ranged n) (ap (λ b. b && true) (is n).ranged)
 
     pub chain-is_table : (n : ℕ) → is_table (chain n) (numbers n) ≡ true
     chain-is_table n =

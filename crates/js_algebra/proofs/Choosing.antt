@@ -1,6 +1,6 @@
 -- How many choices a rule has, and which one has a number.
 use Rattle.std.proofs.Common.{◌≡◌, ℕ, zero, suc, ◌+◌, ◌-◌, ◌*◌, ◌/◌, ◌^◌, ◌<◌, ◌≤◌, ◌⊎◌, inl, inr, Bool, List, [], ◌∷◌, ◌++◌, map, length, get_or, nat_eq, refl, ap, ap₂, sym, ◌∙◌, arith, length-append}
-use Rattle.std.proofs.lemmas.Bool.{cases_lt, cases_eq, eq-eqb, ne_eqb}
+use Rattle.std.proofs.lemmas.Bool.{cases_lt, ne_eqb}
 use Rattle.std.proofs.lemmas.Nat.{mul-lt}
 use Rattle.std.proofs.lemmas.List.{length-map, get_or_append_left, get_or-append-add}
 use Rattle.goals.specs.Signed.{Signed, Plus, Minus}
@@ -8,6 +8,7 @@ use Rattle.goals.specs.Choices.{one_plus, two_plus}
 use Rattle.js_algebra.specs.View.{with_sign, places}
 use Rattle.js_algebra.specs.declared.node.Pos.{Pos}
 use Rattle.js_algebra.specs.Rules.{only, pairs}
+use Rattle.list_laws.proofs.Numbers.{nat_eq-suc}
 
 -- pairs
 
@@ -82,13 +83,8 @@ only-at (p ∷ qs) zero (suc k) x q l =
     get_or-map Minus qs k q x (omega arith)
     ∙ ap (λ b. with_sign b (get_or qs k q)) (sym (ne_eqb (suc k) 0 (λ e. omega (arith, e))))
 only-at (p ∷ qs) (suc i) zero x q l = ap (λ b. with_sign b p) (sym (ne_eqb 0 (suc i) (λ e. omega (arith, e))))
-only-at (p ∷ qs) (suc i) (suc k) x q l = only-at qs i k x q (omega arith) ∙ ap (λ b. with_sign b (get_or qs k q)) (step k i) where
-  step : (a b : ℕ) → nat_eq a b ≡ nat_eq (suc a) (suc b)
-  step a b =
-      elim (cases_eq a b) [
-        | inl e ↦ eq-eqb a b e ∙ sym (eq-eqb (suc a) (suc b) (ap suc e))
-        | inr n ↦ ne_eqb a b n ∙ sym (ne_eqb (suc a) (suc b) (λ e. n (omega (arith, e))))
-      ]
+only-at (p ∷ qs) (suc i) (suc k) x q l =
+    only-at qs i k x q (omega arith) ∙ ap (λ b. with_sign b (get_or qs k q)) (nat_eq-suc k i)
 
 -- a choice for each pair of the positions
 

@@ -7,8 +7,10 @@ use Rattle.goals.specs.Signed.{Signed, Plus, Minus, same_signed, comes_before, o
 use Rattle.goals.specs.Goal.{clashes, is_never}
 use Rattle.js_algebra.specs.Order.{order_of}
 use Rattle.js_algebra.specs.Close.{begins_with, clashes_nearby}
-use Rattle.js_algebra.proofs.Orders.{before_lt, same_eq, same-true, same-itself, same_test}
+use Rattle.js_algebra.proofs.Orders.{before_lt, same_eq}
 use Rattle.js_algebra.proofs.Sets.{has_after}
+use Rattle.list_laws.proofs.Booleans.{same_test}
+use Rattle.goal_laws.proofs.Signs.{same_signed-true, same_signed-itself}
 
 module _ (T : List Position) where
   abbrev clash_in : List Signed → Signed → Bool
@@ -22,7 +24,7 @@ module _ (T : List Position) where
       let (a, b) = and_parts (every (comes_before y) S) (is_rising S) e in
       ⊎_elim
       (λ s. or_left _ (clashes_nearby T S) (or_right (is_never T y) _
-      (next S a b (same_eq (Plus p) y s) (same-true (Plus p) y s)
+      (next S a b (same_eq (Plus p) y s) (same_signed-true (Plus p) y s)
       (⊎_elim (λ m. absurd (omega (arith, same_eq (Plus p) y s, same_eq (Minus p) y m))) (λ i. i)
       (or_cases (same_signed (Minus p) y) (has (Minus p) S) k)))))
       (λ i. or_right (is_never T y || begins_with (opposite y) S) (clashes_nearby T S)
@@ -47,7 +49,7 @@ module _ (T : List Position) where
   never x (y ∷ S) h n =
       ⊎_elim
       (λ s. or_left _ (clashes_nearby T S) (or_left _ (begins_with (opposite y) S)
-      (subst (λ w. is_never T w ≡ true) (same-true x y s) n)))
+      (subst (λ w. is_never T w ≡ true) (same_signed-true x y s) n)))
       (λ i. or_right (is_never T y || begins_with (opposite y) S) (clashes_nearby T S) (never x S i n))
       (or_cases (same_signed x y) (has x S) h)
 
@@ -55,7 +57,7 @@ module _ (T : List Position) where
   found : (S R : List Signed) → some (clash_in R) S ≡ true → (z : Signed) × (has z S ≡ true) × (clash_in R z ≡ true)
   found [] R e = absurd (true≢false (sym e))
   found (x ∷ S) R e =
-      ⊎_elim (λ a. (x, or_left _ (has x S) (same-itself x), a))
+      ⊎_elim (λ a. (x, or_left _ (has x S) (same_signed-itself x), a))
       (λ b. let (z, h, c) = found S R b in (z, or_right (same_signed z x) (has z S) h, c))
       (or_cases (clash_in R x) (some (clash_in R) S) e)
 

@@ -6,14 +6,14 @@ use Rattle.documents.specs.Tests.{every}
 use Rattle.documents.specs.Document.{Document}
 use Rattle.positions.specs.Position.{Position}
 use Rattle.positions.specs.Holds.{holds}
-use Rattle.goal_laws.proofs.Signs.{has-every, every-has}
+use Rattle.goal_laws.proofs.Signs.{has-every, every-has, same_signed-true, same_signed-itself}
 use Rattle.goals.specs.Signed as G
 use Rattle.goals.specs.Signed.{same_signed, comes_before, has, is_rising}
 use Rattle.goals.specs.Goal.{contains}
 use Rattle.js_algebra.specs.Order.{order_of}
 use Rattle.js_algebra.specs.View.{signed_view}
 use Rattle.js_algebra.specs.declared.signed.Signed.{Signed}
-use Rattle.js_algebra.proofs.Orders.{before_lt, lt_before, ne_same, same_ne, same-true, same-itself}
+use Rattle.js_algebra.proofs.Orders.{before_lt, lt_before, ne_same, same_ne}
 use Rattle.js_algebra.proofs.Sets.{above, before_lacks}
 
 -- what is before the small list can't be one of it
@@ -28,7 +28,7 @@ contains_skip x B (y ∷ R) e =
 pub contains_same : (x : G.Signed) (B R : List G.Signed) → is_rising (x ∷ R) ≡ true
     → contains (x ∷ B) (x ∷ R) ≡ contains B R
 contains_same x B R e =
-    ap (λ s. (s || has x B) && contains (x ∷ B) R) (same-itself x)
+    ap (λ s. (s || has x B) && contains (x ∷ B) R) (same_signed-itself x)
     ∙ contains_skip x B R (and_parts (every (comes_before x) R) (is_rising R) e).0
 
 pub contains_later : (x y : G.Signed) (B R : List G.Signed) → order_of x < order_of y → is_rising (y ∷ R) ≡ true
@@ -61,7 +61,7 @@ pub keeps_same : (answer : Bool) (x y : Signed) (B R : List Signed) → same_sig
 keeps_same answer x y B R s k = record {
   decides =
       sym (contains_same (signed_view y) (map signed_view B) (map signed_view R) k.small_rises)
-      ∙ ap (λ z. contains (z ∷ map signed_view B) (map signed_view (y ∷ R))) (sym (same-true _ _ s)) ∙ k.decides;
+      ∙ ap (λ z. contains (z ∷ map signed_view B) (map signed_view (y ∷ R))) (sym (same_signed-true _ _ s)) ∙ k.decides;
   small_rises = rest_rises y R k.small_rises;
   big_rises = rest_rises x B k.big_rises;
 }

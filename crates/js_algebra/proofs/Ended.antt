@@ -9,9 +9,9 @@ use Rattle.goals.specs.Signed.{Signed, Plus, Minus, position_of, opposite, same_
 use Rattle.goals.specs.Goal.{plus_reference, minus_reference, reference, follow_on, follow_within, follow}
 use Rattle.goal_laws.proofs.Forms.{follow-ends, follow-inside}
 use Rattle.js_algebra.specs.View.{with_sign, is_in_table}
-use Rattle.js_algebra.proofs.Orders.{same-itself}
 use Rattle.js_algebra.proofs.Tables.{every-position_at}
 use Rattle.js_algebra.specs.Ends.{MayBeEnds, AreLeft, HasEnds, signed_by, reference_of, known_at}
+use Rattle.goal_laws.proofs.Signs.{opposite-opposite, same_signed-itself}
 
 -- a reference names a position that its node names
 names-reference : (n : ℕ) (P : Position) (b : Bool) (y : Signed) → names_below n P ≡ true → Some y ≡ reference_of b P
@@ -38,13 +38,9 @@ inside T false p i = ltb-true p (length T) i
 
 -- signs
 
-pub opposite-twice : (x : Signed) → opposite (opposite x) ≡ x
-opposite-twice (Plus p) = refl
-opposite-twice (Minus p) = refl
-
 pub signed_by-twice : (b : Bool) (x : Signed) → signed_by b (signed_by b x) ≡ x
 signed_by-twice true x = refl
-signed_by-twice false x = opposite-twice x
+signed_by-twice false x = opposite-opposite x
 
 module _ (T : List Position) where
   minus_plus : (P : Position) → minus_reference P ≡ option_map opposite (plus_reference P)
@@ -149,7 +145,7 @@ module _ (T : List Position) (ends : List Signed) (known : MayBeEnds T ends) whe
     go true h e = cc
     go false h e =
         ⊎_elim
-        (λ s. absurd (true≢false (sym (same-itself (Plus p)) ∙ ap (λ z. same_signed z (Plus p)) (sym s) ∙ h)))
+        (λ s. absurd (true≢false (sym (same_signed-itself (Plus p)) ∙ ap (λ z. same_signed z (Plus p)) (sym s) ∙ h)))
         (λ s. let same : y ≡ signed_by b (get_or ends p (Plus p)) = cc in found s same) (known.each p l)
 
   -- where the end of one more position is set

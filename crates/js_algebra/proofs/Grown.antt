@@ -8,10 +8,9 @@ use Rattle.position_laws.proofs.Lists.{some-append}
 use Rattle.positions.specs.Position.{Position}
 use Rattle.goals.specs.Signed as G
 use Rattle.goals.specs.Signed.{has, same_signed, add_all}
-use Rattle.goal_laws.proofs.Signs.{every-has, has-every}
+use Rattle.goal_laws.proofs.Signs.{every-has, has-every, same_signed-true, is_rising-add_all, some-add_all}
 use Rattle.js_algebra.specs.View.{is_in_table, are_in_table}
-use Rattle.js_algebra.proofs.Orders.{same-true}
-use Rattle.js_algebra.proofs.Sets.{some-add_all, rising-add_all, rising-unique}
+use Rattle.js_algebra.proofs.Sets.{rising-unique}
 use Rattle.js_algebra.specs.SignedSets.{with_member, with_members, set_of}
 
 -- members
@@ -28,7 +27,7 @@ has-with_member z x xs = go (has x xs) refl where
   go true h = known (same_signed z x) refl where
     known : (s : Bool) → same_signed z x ≡ s → has z xs ≡ (s || has z xs)
     known false e = refl
-    known true e = subst (λ y. has y xs ≡ true) (sym (same-true z x e)) h
+    known true e = subst (λ y. has y xs ≡ true) (sym (same_signed-true z x e)) h
 
 pub has-with_members : (z : G.Signed) (C xs : List G.Signed) → has z (with_members C xs) ≡ (has z C || has z xs)
 has-with_members z [] xs = refl
@@ -48,8 +47,8 @@ has-set_of z xs = some-add_all (same_signed z) xs [] ∙ or-false (has z xs)
 -- the set of more members
 pub set-with_members : (C xs : List G.Signed) → set_of (with_members C xs) ≡ add_all C (set_of xs)
 set-with_members C xs =
-    rising-unique _ _ (rising-add_all (with_members C xs) [] refl)
-    (rising-add_all C (set_of xs) (rising-add_all xs [] refl))
+    rising-unique _ _ (is_rising-add_all (with_members C xs) [] refl)
+    (is_rising-add_all C (set_of xs) (is_rising-add_all xs [] refl))
     (λ z. has-set_of z (with_members C xs) ∙ has-with_members z C xs ∙ ap (λ b. has z C || b) (sym (has-set_of z xs))
     ∙ sym (some-add_all (same_signed z) C (set_of xs)))
 

@@ -15,3 +15,4 @@ pub mod Choosing
 -- Tables that tests make.
 pub mod Chains
 pub mod Crossing
+pub mod Inside

@@ -1,14 +1,9 @@
 -- Signed positions are ordered as their numbers are.
-use Rattle.std.proofs.Common.{◌≡◌, ◌+◌, ◌*◌, ◌<◌, ◌≤◌, Bool, true, false, refl, arith, ap, sym, ◌∙◌, nat_eq, nat_lt}
+use Rattle.std.proofs.Common.{◌≡◌, ◌+◌, ◌*◌, ◌<◌, ◌≤◌, true, false, arith, ap, sym, ◌∙◌, nat_eq, nat_lt}
 use Rattle.std.proofs.lemmas.Bool.{ltb-true, ltb-false, leb-true, eqb-true, eqb-false, lt-ltb, le-leb, eq-eqb, ne_eqb}
 use Rattle.goals.specs.Signed.{Signed, Plus, Minus, same_signed, comes_before}
 use Rattle.js_algebra.specs.Order.{order_of}
-
--- tests with one meaning are one
-pub same_test : (a b : Bool) → (a ≡ true → b ≡ true) → (b ≡ true → a ≡ true) → a ≡ b
-same_test true b f g = sym (f refl)
-same_test false true f g = g refl
-same_test false false f g = refl
+use Rattle.list_laws.proofs.Booleans.{same_test}
 
 pub before-order : (x y : Signed) → comes_before x y ≡ nat_lt (order_of x) (order_of y)
 before-order (Plus p) (Plus q) = same_test _ _ (λ e. lt-ltb _ _ (omega (arith, ltb-true p q e)))
@@ -55,10 +50,3 @@ order-same (Plus p) (Plus q) e = ap Plus (omega (arith, e))
 order-same (Plus p) (Minus q) e = absurd (omega (arith, e))
 order-same (Minus p) (Plus q) e = absurd (omega (arith, e))
 order-same (Minus p) (Minus q) e = ap Minus (omega (arith, e))
-
--- signed positions that the test calls the same are equal
-pub same-true : (x y : Signed) → same_signed x y ≡ true → x ≡ y
-same-true x y e = order-same x y (same_eq x y e)
-
-pub same-itself : (x : Signed) → same_signed x x ≡ true
-same-itself x = eq_same x x refl

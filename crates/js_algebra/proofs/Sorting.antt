@@ -11,8 +11,10 @@ use Rattle.goals.specs.Signed.{comes_before, has, add_all, is_rising, same_signe
 use Rattle.js_algebra.specs.Order.{order_of}
 use Rattle.js_algebra.specs.View.{signed_view, with_sign}
 use Rattle.js_algebra.specs.declared.signed.Signed.{Signed}
-use Rattle.js_algebra.proofs.Orders.{lt_before, same-true, same_ne}
-use Rattle.js_algebra.proofs.Sets.{rising-add_all, rising-unique, some-add_all}
+use Rattle.js_algebra.proofs.Orders.{lt_before, same_ne}
+use Rattle.js_algebra.proofs.Sets.{rising-unique}
+use Rattle.goal_laws.proofs.Signs.{same_signed-true, is_rising-add_all, some-add_all}
+use Rattle.std.proofs.Math.Bool.{or-false, and-true}
 
 -- numbers that never fall, from one on
 abbrev pub Ascends : ℕ → List Signed → Type 0
@@ -60,7 +62,8 @@ module _ (E : Signed → Signed → Bool) (equal : (x y : Signed) → E x y ≡ 
           → some p (map signed_view (cond b (dedup_from E k xs) (k ∷ dedup_from E x xs)))
           ≡ (p (signed_view k) || (p (signed_view x) || some p (map signed_view xs)))
       go true e a b =
-          a ∙ or_same (p (signed_view k)) (p (signed_view x)) _ (ap p (sym (same-true _ _ (sym (equal x k) ∙ e))))
+          a
+          ∙ or_same (p (signed_view k)) (p (signed_view x)) _ (ap p (sym (same_signed-true _ _ (sym (equal x k) ∙ e))))
       go false e a b = ap (λ t. p (signed_view k) || t) b
 
     rising_kept : (k : Signed) (xs : List Signed) → Ascends (order_of (signed_view k)) xs
@@ -97,25 +100,15 @@ module _ (E : Signed → Signed → Bool) (equal : (x y : Signed) → E x y ≡ 
         → IsNonDecreasingBy (λ y. order_of (signed_view y)) ys → zs ≡ dedup E ys
         → map signed_view zs ≡ add_all (map signed_view xs) []
     sorted_list xs ys zs m up e =
-        ap (map signed_view) e ∙ rising-unique _ _ (rising_dedup ys up) (rising-add_all (map signed_view xs) [] refl)
+        ap (map signed_view) e ∙ rising-unique _ _ (rising_dedup ys up) (is_rising-add_all (map signed_view xs) [] refl)
         (λ z.
         some_dedup (same_signed z) ys ∙ some-list_any (same_signed z) ys ∙ sym (list_any-IsPermutation _ xs ys m)
         ∙ sym (some-list_any (same_signed z) xs)
-        ∙ or_none _ ∙ sym (some-add_all (same_signed z) (map signed_view xs) []))
-      where
-        or_none : (b : Bool) → b ≡ (b || false)
-        or_none true = refl
-        or_none false = refl
+        ∙ sym (or-false _) ∙ sym (some-add_all (same_signed z) (map signed_view xs) []))
 
 -- equal fields are the same signed position
 pub same_fields : (a b : Bool) (p q : ℕ) → (nat_eq p q && beq a b) ≡ same_signed (with_sign a p) (with_sign b q)
-same_fields true true p q = and_true (nat_eq p q) where
-  and_true : (b : Bool) → (b && true) ≡ b
-  and_true true = refl
-  and_true false = refl
+same_fields true true p q = and-true (nat_eq p q)
 same_fields true false p q = and_right (nat_eq p q) false refl
 same_fields false true p q = and_right (nat_eq p q) false refl
-same_fields false false p q = and_true (nat_eq p q) where
-  and_true : (b : Bool) → (b && true) ≡ b
-  and_true true = refl
-  and_true false = refl
+same_fields false false p q = and-true (nat_eq p q)

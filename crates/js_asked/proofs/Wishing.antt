@@ -17,6 +17,7 @@ use Rattle.js_nfa.specs.declared.atom.Atom.{Atom}
 use Rattle.js_said.proofs.AtomKeys.{same_key, keys_views}
 use Rattle.js_asked.specs.declared.wish.Wish.{Wish}
 use Rattle.js_asked.specs.Wishes.{are_within, is_met, are_met}
+use Rattle.std.proofs.Math.Bool.{and-true}
 
 keys_grow : (a : Atom) (ks : List Atom) → (X : List Atom) × (insert_key same_key ks a ≡ ks ++ X)
 keys_grow a ks = go (list_any (same_key a) ks) where
@@ -25,10 +26,7 @@ keys_grow a ks = go (list_any (same_key a) ks) where
   go false = (a ∷ [], refl)
 
 every_end : {A : Type 0} (p : A → Bool) (xs : List A) (x : A) → every p (xs ++ x ∷ []) ≡ (every p xs && p x)
-every_end p [] x = go (p x) where
-  go : (b : Bool) → (b && true) ≡ b
-  go true = refl
-  go false = refl
+every_end p [] x = and-true (p x)
 every_end p (y ∷ xs) x = ap (λ b. p y && b) (every_end p xs x) ∙ sym (assoc (p y) (every p xs) (p x)) where
   assoc : (a b c : Bool) → (a && b && c) ≡ (a && (b && c))
   assoc true b c = refl

@@ -10,10 +10,7 @@ use Rattle.patterns.specs.CharSet.{has}
 use Rattle.word_states.specs.Position.{times, copies}
 use Rattle.word_states.specs.Classes.{are_alike}
 use Rattle.js_automaton.specs.Letters.{is_letter}
-
-pub and_assoc : (a b c : Bool) → ((a && b) && c) ≡ (a && (b && c))
-and_assoc true b c = refl
-and_assoc false b c = refl
+use Rattle.std.proofs.Math.Bool.{and_assoc}
 
 pub alike-append : (s t : List (List (ℕ × ℕ))) (c d : ℕ) → are_alike (s ++ t) c d ≡ (are_alike s c d && are_alike t c d)
 alike-append [] t c d = refl

@@ -18,6 +18,7 @@ use Rattle.word_laws.proofs.Firsts.{Before, Rising, before_or_same, firsts_are, 
 use Rattle.js_automaton.specs.declared.classes.Class.{Class}
 use Rattle.js_automaton.specs.Dividing.{IsClass}
 use Rattle.js_automaton.specs.ClassView.{AreClasses}
+use Rattle.list_laws.proofs.Booleans.{and_not-parts}
 
 -- the first characters of the classes so far, and the characters that lie in none
 pub record Dividing (sets : List (List (ℕ × ℕ))) (firsts : List ℕ) (left : List (ℕ × ℕ)) : Type 0 where
@@ -62,11 +63,6 @@ left_less true false true b = refl
 left_less true false false b = refl
 left_less false l a b = refl
 
-left_parts : (s l : Bool) → (s && not l) ≡ true → (s ≡ true) × (l ≡ false)
-left_parts true true e = absurd (cc e)
-left_parts true false e = (refl, refl)
-left_parts false l e = absurd (cc e)
-
 module _ (sets : List (List (ℕ × ℕ))) (firsts : List ℕ) (left : List (ℕ × ℕ)) (d : Dividing sets firsts left)
     (x : ℕ) (member : has left x ≡ true) (least : (c : ℕ) → has left c ≡ true → comes_no_later x c ≡ true)
     (set after : List (ℕ × ℕ)) (is : IsClass sets set x)
@@ -75,7 +71,7 @@ module _ (sets : List (List (ℕ × ℕ))) (firsts : List ℕ) (left : List (ℕ
   laws = alike_laws sets
 
   open_x : (is_scalar x ≡ true) × (list_any (are_alike sets x) firsts ≡ false)
-  open_x = left_parts (is_scalar x) (list_any (are_alike sets x) firsts) (sym (d.left_is x) ∙ member)
+  open_x = and_not-parts (is_scalar x) (list_any (are_alike sets x) firsts) (sym (d.left_is x) ∙ member)
 
   -- nothing so far is like it
   unlike : (c : ℕ) → IsIn c firsts → are_alike sets x c ≡ true → ⊥
@@ -98,7 +94,7 @@ module _ (sets : List (List (ℕ × ℕ))) (firsts : List ℕ) (left : List (ℕ
 
   gone : has after x ≡ true → ⊥
   gone e =
-      let p = left_parts (is_scalar x) (list_any (are_alike sets x) (firsts ++ x ∷ [])) (sym (after_is x) ∙ e) in
+      let p = and_not-parts (is_scalar x) (list_any (are_alike sets x) (firsts ++ x ∷ [])) (sym (after_is x) ∙ e) in
       let t = M.has_right (are_alike sets) laws x firsts (x ∷ []) (or_left (are_alike sets x x) false (laws.refl x)) in
       let f = p.1 in absurd (cc (t, f))
 
@@ -187,7 +183,7 @@ pub dividing-count : (sets : List (List (ℕ × ℕ))) (firsts : List ℕ) (left
     → Dividing sets firsts left → has left x ≡ true → length firsts < length (firsts_among characters sets)
 dividing-count sets firsts left x d member =
     let laws = alike_laws sets in
-    let p = left_parts (is_scalar x) (list_any (are_alike sets x) firsts) (sym (d.left_is x) ∙ member) in
+    let p = and_not-parts (is_scalar x) (list_any (are_alike sets x) firsts) (sym (d.left_is x) ∙ member) in
     let all = firsts_are sets in
     let more = M.fits (are_alike sets) laws (firsts ++ x ∷ []) (firsts_among characters sets)
     (IsDistinct-push laws firsts x d.distinct p.1)

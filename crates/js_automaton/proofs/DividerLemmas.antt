@@ -1,5 +1,5 @@
 -- The sets that tell characters apart, and the letters.
-use Rattle.std.proofs.Common.{◌≡◌, ℕ, ◌+◌, ◌<◌, Bool, true, false, ◌&&◌, ◌||◌, not, nat_eq, if◌then◌else◌, List, [], ◌∷◌, ◌++◌, map, flat_map, drop, length, get_or, refl, sym, ◌∙◌, ap, ap₂, add-one}
+use Rattle.std.proofs.Common.{◌≡◌, ℕ, ◌+◌, ◌<◌, ◌&&◌, ◌||◌, not, nat_eq, if◌then◌else◌, List, [], ◌∷◌, ◌++◌, map, flat_map, drop, length, get_or, refl, sym, ◌∙◌, ap, ap₂, add-one}
 use Rattle.std.proofs.Math.Seq.{drop-cons}
 use Rattle.patterns.specs.CharSet.{has}
 use Rattle.word_states.specs.Atom.{Atom, Match, Words, LengthMin}
@@ -13,7 +13,9 @@ use Rattle.js_automaton.specs.ClassView.{are_letters}
 use Rattle.std.specs.List.{list_any}
 use Rattle.std.proofs.lemmas.List.Folds.{list_any-append}
 use Rattle.word_laws.proofs.Classes.{alike_laws}
-use Rattle.js_automaton.proofs.AlikeLemmas.{and_assoc, alike-append, alike-letters}
+use Rattle.js_automaton.proofs.AlikeLemmas.{alike-append, alike-letters}
+use Rattle.std.proofs.Math.Bool.{and_assoc}
+use Rattle.list_laws.proofs.Booleans.{and_left_comm}
 
 pub trees-drop : (atoms : List CodeAtom) (i : ℕ) (x : CodeAtom) → i < length atoms → x ≡ get_or atoms i x
     → flat_map tree_sets (map atom_view (drop i atoms))
@@ -27,12 +29,6 @@ pub alike-added : (old new : List (List (ℕ × ℕ))) (s t : List (List (ℕ ×
 alike-added old new s t c d e =
     ap (λ b. b && are_alike t c d) e ∙ and_assoc (are_alike old c d) (are_alike s c d) (are_alike t c d)
     ∙ sym (ap (λ b. are_alike old c d && b) (alike-append s t c d))
-
-and_swap : (a b c : Bool) → (a && (b && c)) ≡ (b && (a && c))
-and_swap true true c = refl
-and_swap true false c = refl
-and_swap false true c = refl
-and_swap false false c = refl
 
 abbrev pub singles_of : List (List ℕ) → List (List (ℕ × ℕ))
 singles_of = flat_map (map (λ c. (c, c) ∷ []))
@@ -55,7 +51,7 @@ parted [] c d = refl
 parted (Match t ∷ atoms) c d =
     ap (λ b. are_alike (singles_of (flat_map letters_of atoms)) c d && b)
     (alike-append (sets_of t) (flat_map tree_sets atoms) c d)
-    ∙ and_swap (are_alike (singles_of (flat_map letters_of atoms)) c d) (are_alike (sets_of t) c d)
+    ∙ and_left_comm (are_alike (singles_of (flat_map letters_of atoms)) c d) (are_alike (sets_of t) c d)
     (are_alike (flat_map tree_sets atoms) c d)
     ∙ ap (λ b. are_alike (sets_of t) c d && b) (parted atoms c d)
     ∙ sym (alike-append (sets_of t) (dividers atoms) c d)

@@ -10,6 +10,9 @@ use Rattle.js_automaton.specs.declared.part.Part.TheVariants as P
 use Rattle.js_automaton.specs.Parts.{part_words}
 use Rattle.js_automaton.specs.Trie.{same_edge, same_node, child_of, walk, with_word, with_words, edges_of, ends_at}
 use Rattle.js_automaton.proofs.PartLemmas.{drop_more, drop_past}
+use Rattle.std.proofs.lemmas.Bool.{or_right}
+use Rattle.std.proofs.Math.Bool.{or-false}
+use Rattle.list_laws.proofs.Numbers.{nat_eq_comm}
 
 -- ---- the trie
 pub add-step : (E F : List (ℕ × ℕ)) (w : List ℕ) (i n c place : ℕ) → i < length w → c ≡ get_or w i c
@@ -76,20 +79,14 @@ any-insert xs x y trans = go (list_any (same_edge x) xs) refl where
         → (list_any (same_edge x) xs ≡ true → list_any (same_edge y) xs ≡ true)
         → (same_edge y z || list_any (same_edge y) xs) ≡ true
     by true s f h = ap (λ b. b || list_any (same_edge y) xs) (trans y x z t s)
-    by false s f h = right (same_edge y z) (list_any (same_edge y) xs) (h f) where
-      right : (a b : Bool) → b ≡ true → (a || b) ≡ true
-      right true b e = refl
-      right false b e = e
+    by false s f h = or_right (same_edge y z) (list_any (same_edge y) xs) (h f)
 
   go : (b : Bool) → list_any (same_edge x) xs ≡ b
       → list_any (same_edge y) (if b then xs else xs ++ x ∷ []) ≡ (list_any (same_edge y) xs || same_edge y x)
   go true e = by (same_edge y x) refl where
     by : (b : Bool) → same_edge y x ≡ b → list_any (same_edge y) xs ≡ (list_any (same_edge y) xs || b)
     by true t = member xs e t ∙ sym (ap (λ a. a || true) (member xs e t))
-    by false t = none (list_any (same_edge y) xs) where
-      none : (a : Bool) → a ≡ (a || false)
-      none true = refl
-      none false = refl
+    by false t = sym (or-false (list_any (same_edge y) xs))
   go false e = list_any-append (same_edge y) xs (x ∷ []) ∙ or_none (list_any (same_edge y) xs) (same_edge y x)
 
 edge-trans : (a b c : ℕ × ℕ) → same_edge a b ≡ true → same_edge b c ≡ true → same_edge a c ≡ true
@@ -123,14 +120,11 @@ pub ends-some : (E : List (ℕ × ℕ)) (ws : List (List ℕ)) (i n k m place : 
     ≡ (list_any (same_edge (n, k)) old || (nat_eq k place && ended E (take (i + 1) ws) n))
 ends-some E ws i n k m place x old keys new l at found e h =
     ap (list_any (same_edge (n, k))) e ∙ any-insert keys (m, place) (n, k) edge-trans
-    ∙ ap₂ (λ a b. a || (b && nat_eq k place)) h (turn n m)
+    ∙ ap₂ (λ a b. a || (b && nat_eq k place)) h (nat_eq_comm n m)
     ∙ mix (list_any (same_edge (n, k)) old) (nat_eq k place) (ended E (take i ws) n) (nat_eq m n)
     ∙ ap (λ b. list_any (same_edge (n, k)) old || (nat_eq k place && (ended E (take i ws) n || same_node b (Some n))))
     (sym found)
     ∙ ap (λ b. list_any (same_edge (n, k)) old || (nat_eq k place && b)) (sym (one-more E ws i n x l at)) where
-      turn : (n m : ℕ) → nat_eq n m ≡ nat_eq m n
-      turn n m = grind (arith, nat_tests)
-
       mix : (a p b c : Bool) → ((a || (p && b)) || (c && p)) ≡ (a || (p && (b || c)))
       mix true p b c = refl
       mix false true true c = refl
@@ -147,12 +141,9 @@ pub ends-none : (E : List (ℕ × ℕ)) (ws : List (List ℕ)) (i n k place : �
     ≡ (list_any (same_edge (n, k)) old || (nat_eq k place && ended E (take (i + 1) ws) n))
 ends-none E ws i n k place x old keys l at lost h =
     h ∙ ap (λ b. list_any (same_edge (n, k)) old || (nat_eq k place && b))
-    (none (ended E (take i ws) n)
+    (sym (or-false (ended E (take i ws) n))
     ∙ ap (λ b. ended E (take i ws) n || same_node b (Some n)) (sym lost)
-    ∙ sym (one-more E ws i n x l at)) where
-      none : (a : Bool) → a ≡ (a || false)
-      none true = refl
-      none false = refl
+    ∙ sym (one-more E ws i n x l at))
 
 pub ends-all : (E : List (ℕ × ℕ)) (ws : List (List ℕ)) (i n k place : ℕ) (old keys : List (ℕ × ℕ)) → length ws ≤ i
     → list_any (same_edge (n, k)) keys
@@ -195,10 +186,7 @@ before-step k i x y e = go (nat_eq k i) refl where
       ap (λ b. (b && x) || y) f ∙ sym (e q) ∙ sym (ap (λ b. b && x) g)
   go false t =
       let f : nat_lt k i ≡ nat_lt k (i + 1) = grind (arith, nat_tests, t) in
-      none (nat_lt k i && x) ∙ ap (λ b. b && x) f where
-        none : (a : Bool) → (a || false) ≡ a
-        none true = refl
-        none false = refl
+      or-false (nat_lt k i && x) ∙ ap (λ b. b && x) f
 
 pub before-words : (all : List (List ℕ)) (ps : List Part) (keys new : List (ℕ × ℕ)) (E : List (ℕ × ℕ)) (i : ℕ)
     (p : Part) (ws : List (List ℕ)) → i < length ps → p ≡ get_or ps i p → p ≡ P.Words ws → E ≡ edges_of all

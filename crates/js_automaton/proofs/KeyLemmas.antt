@@ -1,5 +1,5 @@
 -- States as keys: for states of words the test of two states is that of the words' states.
-use Rattle.std.proofs.Common.{◌≡◌, ℕ, Bool, true, false, ◌&&◌, List, [], ◌∷◌, Option, Some, None, map, nat_eq, Decides, refl, sym, ◌∙◌, ap, ap₂, eqb-true, eq-eqb}
+use Rattle.std.proofs.Common.{◌≡◌, ℕ, ◌&&◌, List, [], ◌∷◌, Option, Some, None, map, nat_eq, Decides, refl, sym, ◌∙◌, ap, ap₂, eqb-true, eq-eqb}
 use Rattle.std.specs.Bool.{beq}
 use Rattle.std.specs.Cmp.{unsigned_Decides, both_ways}
 use Rattle.std.specs.Cmp.Lexicographic.{pointwise}
@@ -20,6 +20,7 @@ use Rattle.js_automaton.specs.Trie.{node_of, listed}
 use Rattle.js_automaton.specs.Tuple.{pattern_states, IsStateOf}
 use Rattle.js_automaton.proofs.NodeLemmas.{node-words}
 use Rattle.js_automaton.proofs.TupleLemmas.{state-same}
+use Rattle.list_laws.proofs.Booleans.{beq-decides}
 
 patterns-decide : (ps qs : List kept.PatternState)
     → Decides (pointwise same_pattern ps qs) (map state_view ps ≡ map state_view qs)
@@ -41,12 +42,6 @@ nodes-decide None (Some n) = ((λ e. cc e), (λ e. cc e))
 nodes-decide (Some m) None = ((λ e. cc e), (λ e. cc e))
 nodes-decide (Some m) (Some n) = ((λ e. ap Some (eqb-true m n e)), (λ e. eq-eqb m n (cc e)))
 
-bool-decides : (x y : Bool) → Decides (beq x y) (x ≡ y)
-bool-decides true true = ((λ e. refl), (λ e. refl))
-bool-decides true false = ((λ e. cc e), (λ e. cc e))
-bool-decides false true = ((λ e. cc e), (λ e. cc e))
-bool-decides false false = ((λ e. refl), (λ e. refl))
-
 -- the parts of words are determined by the patterns' states and the node
 parts-same : (all : List (List ℕ)) (atoms : List Atom) (v w : List ℕ)
     → ((u : List ℕ) → IsIn u (listed atoms) → IsIn u all) → pattern_states atoms v ≡ pattern_states atoms w
@@ -65,7 +60,7 @@ parts-same all (LengthMin m ∷ atoms) v w inside p n =
 pub tuple-decides : (atoms : List Atom) (x y : TupleState) (v w : List ℕ) → IsStateOf atoms x v → IsStateOf atoms y w
     → Decides (same_tuple x y) (word_state atoms v ≡ word_state atoms w)
 tuple-decides atoms x y v w h k =
-    let b = bool-decides x.is_empty y.is_empty in
+    let b = beq-decides x.is_empty y.is_empty in
     let p = patterns-decide x.patterns.items y.patterns.items in
     let o = nodes-decide x.node y.node in
     let n = unsigned_Decides x.length y.length in

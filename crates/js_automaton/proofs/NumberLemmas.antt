@@ -5,7 +5,7 @@ use Rattle.std.specs.List.{IsDistinct, list_any, slice_get}
 use Rattle.indexmap.specs.IndexSet.{insert_key}
 use Rattle.std.proofs.lemmas.Option.{get_or_from_slice_get, slice_get_cases}
 use Rattle.std.proofs.lemmas.Bool.Decides.{nat_tests}
-use Rattle.std.proofs.lemmas.Bool.{eqb-true, and_parts, cases_lt}
+use Rattle.std.proofs.lemmas.Bool.{eqb-true, and_parts, cases_lt, eq-eqb}
 use Rattle.std.proofs.lemmas.Map.Keys.{apart_from_distinct}
 use Rattle.std.proofs.Math.Seq.{get_or-append_seam}
 use Rattle.std.proofs.lemmas.List.{get_or_append_left}
@@ -13,6 +13,8 @@ use Rattle.patterns.specs.CharSet.{has, is_within}
 use Rattle.word_states.specs.Classes.{are_alike}
 use Rattle.js_automaton.specs.Pieces.{AreRising, AreNumbers, AreSides, are_same_letter, are_like}
 use Rattle.js_automaton.proofs.PieceLemmas.{has_rest, has_none, alike_rest, alike_none}
+use Rattle.list_laws.proofs.Numbers.{lt-nat_eq}
+use Rattle.std.proofs.Math.Bool.{and_assoc}
 
 -- ---- sides
 -- pieces have the side that the ranges before place i give them
@@ -145,10 +147,8 @@ keyed-all old sides keys new i h past j k a b =
       by : (p q : ℕ) → get_or keys p (0, 0) ≡ pair_of j → get_or keys q (0, 0) ≡ pair_of k → p < length keys
           → q < length keys → (p < q) ⊎ (q ≤ p) → nat_eq p q ≡ pair_eq (pair_of j) (pair_of k)
       by p q e f l m (inl less) =
-          not_same p q less
-          ∙ sym (ap₂ pair_eq (sym e) (sym f) ∙ apart_from_distinct pair_eq keys p q (0, 0) h.distinct less m) where
-            not_same : (p q : ℕ) → p < q → nat_eq p q ≡ false
-            not_same p q l = grind (arith, nat_tests)
+          lt-nat_eq p q less
+          ∙ sym (ap₂ pair_eq (sym e) (sym f) ∙ apart_from_distinct pair_eq keys p q (0, 0) h.distinct less m)
       by p q e f l m (inr more) = elim (cases_lt q p) [
         | inl less ↦
             not_same p q less
@@ -156,16 +156,13 @@ keyed-all old sides keys new i h past j k a b =
             ∙ apart_from_distinct pair_eq keys q p (0, 0) h.distinct less l)
         | inr n ↦
             let is : p ≡ q = omega (arith, more, n) in
-            one p q is
+            eq-eqb p q is
             ∙ sym (ap₂ pair_eq (sym e) (sym f)
             ∙ ap (λ z. pair_eq (get_or keys p (0, 0)) (get_or keys z (0, 0))) (sym is)
             ∙ same (get_or keys p (0, 0)))
       ] where
         not_same : (p q : ℕ) → q < p → nat_eq p q ≡ false
         not_same p q l = grind (arith, nat_tests)
-
-        one : (p q : ℕ) → p ≡ q → nat_eq p q ≡ true
-        one p q e = grind (arith, nat_tests)
 
 -- ---- numbers by all sets
 abbrev pub RestNumbers : List ℕ → List ℕ → List (List (ℕ × ℕ)) → List (ℕ × ℕ) → ℕ → Type 0
@@ -175,10 +172,6 @@ RestNumbers starts numbers sets letters i =
     → (nat_eq (get_or numbers j 0) (get_or numbers k 0)
     && are_alike (drop i sets) (get_or starts j 0) (get_or starts k 0))
     ≡ are_like sets letters (get_or starts j 0) (get_or starts k 0))
-
-and_group : (a b c : Bool) → ((a && b) && c) ≡ (a && (b && c))
-and_group true b c = refl
-and_group false b c = refl
 
 sides_same : (a b : Bool) (x y : ℕ) → x ≡ (if a then 1 else 0) → y ≡ (if b then 1 else 0) → nat_eq x y ≡ beq a b
 sides_same true true x y e f = grind (arith, nat_tests)
@@ -201,7 +194,7 @@ numbers-next starts old sides new sets letters i s rest within is by long more =
       (more j k (omega (arith, a, rest.0)) (omega (arith, b, rest.0))
       ∙ ap (λ x. nat_eq (get_or old j 0) (get_or old k 0) && x)
       (sides_same (has s d) (has s e) (get_or sides j 0) (get_or sides k 0) (by.1 j a) (by.1 k b)))
-      ∙ and_group (nat_eq (get_or old j 0) (get_or old k 0)) (beq (has s d) (has s e))
+      ∙ and_assoc (nat_eq (get_or old j 0) (get_or old k 0)) (beq (has s d) (has s e))
       (are_alike (drop (i + 1) sets) d e)
       ∙ sym (ap (λ x. nat_eq (get_or old j 0) (get_or old k 0) && x) (alike_rest sets i s d e within is))
       ∙ rest.1 j k a b,

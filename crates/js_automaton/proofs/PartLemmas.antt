@@ -14,6 +14,7 @@ use Rattle.js_automaton.specs.Letters.{letters_of}
 use Rattle.js_automaton.specs.Parts.{part_view, atoms_made, are_placed, part_words}
 use Rattle.js_automaton.specs.Trie.{listed}
 use Rattle.js_automaton.specs.Tuple.{pattern_states}
+use Rattle.std.proofs.lemmas.Simd.{map-map}
 
 -- ---- lists
 pub drop_next : {A : Type 0} (i : ℕ) (xs : List A) (d : A) → i < length xs → drop i xs ≡ get_or xs i d ∷ drop (suc i) xs
@@ -127,16 +128,12 @@ states-made ts k (P.Match i ∷ ps) w e =
 states-made ts k (P.Words l ∷ ps) w e = states-made ts k ps w e
 states-made ts k (P.Length n ∷ ps) w e = states-made ts k ps w e
 
-map-through : {A B C : Type 0} (f : B → C) (g : A → B) (xs : List A) → map f (map g xs) ≡ map (λ x. f (g x)) xs
-map-through f g [] = refl
-map-through f g (x ∷ xs) = ap (λ ys. f (g x) ∷ ys) (map-through f g xs)
-
 -- the atoms' patterns are these
 pub patterns-made : (ns : List Nfa) (ps : List Part) (w : List ℕ) → are_placed 0 ps (length ns) ≡ true
     → pattern_states (atoms_made ns ps) w ≡ map (λ n. pattern_state (tree_of n) w) ns
 patterns-made ns ps w e =
     states-made (map tree_of ns) 0 ps w (ap (are_placed 0 ps) (length-map ns tree_of) ∙ e)
-    ∙ map-through (λ t. pattern_state t w) tree_of ns
+    ∙ map-map (λ t. pattern_state t w) tree_of ns
 
 -- ---- words
 pub words-made : (ts : List Tree) (ps : List Part) → listed (map (part_view ts) ps) ≡ flat_map part_words ps

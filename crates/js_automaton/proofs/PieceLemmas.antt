@@ -14,6 +14,7 @@ use Rattle.std.proofs.lemmas.Bool.{cases_lt}
 use Rattle.patterns.specs.CharSet.{has, is_within}
 use Rattle.word_states.specs.Classes.{are_alike}
 use Rattle.js_automaton.specs.Pieces.{AreTogether, are_like, AreKept, HasEnds, HasEach, AreRising, ArePlaces}
+use Rattle.list_laws.proofs.Booleans.{eq-beq}
 
 pub kept-together : (old new : List ℕ) (c d : ℕ) → AreKept old new → AreTogether new c d → AreTogether old c d
 kept-together old new c d k t = (t.0, t.1, λ x m. t.2 x (k x m))
@@ -138,12 +139,6 @@ alike_none [] (suc i) c d h = refl
 alike_none (r ∷ rs) zero c d h = absurd (omega (arith, h))
 alike_none (r ∷ rs) (suc i) c d h = alike_none rs i c d (omega (arith, h))
 
-beq_from : (a b : Bool) → a ≡ b → beq a b ≡ true
-beq_from true true e = refl
-beq_from false false e = refl
-beq_from true false e = absurd (cc e)
-beq_from false true e = absurd (cc e)
-
 -- the places and the letters, before the sets are gone through and while they are
 pub record ArePlacesSoFar (places : List ℕ) (sets : List (List (ℕ × ℕ))) (letters : List (ℕ × ℕ)) (i : ℕ) : Type 0 where
   pub first : Contains places 0
@@ -175,7 +170,7 @@ places-next old new sets letters i s p within is kept ends = record {
   end = kept 0x110000 p.end;
   each = λ c d t. p.each c d (kept-together old new c d kept t);
   rest = λ c d t e. p.rest c d (kept-together old new c d kept t)
-      (alike_rest sets i s c d within is ∙ ap₂ (λ x y. x && y) (beq_from (has s c) (has s d) (ends c d t)) e);
+      (alike_rest sets i s c d within is ∙ ap₂ (λ x y. x && y) (eq-beq (has s c) (has s d) (ends c d t)) e);
 }
 
 together-sym : (places : List ℕ) (c d : ℕ) → AreTogether places c d → AreTogether places d c

@@ -2,11 +2,13 @@
 use Rattle.std.proofs.Common.{◌≡◌, ℕ, zero, suc, ◌+◌, ◌-◌, ◌<◌, ◌≤◌, ◌⊎◌, inl, inr, Bool, true, false, ◌&&◌, ◌||◌, nat_eq, nat_le, nat_lt, List, [], ◌∷◌, ◌++◌, length, take, drop, get_or, refl, sym, ◌∙◌, ap, ap₂, subst, arith, length-append}
 use Rattle.std.specs.List.{Contains}
 use Rattle.std.proofs.lemmas.Bool.Decides.{nat_tests}
-use Rattle.std.proofs.lemmas.Bool.{cases_lt, cases_Bool}
+use Rattle.std.proofs.lemmas.Bool.{cases_lt, cases_Bool, lt-ltb}
 use Rattle.std.proofs.lemmas.List.{get_or_default, length-drop, take_all, take-append-drop, get_or_append_left}
 use Rattle.std.proofs.Math.Seq.{get_or-append_seam}
 use Rattle.patterns.specs.CharSet.{has, is_within, is_scalar, is_range}
 use Rattle.js_automaton.specs.Pieces.{AreTogether, AreRising, ArePlaces, AreNumbered, IsInPiece, HavePieces, AreRanges}
+use Rattle.std.proofs.Math.Bool.{or-false, or_assoc}
+use Rattle.word_laws.proofs.Classes.{scalar_below}
 
 -- ---- pieces
 -- a place is not inside of a piece
@@ -124,13 +126,10 @@ range_scalar r d e f = grind (arith, nat_tests)
 pub has_next : (test : ℕ → ℕ → Bool) (starts : List ℕ) (i : ℕ) → AreRising starts → ArePlaces starts test
     → i < length starts → is_scalar (get_or starts i 0) ≡ true → i + 1 < length starts
 has_next test starts i up p within s = go p.end where
-  below : (a : ℕ) → is_scalar a ≡ true → a < 0x110000
-  below a e = grind (arith, nat_tests)
-
   go : Contains starts 0x110000 → i + 1 < length starts
   go (j, m, f) =
       let b : get_or starts j 0 ≡ 0x110000 = get_or_default starts j 0 0x110000 m ∙ f in
-      let top = below (get_or starts i 0) s in elim (cases_lt i j) [
+      let top = scalar_below (get_or starts i 0) s in elim (cases_lt i j) [
         | inl less ↦ omega (arith, less, m)
         | inr more ↦ elim (cases_lt j i) [
           | inl far ↦ let u = up j i far within in absurd (omega (arith, u, b, top))
@@ -143,15 +142,9 @@ has_next test starts i up p within s = go p.end where
 
 -- ---- ranges
 has_push : (rs : List (ℕ × ℕ)) (r : ℕ × ℕ) (d : ℕ) → has (rs ++ r ∷ []) d ≡ (has rs d || is_within r d)
-has_push [] r d = or_none (is_within r d) where
-  or_none : (b : Bool) → (b || false) ≡ b
-  or_none true = refl
-  or_none false = refl
+has_push [] r d = or-false (is_within r d)
 has_push (x ∷ rs) r d =
-    ap (λ b. is_within x d || b) (has_push rs r d) ∙ or_group (is_within x d) (has rs d) (is_within r d) where
-      or_group : (a b c : Bool) → (a || (b || c)) ≡ ((a || b) || c)
-      or_group true b c = refl
-      or_group false b c = refl
+    ap (λ b. is_within x d || b) (has_push rs r d) ∙ sym (or_assoc (is_within x d) (has rs d) (is_within r d))
 
 ranges_push : (rs : List (ℕ × ℕ)) (r : ℕ × ℕ) → AreRanges rs → is_range r ≡ true → AreRanges (rs ++ r ∷ [])
 ranges_push rs r all is i l = elim (cases_lt i (length rs)) [
@@ -250,20 +243,13 @@ module _ (test : ℕ → ℕ → Bool) (starts numbers : List ℕ) (n : AreNumbe
     before : (a b d : ℕ) (k i : ℕ) (x : Bool) → d < a → k < i
         → ((nat_lt k i && x) || is_within (a, b - 1) d) ≡ (nat_lt k (i + 1) && x)
     before a b d k i x l m =
-        ap₂ (λ p q. (p && x) || q) (lt k i m) (out a b d l) ∙ or_none x
+        ap₂ (λ p q. (p && x) || q) (lt-ltb k i m) (out a b d l) ∙ or-false x
         ∙ sym (ap (λ p. p && x) (lt_more k i m)) where
-          lt : (k i : ℕ) → k < i → nat_lt k i ≡ true
-          lt k i m = grind (arith, nat_tests)
-
           lt_more : (k i : ℕ) → k < i → nat_lt k (i + 1) ≡ true
           lt_more k i m = grind (arith, nat_tests)
 
           out : (a b d : ℕ) → d < a → is_within (a, b - 1) d ≡ false
           out a b d l = grind (arith, nat_tests)
-
-          or_none : (x : Bool) → (x || false) ≡ x
-          or_none true = refl
-          or_none false = refl
 
     after : (a b d : ℕ) (k i : ℕ) (x : Bool) → a < b → b ≤ d → i < k
         → ((nat_lt k i && x) || is_within (a, b - 1) d) ≡ (nat_lt k (i + 1) && x)
@@ -319,18 +305,12 @@ has_halves k rs c =
       has_append : (a b : List (ℕ × ℕ)) (c : ℕ) → has (a ++ b) c ≡ (has a c || has b c)
       has_append [] b c = refl
       has_append (x ∷ a) b c =
-          ap (λ t. is_within x c || t) (has_append a b c) ∙ or_group (is_within x c) (has a c) (has b c) where
-            or_group : (a b c : Bool) → (a || (b || c)) ≡ ((a || b) || c)
-            or_group true b c = refl
-            or_group false b c = refl
+          ap (λ t. is_within x c || t) (has_append a b c) ∙ sym (or_assoc (is_within x c) (has a c) (has b c))
 
 pub next-above : (test : ℕ → ℕ → Bool) (starts : List ℕ) (i : ℕ) → AreRising starts → ArePlaces starts test
     → i < length starts → is_scalar (get_or starts i 0) ≡ true → 1 ≤ get_or starts (i + 1) 0
 next-above test starts i up p within s =
     let u = up i (i + 1) (omega arith) (has_next test starts i up p within s) in omega (arith, u)
-
-pub same_test : (a b : ℕ) → a ≡ b → nat_eq a b ≡ true
-same_test a b e = grind (arith, nat_tests)
 
 pub other_test : (a b : ℕ) → (a ≡ b → ⊥) → nat_eq a b ≡ false
 other_test a b e = grind (arith, nat_tests)
@@ -346,9 +326,7 @@ pub first-all : (starts numbers : List ℕ) (here : ℕ) (rs : List (ℕ × ℕ)
     → length starts ≤ i → HavePieces starts numbers here rs
 first-all starts numbers here rs i first past k d (w, low, high) =
     first k d (w, low, high)
-    ∙ ap (λ b. b && (is_scalar d && nat_eq (get_or numbers k 0) here)) (lt k i (omega (arith, w, past))) where
-      lt : (k i : ℕ) → k < i → nat_lt k i ≡ true
-      lt k i m = grind (arith, nat_tests)
+    ∙ ap (λ b. b && (is_scalar d && nat_eq (get_or numbers k 0) here)) (lt-ltb k i (omega (arith, w, past)))
 
 scalar_has : (rs : List (ℕ × ℕ)) (d : ℕ) → AreRanges rs → has rs d ≡ true → is_scalar d ≡ true
 scalar_has [] d all e = absurd (cc e)
@@ -363,13 +341,10 @@ pub class-all : (test : ℕ → ℕ → Bool) (starts numbers : List ℕ) (rs se
     → (d : ℕ) → has set d ≡ (is_scalar d && test c d)
 class-all test starts numbers rs set c h n all top in_h pieces is d = elim (cases_Bool (is_scalar d)) [
   | inl t ↦
-      let (k, in_k) = piece-of test starts d n.rising n.places (below d t) in
-      is d ∙ pieces k d in_k ∙ ap (λ b. is_scalar d && b) (alike k in_k (below d t))
+      let (k, in_k) = piece-of test starts d n.rising n.places (scalar_below d t) in
+      is d ∙ pieces k d in_k ∙ ap (λ b. is_scalar d && b) (alike k in_k (scalar_below d t))
   | inr f ↦ is d ∙ outside (has rs d) (is_scalar d) (test c d) f (scalar_has rs d all)
 ] where
-  below : (a : ℕ) → is_scalar a ≡ true → a < 0x110000
-  below a e = grind (arith, nat_tests)
-
   outside : (a s t : Bool) → s ≡ false → (a ≡ true → s ≡ true) → a ≡ (s && t)
   outside true s t e f = let q = f refl in absurd (cc (e, q))
   outside false true t e f = absurd (cc e)

@@ -27,6 +27,7 @@ use Rattle.js_automaton.specs.Tuple.{IsStateOf}
 use Rattle.js_automaton.specs.Keys.{same_tuple}
 use Rattle.js_automaton.specs.Building.{AreStates, longer_words, words_before, IsFound, HaveRows}
 use Rattle.js_automaton.proofs.KeyLemmas.{tuple-words}
+use Rattle.std.proofs.lemmas.Simd.{map-map}
 
 -- ---- lists
 pub all-end : {A : Type 0} (p : A → Bool) (xs : List A) (x : A) → list_all p xs ≡ true → p x ≡ true
@@ -63,10 +64,6 @@ map-flat : {A B C : Type 0} (f : B → C) (g : A → List B) (h : A → List C) 
     → map f (flat_map g xs) ≡ flat_map h xs
 map-flat f g h [] e = refl
 map-flat f g h (x ∷ xs) e = map-append f (g x) (flat_map g xs) ∙ ap₂ (λ ys zs. ys ++ zs) (e x) (map-flat f g h xs e)
-
-map-through : {A B C : Type 0} (f : B → C) (g : A → B) (xs : List A) → map f (map g xs) ≡ map (λ x. f (g x)) xs
-map-through f g [] = refl
-map-through f g (x ∷ xs) = ap (λ ys. f (g x) ∷ ys) (map-through f g xs)
 
 -- ---- lists of lists of one length
 pub flat-length : {A B : Type 0} (f : A → List B) (n : ℕ) → ((x : A) → length (f x) ≡ n) → (xs : List A)
@@ -356,7 +353,7 @@ module _ (atoms : List Atom) where
             omega (arith, few, size),
             f.targets ∙ ap (map (row_of atoms f.rows)) (before-row ∙ ap (flat_map (longer_words atoms)) whole)
                 ∙ map-flat (row_of atoms f.rows) (longer_words atoms) (targets_of atoms f.rows) f.rows
-                (λ w. map-through (row_of atoms f.rows) (λ c. w ++ c ∷ []) (class_firsts atoms)),
+                (λ w. map-map (row_of atoms f.rows) (λ c. w ++ c ∷ []) (class_firsts atoms)),
             f.states,
           ),
         )

@@ -4,7 +4,7 @@ use Rattle.std.specs.List.{list_all, IsDistinct, AllByRecursion}
 use Rattle.std.proofs.lemmas.Bool.{cases_lt}
 use Rattle.patterns.specs.CharSet.{is_scalar}
 use Rattle.list_laws.specs.In.{IsIn}
-use Rattle.list_laws.proofs.Lists.{in_get, in_take, from_map}
+use Rattle.list_laws.proofs.Lists.{in_get, in_take, from_map, in_at}
 use Rattle.word_states.specs.Atom.{Atom}
 use Rattle.word_states.specs.Classes.{characters}
 use Rattle.word_states.specs.Rows.{AreRows, row_of}
@@ -21,9 +21,10 @@ use Rattle.cell_laws.proofs.Rows.{target_in, leads_on, row_is, first_row}
 use Rattle.alternatives.specs.Limit.{most_states}
 use Rattle.finders.specs.WordsFound.{far}
 use Rattle.finder_laws.proofs.Strings.{states_far, scalars_same}
-use Rattle.js_cells.proofs.RowLengths.{in_at, later_longer, row_shortest}
+use Rattle.js_cells.proofs.RowLengths.{later_longer, row_shortest}
 use Rattle.js_said.proofs.Vectors.{same_laws}
-use Rattle.js_cells.proofs.KeptCells.{kept, ends, ends_are, same_number}
+use Rattle.js_cells.proofs.KeptCells.{kept, ends, ends_are}
+use Rattle.list_laws.proofs.Numbers.{nat_eq-refl}
 
 -- the number of each vector is its place
 
@@ -97,7 +98,7 @@ module _ (T : List Position) (S : List Signed) (atoms : List Atom) (L : List (Li
       (λ v w e. ap (λ z. nat_eq (place z (vectors_of T (naming T S) L)) c) (same v w e))
       characters (C.different 0x110000) (C.scalars 0x110000) C.whole far 1
       (let a = states_far in omega (arith, a, few)) C.rank (C.ordered 0x110000) (omega (arith)) (get_or L r []) own
-      (ap (λ z. nat_eq z c) here ∙ same_number c) in
+      (ap (λ z. nat_eq z c) here ∙ nat_eq-refl c) in
       let is = (ends_are T S atoms L rows few same c [] 0 (first_row atoms L rows) refl).1 v
       (in_take 1 v (ends T S atoms L rows few same c []) (subst (λ z. IsIn v z) (sym one) (inl refl))) in
       let m = first_shorter v is in

@@ -17,6 +17,7 @@ use Rattle.std.specs.Cmp.{unsigned_Decides}
 use Rattle.js_nfa.specs.Bits.{bit_of, flags_of}
 use Rattle.js_nfa.proofs.BitsLemmas.{length-flags_of, flag_at-get_or, get_or-flags_of, bit_of-set_same, bit_of-set_other, positive, bit_at-mod, bit_at-div, flag_at-bit}
 use Rattle.js_cells.specs.FlagWords.{number_of, words_of, flags_decide}
+use Rattle.list_laws.proofs.Booleans.{same_test}
 
 -- one flag is written
 
@@ -126,7 +127,7 @@ pub same_words : (xs ys : List ℕ) (m n : ℕ) → length xs ≡ m / 64 + 1 →
     → ((k : ℕ) → slice_index xs k < 2 ^ 64) → ((k : ℕ) → slice_index ys k < 2 ^ 64)
     → (eqb m n && pointwise eqb xs ys) ≡ pointwise beq (flags_of xs m) (flags_of ys n)
 same_words xs ys m n a b c d f g =
-    both (eqb m n && pointwise eqb xs ys) (pointwise beq (flags_of xs m) (flags_of ys n))
+    same_test (eqb m n && pointwise eqb xs ys) (pointwise beq (flags_of xs m) (flags_of ys n))
     (λ h.
     let (p, q) = and_parts (eqb m n) (pointwise eqb xs ys) h in
     (flags_decide (flags_of xs m) (flags_of ys n)).1
@@ -136,8 +137,4 @@ same_words xs ys m n a b c d f g =
     let lens : m ≡ n = sym (length-flags_of xs m) ∙ ap length e ∙ length-flags_of ys n in
     and_from (eqb m n) (pointwise eqb xs ys) (eq-eqb m n lens)
     ((slice_eq-Decides unsigned_Decides xs ys (pointwise eqb xs ys) refl).1
-    (sym (words_are xs m a c f) ∙ ap words_of e ∙ words_are ys n b d g))) where
-      both : (x y : Bool) → (x ≡ true → y ≡ true) → (y ≡ true → x ≡ true) → x ≡ y
-      both true y f g = sym (f refl)
-      both false true f g = g refl
-      both false false f g = refl
+    (sym (words_are xs m a c f) ∙ ap words_of e ∙ words_are ys n b d g)))

@@ -33,15 +33,13 @@ use Rattle.finders.specs.WordsFound.{far, words_found}
 use Rattle.finder_laws.proofs.Strings.{scalars_same}
 use Rattle.js_said.specs.Vectors.{row_places}
 use Rattle.js_cells.specs.Counting.{AreEnds, IsCount}
+use Rattle.list_laws.proofs.Numbers.{nat_eq-refl}
 
 enough : (n : ℕ) → n ≤ most_states → n * most_words ≤ far
 unfolding far
 enough n few = product n most_states most_words few where
   product : (a b c : ℕ) → a ≤ b → a * c ≤ b * c
   product a b c l = grind (arith, l)
-
-pub same_number : (c : ℕ) → nat_eq c c ≡ true
-same_number c = grind arith
 
 module _ (T : List Position) (S : List Signed) (atoms : List Atom) (L : List (List ℕ)) (rows : AreRows atoms L)
     (few : length L ≤ most_states)
@@ -66,7 +64,7 @@ module _ (T : List Position) (S : List Signed) (atoms : List Atom) (L : List (Li
         (λ w i. let (a, b) = are.1 w i in (
           (and_parts (list_all is_scalar u) (list_all is_scalar w)
               (sym (list_all-append is_scalar u w) ∙ sym (scalars_same (u ++ w)) ∙ a)).1,
-          ap (λ z. nat_eq z c) b ∙ same_number c,
+          ap (λ z. nat_eq z c) b ∙ nat_eq-refl c,
         ))
 
     pub ends_are : AreEnds T kept c u (ends c u)

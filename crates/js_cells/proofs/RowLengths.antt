@@ -4,7 +4,7 @@ use Rattle.std.proofs.Common.{◌≡◌, ℕ, zero, suc, ◌<◌, ◌≤◌, inl
 use Rattle.std.specs.List.{list_all}
 use Rattle.patterns.specs.CharSet.{is_scalar}
 use Rattle.list_laws.specs.In.{IsIn}
-use Rattle.list_laws.proofs.Lists.{in_get, from_map, from_flat_map}
+use Rattle.list_laws.proofs.Lists.{in_get, from_map, from_flat_map, in_at}
 use Rattle.word_states.specs.Atom.{Atom}
 use Rattle.word_states.specs.Classes.{class_firsts, class_count}
 use Rattle.word_states.specs.WordState.{have_same_state}
@@ -18,12 +18,6 @@ use Rattle.cell_laws.specs.RowTables.{IsRowOf}
 use Rattle.cell_laws.proofs.Characters.{rank}
 use Rattle.cell_laws.proofs.Rows.{target_in, leads_on, one_row, first_row}
 use Rattle.finder_laws.proofs.RowOrder.{NoLater, rows_ordered, word_row}
-
--- where a member of a list stands
-pub in_at : {A : Type 0} (L : List A) (x d : A) → IsIn x L → (k : ℕ) × (k < length L) × (x ≡ get_or L k d)
-in_at [] x d i = absurd i
-in_at (y ∷ L) x d (inl e) = (0, omega arith, e)
-in_at (y ∷ L) x d (inr i) = let (k, l, e) = in_at L x d i in (suc k, omega (arith, l), e)
 
 -- of words in order none is longer than a later one
 

@@ -1,5 +1,5 @@
 -- The rows of a cell are those of its names: a name is in the cell of the row to which it leads.
-use Rattle.std.proofs.Common.{◌≡◌, ℕ, ◌<◌, Bool, true, false, min, nat_eq, List, [], ◌∷◌, ◌++◌, map, length, get_or, ap, sym, ◌∙◌, subst, arith}
+use Rattle.std.proofs.Common.{◌≡◌, ℕ, ◌<◌, Bool, true, false, min, nat_eq, List, [], ◌++◌, map, length, get_or, ap, sym, ◌∙◌, subst, arith}
 use Rattle.std.specs.List.{list_all}
 use Rattle.std.proofs.lemmas.List.{get_or-map, length-map, map-id}
 use Rattle.std.proofs.lemmas.List.Folds.{list_all-append}
@@ -7,9 +7,9 @@ use Rattle.std.proofs.lemmas.Bool.{and_from}
 use Rattle.patterns.specs.CharSet.{is_scalar}
 use Rattle.list_laws.proofs.Lists.{in_get}
 use Rattle.word_states.specs.Atom.{Atom}
-use Rattle.word_states.specs.Rows.{AreRows, row_of, longer_by_one}
+use Rattle.word_states.specs.Rows.{AreRows, row_of}
 use Rattle.word_states.specs.WordState.{have_same_state}
-use Rattle.word_states.specs.Classes.{characters, class_firsts}
+use Rattle.word_states.specs.Classes.{characters}
 use Rattle.word_laws.proofs.RowLaws.{rows_words}
 use Rattle.word_laws.proofs.Mentions as M
 use Rattle.word_laws.proofs.States as W
@@ -100,10 +100,3 @@ kept_vector ks new c v vs e g i l =
 pub at_default : {A : Type 0} (x : A) (i : ℕ) (xs : List A) (d : A) → i < length xs → x ≡ get_or xs i x
     → x ≡ get_or xs i d
 at_default x i xs d l e = e ∙ sym (get_or-map (λ y. y) xs i x x l) ∙ get_or-map (λ y. y) xs i d x l
-
--- the first row is that of the empty word
-pub first_is_empty : (atoms : List Atom) (rows : List (List ℕ)) → AreRows atoms rows → get_or rows 0 [] ≡ []
-first_is_empty atoms rows are =
-    let (X, e) = M.mentions_grow (have_same_state atoms) (W.same_laws atoms) ([] ∷ [])
-    (longer_by_one (class_firsts atoms) rows) in
-    ap (λ z. get_or z 0 []) (are ∙ e)

@@ -9,6 +9,7 @@ use Rattle.std.proofs.lemmas.List.{length-set, set-get_or, get_or-map, length-ma
 use Rattle.std.proofs.lemmas.List.Folds.{list_any_more}
 use Rattle.documents.specs.Tests.{some}
 use Rattle.js_cells.specs.Told.{AreSet, HavePlace, AreBlank}
+use Rattle.std.proofs.Math.Bool.{or_assoc}
 
 -- one flag, written twice
 
@@ -228,7 +229,4 @@ module _ (flag : Bool) (place : ℕ) (old mid : List (List Bool)) where
             let next : suc i + 1 ≡ suc (i + 1) = omega arith in
             ap (λ n. some p (take n (x ∷ xs))) next
             ∙ ap (λ b. p x || b) (some_more p xs i d (omega (arith, l)))
-            ∙ assoc (p x) (some p (take i xs)) (p (get_or xs i d)) where
-              assoc : (a b c : Bool) → (a || (b || c)) ≡ ((a || b) || c)
-              assoc true b c = refl
-              assoc false b c = refl
+            ∙ sym (or_assoc (p x) (some p (take i xs)) (p (get_or xs i d)))

@@ -1,21 +1,20 @@
 -- The rows at which atoms are true.
 --
 -- Key: `words_truth`, a list of words is true of the rows to which they lead, and of no others.
-use Rattle.std.proofs.Common.{◌≡◌, ℕ, zero, suc, ◌<◌, inl, inr, Bool, true, false, ◌+◌, ◌≤◌, ◌||◌, cond, nat_eq, nat_lt, List, [], ◌∷◌, ◌++◌, IsUtf8, chars, map, filter, length, take, get_or, refl, ap, ap₂, sym, ◌∙◌, subst, arith, eq-eqb, length-append}
+use Rattle.std.proofs.Common.{◌≡◌, ℕ, ◌<◌, inl, inr, Bool, true, false, ◌+◌, ◌≤◌, ◌||◌, nat_eq, nat_lt, List, [], ◌∷◌, ◌++◌, IsUtf8, chars, map, filter, length, get_or, refl, ap, ap₂, sym, ◌∙◌, subst, arith, eq-eqb, length-append}
 use Rattle.std.specs.Char.{IsScalar}
 use Rattle.std.proofs.Math.Utf8.{scalar_cases}
 use Rattle.std.proofs.lemmas.Bool.Decides.{nat_tests}
-use Rattle.std.proofs.lemmas.List.FromFn.{filter_of_map_range_with_len_more}
 use Rattle.std.proofs.lemmas.Str.{scalars-chars}
 use Rattle.std.specs.Str.{all_scalars}
 use Rattle.std.specs.List.{list_all, list_any, range_with_len}
 use Rattle.std.proofs.lemmas.Bool.{and_from, and_parts, cases_lt, eqb-true, ltb-true}
-use Rattle.std.proofs.lemmas.List.{get_or-map, get_or_append_left, map-id}
+use Rattle.std.proofs.lemmas.List.{get_or-map, get_or_append_left}
 use Rattle.documents.specs.Tests.{every, some}
 use Rattle.patterns.specs.CharSet.{is_scalar}
 use Rattle.list_laws.specs.In.{IsIn}
 use Rattle.list_laws.proofs.Lists.{in_get, in_map, from_map, to_filter}
-use Rattle.list_laws.proofs.Tests.{from_filter, in_range, from_range}
+use Rattle.list_laws.proofs.Tests.{from_filter, in_range, from_range, from_any, in_any}
 use Rattle.word_states.specs.Atom.{Atom, Words, LengthMin, is_true, same_word}
 use Rattle.word_states.specs.Classes.{class_of, class_count, is_in_class}
 use Rattle.word_states.specs.Rows.{AreRows, row_of}
@@ -25,45 +24,15 @@ use Rattle.word_laws.proofs.States.{word_decides, same_laws}
 use Rattle.cell_laws.proofs.Rows.{row_is, one_row, first_row}
 use Rattle.js_said.specs.AtomNumbers.{is_true_at, are_below}
 use Rattle.js_cells.specs.Truths.{IsTruth, AreTruths, AreWithin, AreFirst}
+use Rattle.list_laws.proofs.Booleans.{same_test}
+use Rattle.list_laws.proofs.Numbers.{nat_eq-refl}
 
 -- tests of lists
-
-both : (x y : Bool) → (x ≡ true → y ≡ true) → (y ≡ true → x ≡ true) → x ≡ y
-both true y f g = sym (f refl)
-both false true f g = g refl
-both false false f g = refl
-
-find_any : {X : Type 0} (p : X → Bool) (xs : List X) → list_any p xs ≡ true → (x : X) × IsIn x xs × (p x ≡ true)
-find_any p [] h = cc h
-find_any {X = X} p (x ∷ xs) h = go (p x) refl h (find_any p xs) where
-  go : (b : Bool) → p x ≡ b → (b || list_any p xs) ≡ true
-      → (list_any p xs ≡ true → (z : X) × IsIn z xs × (p z ≡ true)) → (z : X) × IsIn z (x ∷ xs) × (p z ≡ true)
-  go true e h more = (x, inl refl, e)
-  go false e h more = let (z, i, q) = more h in (z, inr i, q)
-
-any_in : {X : Type 0} (p : X → Bool) (x : X) (xs : List X) → IsIn x xs → p x ≡ true → list_any p xs ≡ true
-any_in p x [] i e = absurd i
-any_in p x (y ∷ ys) (inl q) e = ap (λ b. b || list_any p ys) (ap p (sym q) ∙ e)
-any_in p x (y ∷ ys) (inr i) e = ap (λ b. p y || b) (any_in p x ys i e) ∙ always (p y) where
-  always : (b : Bool) → (b || true) ≡ true
-  always true = refl
-  always false = refl
 
 all_in : {X : Type 0} (p : X → Bool) (x : X) (xs : List X) → list_all p xs ≡ true → IsIn x xs → p x ≡ true
 all_in p x [] h i = absurd i
 all_in p x (y ∷ ys) h (inl q) = ap p q ∙ (and_parts (p y) (list_all p ys) h).0
 all_in p x (y ∷ ys) h (inr i) = all_in p x ys (and_parts (p y) (list_all p ys) h).1 i
-
-pub all_taken : {X : Type 0} (p : X → Bool) (i : ℕ) (xs : List X) → list_all p xs ≡ true
-    → list_all p (take i xs) ≡ true
-all_taken p zero xs h = refl
-all_taken p (suc i) [] h = refl
-all_taken p (suc i) (x ∷ xs) h =
-    let (a, b) = and_parts (p x) (list_all p xs) h in
-    and_from (p x) (list_all p (take i xs)) a (all_taken p i xs b)
-
-same_number : (n : ℕ) → nat_eq n n ≡ true
-same_number n = grind arith
 
 module _ (A : List Atom) (L : List (List ℕ)) (rows : AreRows A L) where
   -- a row's own word leads to it
@@ -90,20 +59,20 @@ module _ (A : List Atom) (L : List (List ℕ)) (rows : AreRows A L) where
       (s : list_all (list_all is_scalar) ws ≡ true) where
     leads_to : (r : ℕ) → list_any (nat_eq r) (map (row_of A L) ws) ≡ true → is_true_at A (get_or L r []) k ≡ true
     leads_to r h =
-        let (n, i, p) = find_any (nat_eq r) (map (row_of A L) ws) h in
+        let (n, i, p) = from_any (nat_eq r) (map (row_of A L) ws) h in
         let (w, j, q) = from_map (row_of A L) n ws i in
         let is : row_of A L w ≡ r = sym (eqb-true r n p ∙ q) in
         subst (λ z. is_true_at A (get_or L z []) k ≡ true) is
         (truth_row k w l (all_in (list_all is_scalar) w ws s j) ∙ ap (λ a. is_true a w) e
-        ∙ any_in (same_word w) w ws j ((word_decides w w).1 refl))
+        ∙ in_any (same_word w) w ws j ((word_decides w w).1 refl))
 
     is_led : (r : ℕ) → r < length L → is_true_at A (get_or L r []) k ≡ true
         → list_any (nat_eq r) (map (row_of A L) ws) ≡ true
     is_led r m h =
         let v = get_or L r [] in
-        let (w, j, p) = find_any (same_word v) ws (sym (ap (λ a. is_true a v) e) ∙ h) in
+        let (w, j, p) = from_any (same_word v) ws (sym (ap (λ a. is_true a v) e) ∙ h) in
         let same : v ≡ w = (word_decides v w).0 p in
-        any_in (nat_eq r) (row_of A L w) (map (row_of A L) ws) (in_map (row_of A L) w ws j)
+        in_any (nat_eq r) (row_of A L w) (map (row_of A L) ws) (in_map (row_of A L) w ws j)
         (eq-eqb r (row_of A L w) (sym (ap (row_of A L) (sym same) ∙ own_row r m)))
 
     pub words_truth : IsTruth A L k (map (row_of A L) ws)
@@ -112,7 +81,7 @@ module _ (A : List Atom) (L : List (List ℕ)) (rows : AreRows A L) where
           let n = get_or (map (row_of A L) ws) i 0 in
           let (w, j, q) = from_map (row_of A L) n ws (in_get (map (row_of A L) ws) i 0 m) in
           let b = row_below A L rows w (all_in (list_all is_scalar) w ws s j) in omega (arith, q, b);
-      told = λ r m. both (list_any (nat_eq r) (map (row_of A L) ws)) (is_true_at A (get_or L r []) k)
+      told = λ r m. same_test (list_any (nat_eq r) (map (row_of A L) ws)) (is_true_at A (get_or L r []) k)
           (leads_to r) (is_led r m);
     }
 
@@ -124,11 +93,11 @@ where_truth A L k = record {
   within = λ i m.
       let n = get_or (filter p all) i 0 in
       from_range (length L) n (from_filter p n all (in_get (filter p all) i 0 m)).0;
-  told = λ r m. both (list_any (nat_eq r) (filter p all)) (p r)
+  told = λ r m. same_test (list_any (nat_eq r) (filter p all)) (p r)
       (λ h.
-      let (n, i, q) = find_any (nat_eq r) (filter p all) h in
+      let (n, i, q) = from_any (nat_eq r) (filter p all) h in
       subst (λ z. p z ≡ true) (sym (eqb-true r n q)) (from_filter p n all i).1)
-      (λ h. any_in (nat_eq r) r (filter p all) (to_filter p r all (in_range (length L) r m) h) (same_number r));
+      (λ h. in_any (nat_eq r) r (filter p all) (to_filter p r all (in_range (length L) r m) h) (nat_eq-refl r));
 } where
   p : ℕ → Bool
   p r = is_true_at A (get_or L r []) k
@@ -151,14 +120,6 @@ module _ (A : List Atom) (L lists : List (List ℕ)) (t : AreTruths A L lists) w
   some_told r (k ∷ ks) l h =
       let (a, b) = and_parts (nat_lt k (length A)) (are_below A ks) h in
       ap₂ (λ x y. x || y) ((t.each k (ltb-true k (length A) a)).told r l) (some_told r ks l b)
-
--- rows that were tested so far
-pub where_more : (p : ℕ → Bool) (n : ℕ)
-    → filter p (range_with_len 0 (n + 1)) ≡ filter p (range_with_len 0 n) ++ cond (p n) (n ∷ []) []
-where_more p n =
-    ap (filter p) (sym (map-id (range_with_len 0 (n + 1))))
-    ∙ filter_of_map_range_with_len_more p (λ k. k) 0 n n (omega arith)
-    ∙ ap (λ z. filter p z ++ cond (p n) (n ∷ []) []) (map-id (range_with_len 0 n))
 
 -- classes of characters
 

@@ -1,9 +1,10 @@
 -- Bounds by the numbers of their cells.
 use Rattle.std.proofs.Common.{◌≡◌, ℕ, zero, suc, ◌+◌, inl, inr, cond, nat_eq, nat_le, nat_lt, List, [], ◌∷◌, ◌++◌, length, get_or, Option, Some, None, refl, ap, ap₂, sym, ◌∙◌, arith}
-use Rattle.std.proofs.lemmas.Bool.{cases_eq, cases_lt, eq-eqb, ne_eqb, le-leb, lt-leb, lt-ltb, le-ltb}
+use Rattle.std.proofs.lemmas.Bool.{cases_lt, ne_eqb, le-leb, lt-leb, lt-ltb, le-ltb}
 use Rattle.verdicts.specs.Bounds.{Bound, bounds_of}
 use Rattle.verdicts.specs.Leaves.{comes_after}
 use Rattle.js_check_objects.specs.Bounds.{cap_at, past, with_cap}
+use Rattle.list_laws.proofs.Numbers.{nat_eq-suc}
 
 pub cap_none : (os : List (Option ℕ)) (c : ℕ) → cap_at (os ++ None ∷ []) c ≡ cap_at os c
 cap_none [] zero = refl
@@ -11,18 +12,12 @@ cap_none [] (suc c) = refl
 cap_none (o ∷ os) zero = refl
 cap_none (o ∷ os) (suc c) = cap_none os c
 
-eq_suc : (m n : ℕ) → nat_eq m n ≡ nat_eq (suc m) (suc n)
-eq_suc m n = elim (cases_eq m n) [
-  | inl e ↦ eq-eqb m n e ∙ sym (eq-eqb (suc m) (suc n) (ap suc e))
-  | inr h ↦ ne_eqb m n h ∙ sym (ne_eqb (suc m) (suc n) (λ e. h (omega (arith, e))))
-]
-
 cap_some : (os : List (Option ℕ)) (n c : ℕ) → cap_at (os ++ Some n ∷ []) c ≡ with_cap (length os) n (cap_at os) c
 cap_some [] n zero = refl
 cap_some [] n (suc c) = ap (λ b. cond b (Some n) None) (sym (ne_eqb 0 (suc c) (λ e. omega (arith, e))))
 cap_some (o ∷ os) n zero = ap (λ b. cond b (Some n) o) (sym (ne_eqb (suc (length os)) 0 (λ e. omega (arith, e))))
 cap_some (o ∷ os) n (suc c) =
-    cap_some os n c ∙ ap (λ b. cond b (Some n) (cap_at os c)) (eq_suc (length os) c)
+    cap_some os n c ∙ ap (λ b. cond b (Some n) (cap_at os c)) (nat_eq-suc (length os) c)
 
 pub cap_end : (os : List (Option ℕ)) (cell cap : ℕ) → length os ≡ cell → (c : ℕ)
     → cap_at (os ++ Some cap ∷ []) c ≡ with_cap cell cap (cap_at os) c

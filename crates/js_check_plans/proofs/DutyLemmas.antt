@@ -1,6 +1,6 @@
 -- The duties of plans to come: what a plan at hand leaves, and the options that come in its place.
-use Rattle.std.proofs.Common.{◌≡◌, ℕ, zero, suc, ◌<◌, List, [], ◌∷◌, ◌++◌, map, take, drop, length, reverse, get_or, Bool, true, false, Option, Some, None, IfSome, Ok, refl, arith, ap, ap₂, sym, ◌∙◌, subst}
-use Rattle.std.proofs.lemmas.List.{length-append, length-take-le, take-append-le, reverse-append}
+use Rattle.std.proofs.Common.{◌≡◌, ℕ, suc, ◌<◌, List, [], ◌∷◌, ◌++◌, map, take, drop, length, reverse, Bool, true, false, Option, Some, None, IfSome, Ok, refl, arith, ap, ap₂, sym, ◌∙◌, subst, drop-cons}
+use Rattle.std.proofs.lemmas.List.{length-append, length-take-le, take-append-le}
 use Rattle.std.proofs.Math.Seq.{take-length}
 use Rattle.positions.specs.Position.{Position}
 use Rattle.goals.specs.Signed.{Signed, Plus}
@@ -21,8 +21,11 @@ use Rattle.js_check_plans.specs.declared.choices.Slot.TheVariants as S
 use Rattle.js_check_plans.specs.Reach.{IsPath}
 use Rattle.js_check_plans.specs.Slots.{choices_at, with_rest_at}
 use Rattle.js_check_plans.specs.OpenDuties.{at_hand, option_duties, pending_duties, entry, AreFine}
-use Rattle.js_check_plans.proofs.Options.{options-choices, choices-are}
-use Rattle.js_check_plans.proofs.Plans.{next-plan, path-take, path-push}
+use Rattle.js_check_plans.proofs.Options.{choices-are}
+use Rattle.js_check_plans.proofs.Plans.{path-take, path-push}
+use Rattle.js_plans.proofs.Options.{options-choices}
+use Rattle.js_plans.proofs.Plans.{next-plan}
+use Rattle.list_laws.proofs.Lists.{reverse-last}
 
 -- where a test decides, nothing or the rule is left
 pub by_test : (form : Form) (frame : Frame) (left : List Signed) (b : Bool) (r : ℕ)
@@ -31,17 +34,6 @@ by_test form frame left true r = refl
 by_test form frame left false r = refl
 
 module _ (frame : Frame) where
-  -- the plans that come next
-  pub popped : (es old : List Pending) (e : Pending) → old ≡ es ++ e ∷ [] → reverse old ≡ e ∷ reverse es
-  popped es old e q = ap reverse q ∙ reverse-append es (e ∷ [])
-
-  -- a demand is left
-  left-on : (n : ℕ) (ds : List Signed) → n < length ds
-      → drop n ds ≡ get_or ds n (Plus 0) ∷ drop (suc n) ds
-  left-on n [] l = absurd (omega (arith, l))
-  left-on zero (d ∷ ds) l = refl
-  left-on (suc n) (d ∷ ds) l = left-on n ds (omega (arith, l))
-
   -- the options of a plan are the plans of one more server
   option-duties : (form : Form) (ws ss : List Server) → length ws < length frame.demands
       → plan_duties form frame (drop (length ws) frame.demands)
@@ -52,7 +44,7 @@ module _ (frame : Frame) where
       let count : suc (length ws) ≡ length (ws ++ s ∷ []) = omega (arith, length-append ws (s ∷ [])) in
       ap₂ (λ d ds. d ∷ ds)
       (ap₂ (λ p ds. OfPlan form frame p ds) (sym (next-plan frame ws s l))
-      (ap rest (left-on (length ws) frame.demands l) ∙ ap (λ n. drop n frame.demands) count))
+      (ap rest (drop-cons frame.demands (length ws) (Plus 0) l) ∙ ap (λ n. drop n frame.demands) count))
       (option-duties form ws ss l)
 
   split-line : (T : List Position) (cite : ℕ → List Signed → Bool) (form : Form) (p : Plan) (left : List Signed)
@@ -67,14 +59,14 @@ module _ (frame : Frame) where
       ≡ Ok (map (λ s. at_hand form frame (ws ++ s ∷ [])) (choices_after frame ws))
   after-split T cite form ws l =
       split-line T cite form (plan_after frame ws) (drop (length ws) frame.demands) (next_demand frame ws)
-      (drop (suc (length ws)) frame.demands) (left-on (length ws) frame.demands l)
+      (drop (suc (length ws)) frame.demands) (drop-cons frame.demands (length ws) (Plus 0) l)
       ∙ ap (λ qs. Ok (plan_duties form frame (drop (length ws) frame.demands) qs))
       (options-choices frame (next_demand frame ws) (plan_after frame ws))
       ∙ ap Ok (option-duties form ws (choices_after frame ws) l)
 
   pub some-left : (ws : List Server) → length ws < length frame.demands
       → (d : Signed) × (ds : List Signed) × (drop (length ws) frame.demands ≡ d ∷ ds)
-  some-left ws l = (_, _, left-on (length ws) frame.demands l)
+  some-left ws l = (_, _, drop-cons frame.demands (length ws) (Plus 0) l)
 
   -- what a choice tells, of a path that is known otherwise
   pub some-choice : (us cut : List Server) (o : Option Choice) (choice : Choice) (slot : Slot) → us ≡ cut
@@ -99,7 +91,7 @@ module _ (frame : Frame) where
   module _ (path cut : List Server) (es old : List Pending) (e : Pending) (q : old ≡ es ++ e ∷ [])
       (back : cut ≡ take e.level path) (fine : AreFine frame path (reverse old)) where
     at_next : AreFine frame path (e ∷ reverse es)
-    at_next = subst (AreFine frame path) (popped es old e q) fine
+    at_next = subst (AreFine frame path) (reverse-last es old e q) fine
 
     pub cut-long : length cut ≡ e.level
     cut-long = ap length back ∙ length-take-le e.level path at_next.0
@@ -116,7 +108,7 @@ module _ (frame : Frame) where
     pub cut-duties : (form : Form) → pending_duties form frame path (reverse old)
         ≡ option_duties form frame cut e.next ++ pending_duties form frame cut (reverse es)
     cut-duties form =
-        ap (pending_duties form frame path) (popped es old e q)
+        ap (pending_duties form frame path) (reverse-last es old e q)
         ∙ ap (λ us. option_duties form frame us e.next ++ pending_duties form frame us (reverse es)) (sym back)
 
     -- it has no choice left
@@ -140,7 +132,7 @@ module _ (frame : Frame) where
 
       pub next-fine : AreFine frame path' (reverse new)
       next-fine =
-          subst (AreFine frame path') (sym (popped es new (entry e.level rest) put)) (
+          subst (AreFine frame path') (sym (reverse-last es new (entry e.level rest) put)) (
             omega (arith, cut-long, ap length grown, length-append cut (s ∷ [])),
             at_next.1,
             subst (λ us. AreFine frame us (reverse es)) (sym kept) cut-fine,
@@ -151,7 +143,7 @@ module _ (frame : Frame) where
           ≡ pending_duties form frame path (reverse old)
       next-duties form some =
           ap₂ (λ us es. at_hand form frame us ∷ pending_duties form frame path' es) grown
-          (popped es new (entry e.level rest) put)
+          (reverse-last es new (entry e.level rest) put)
           ∙ ap (λ us. at_hand form frame (cut ++ s ∷ [])
           ∷ (option_duties form frame us rest ++ pending_duties form frame us (reverse es))) kept
           ∙ sym (cut-duties form
@@ -162,7 +154,7 @@ module _ (frame : Frame) where
   module _ (ws : List Server) (ps qs : List Pending) (n : ℕ) (l : length ws < length frame.demands)
       (count : n ≡ length ws) (put : qs ≡ ps ++ entry n (S.Head 0) ∷ []) where
     all : reverse qs ≡ entry (length ws) (S.Head 0) ∷ reverse ps
-    all = popped ps qs (entry n (S.Head 0)) put ∙ ap (λ k. entry k (S.Head 0) ∷ reverse ps) count
+    all = reverse-last ps qs (entry n (S.Head 0)) put ∙ ap (λ k. entry k (S.Head 0) ∷ reverse ps) count
 
     pub split-fine : AreFine frame ws (reverse ps) → AreFine frame ws (reverse qs)
     split-fine f =

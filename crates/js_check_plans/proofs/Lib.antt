@@ -1,6 +1,3 @@
-mod Grown
-mod Served
-mod Seen
 mod Plans
 mod Options
 mod Placing

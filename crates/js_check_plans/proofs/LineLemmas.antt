@@ -20,7 +20,7 @@ use Rattle.js_check_plans.specs.Reach.{IsPath, heads_of, server_at, served_at}
 use Rattle.js_check_plans.specs.OpenDuties.{after_line, after_at}
 use Rattle.js_check_plans.proofs.DutyLemmas.{by_test, some-left}
 use Rattle.js_check_plans.proofs.Placing.{seen, placed-at}
-use Rattle.js_check_plans.proofs.Plans.{heads-long, size-plan}
+use Rattle.js_plans.proofs.Plans.{heads-long, size-plan}
 
 module _ (T : List Position) (gs : List (List Signed)) (frame : Frame) (ws : List Server) where
   abbrev plan : Plan
@@ -41,7 +41,7 @@ module _ (T : List Position) (gs : List (List Signed)) (frame : Frame) (ws : Lis
       (is_refuted_at T (cites gs) frame (slice_get (placed frame plan) n) (ending e)) 23
 
   heads-are : IsPath frame ws → heads_placed frame plan ≡ heads_of frame (most_used 0 ws) (length (cells_of ws))
-  heads-are path = ap₂ min (size-plan frame ws path) (heads-long frame ws)
+  heads-are path = ap₂ min (size-plan frame ws path.few path.valid) (heads-long frame ws)
 
   pub tail-line : (n h k : ℕ) (e : L.Ending) → IsPath frame ws
       → h ≡ heads_of frame (most_used 0 ws) (length (cells_of ws)) → k ≡ h + n

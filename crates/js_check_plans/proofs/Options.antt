@@ -1,100 +1,22 @@
--- The options of a demand are its choices, and these are the choices from the first slot on.
-use Rattle.std.proofs.Common.{◌≡◌, ℕ, suc, ◌+◌, ◌-◌, ◌<◌, ◌≤◌, List, [], ◌∷◌, ◌++◌, map, filter, length, Bool, true, false, ◌&&◌, not, cond, nat_eq, refl, arith, ap, ap₂, sym, ◌∙◌}
+-- The choices of a demand are those from the first slot on.
+use Rattle.std.proofs.Common.{◌≡◌, ◌+◌, ◌-◌, ◌≤◌, List, ◌++◌, map, length, arith, ap, ◌∙◌}
 use Rattle.std.specs.List.{range_with_len}
-use Rattle.std.proofs.lemmas.List.{map-append}
-use Rattle.goals.specs.Signed.{Signed}
-use Rattle.frames.specs.Frame.{Frame, is_at_end}
-use Rattle.frames.specs.Plan.{Plan, Member, plan, member, serve_head, serve_member, count_in, has_room, servers, options}
-use Rattle.frames.specs.Fillers.{times}
+use Rattle.frames.specs.Frame.{Frame}
 use Rattle.js_plans.specs.declared.server.Server.{Server}
 use Rattle.js_plans.specs.declared.server.Server.TheVariants as V
-use Rattle.js_plans.specs.Serving.{serve, choices, plan_after}
 use Rattle.js_plans.specs.Servers.{cells_of}
 use Rattle.js_plans.specs.Choosing.{next_demand, choices_after, serving_cells, open_cells}
 use Rattle.js_check_plans.specs.declared.choices.Slot.TheVariants as S
 use Rattle.js_check_plans.specs.Slots.{choices_at}
-use Rattle.js_check_plans.proofs.Plans.{heads-long, cells-all}
-
-by_head : (d : Signed) (p : Plan) (xs : List ℕ)
-    → map (λ k. plan (serve_head d p.heads k) p.members) xs ≡ map (serve d p) (map V.Head xs)
-by_head d p [] = refl
-by_head d p (x ∷ xs) = ap (λ ps. plan (serve_head d p.heads x) p.members ∷ ps) (by_head d p xs)
-
-by_member : (d : Signed) (p : Plan) (xs : List ℕ)
-    → map (λ k. plan p.heads (serve_member d p.members k)) xs ≡ map (serve d p) (map V.Member xs)
-by_member d p [] = refl
-by_member d p (x ∷ xs) = ap (λ ps. plan p.heads (serve_member d p.members x) ∷ ps) (by_member d p xs)
-
-by_new : (d : Signed) (p : Plan) (xs : List ℕ)
-    → map (λ c. plan p.heads (p.members ++ member c (d ∷ []) ∷ [])) xs ≡ map (serve d p) (map V.New xs)
-by_new d p [] = refl
-by_new d p (x ∷ xs) = ap (λ ps. plan p.heads (p.members ++ member x (d ∷ []) ∷ []) ∷ ps) (by_new d p xs)
-
-map_append : (f : Server → Plan) (xs ys : List Server) → map f (xs ++ ys) ≡ map f xs ++ map f ys
-map_append f xs ys = map-append f xs ys
-
-pub options-choices : (frame : Frame) (d : Signed) (p : Plan)
-    → options frame d p ≡ map (serve d p) (choices frame d p)
-options-choices frame d p =
-    let hs = range_with_len 0 (length p.heads) in
-    let ms = servers frame d 0 p.members in
-    let cs = filter (λ c. frame.inside d c && has_room frame p.members c) frame.cells in
-    ap₂ (λ xs ys. xs ++ ys)
-    (ap₂ (λ xs ys. xs ++ ys) (by_head d p hs) (by_member d p ms)
-    ∙ sym (map_append (serve d p) (map V.Head hs) (map V.Member ms)))
-    (by_new d p cs)
-    ∙ sym (map_append (serve d p) (map V.Head hs ++ map V.Member ms) (map V.New cs))
-
-pub range-next : (k n : ℕ) → k < n → range_with_len k (n - k) ≡ k ∷ range_with_len (k + 1) (n - (k + 1))
-range-next k n l = step (n - k) (n - (k + 1)) (omega (arith, l)) where
-  step : (i j : ℕ) → i ≡ suc j → range_with_len k i ≡ k ∷ range_with_len (k + 1) j
-  step i j e = ap (range_with_len k) e
-
-pub range-from : (k n : ℕ) → k < n → map V.Head (range_with_len k (n - k))
-    ≡ V.Head k ∷ map V.Head (range_with_len (k + 1) (n - (k + 1)))
-range-from k n l = ap (map V.Head) (range-next k n l)
-
-pub times-cells : (c : ℕ) (ms : List Member) → times c (map (λ m. m.cell) ms) ≡ count_in c ms
-times-cells c [] = refl
-times-cells c (m ∷ ms) = ap (λ n. cond (nat_eq m.cell c) (suc n) n) (times-cells c ms)
+use Rattle.js_plans.proofs.Options as O
 
 module _ (frame : Frame) where
-  serving-members : (d : Signed) (k : ℕ) (ms : List Member)
-      → serving_cells frame d k (map (λ m. m.cell) ms) ≡ map V.Member (servers frame d k ms)
-  serving-members d k [] = refl
-  serving-members d k (m ∷ ms) =
-      let up : k + 1 ≡ suc k = omega arith in
-      ap (λ us. cond (frame.inside d m.cell) (V.Member k ∷ us) us)
-      (ap (λ j. serving_cells frame d j (map (λ m. m.cell) ms)) up ∙ serving-members d (suc k) ms)
-      ∙ go (frame.inside d m.cell) (servers frame d (suc k) ms) where
-        go : (b : Bool) (us : List ℕ) → cond b (V.Member k ∷ map V.Member us) (map V.Member us)
-            ≡ map V.Member (cond b (k ∷ us) us)
-        go true us = refl
-        go false us = refl
-
-  open-members : (d : Signed) (ms : List Member) (cs : List ℕ) → open_cells frame d (map (λ m. m.cell) ms) cs
-      ≡ map V.New (filter (λ c. frame.inside d c && has_room frame ms c) cs)
-  open-members d ms [] = refl
-  open-members d ms (c ∷ cs) =
-      ap₂ (λ n us. cond (frame.inside d c && not (is_at_end n (frame.cap c))) (V.New c ∷ us) us) (times-cells c ms)
-      (open-members d ms cs)
-      ∙ go (frame.inside d c && has_room frame ms c) (filter (λ c. frame.inside d c && has_room frame ms c) cs) where
-        go : (b : Bool) (us : List ℕ) → cond b (V.New c ∷ map V.New us) (map V.New us)
-            ≡ map V.New (cond b (c ∷ us) us)
-        go true us = refl
-        go false us = refl
-
   pub choices-are : (ws : List Server) → length ws ≤ length frame.demands
       → choices_at frame ws (S.Head 0) ≡ choices_after frame ws
   choices-are ws l =
       let d = next_demand frame ws in
-      let p = plan_after frame ws in
       ap (λ n. map V.Head (range_with_len 0 n) ++ serving_cells frame d 0 (cells_of ws)
       ++ open_cells frame d (cells_of ws) frame.cells) whole
-      ∙ ap₂ (λ h cs. (map V.Head (range_with_len 0 h) ++ serving_cells frame d 0 cs) ++ open_cells frame d cs
-      frame.cells)
-      (sym (heads-long frame ws)) (sym (cells-all frame ws l))
-      ∙ ap₂ (λ xs ys. (map V.Head (range_with_len 0 (length p.heads)) ++ xs) ++ ys) (serving-members d 0 p.members)
-      (open-members d p.members frame.cells) where
+      ∙ O.choices-are frame ws l where
         whole : frame.heads - 0 ≡ frame.heads
         whole = omega arith

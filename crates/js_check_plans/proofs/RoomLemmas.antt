@@ -11,8 +11,8 @@ use Rattle.js_plans.specs.Servers.{cells_of, most_used}
 use Rattle.js_plans.specs.Walks.{size_of}
 use Rattle.js_check_plans.specs.Reach.{IsPath}
 use Rattle.js_check_plans.specs.Rooms.{entry_room, rooms_in}
-use Rattle.js_check_plans.proofs.Options.{times-cells}
-use Rattle.js_check_plans.proofs.Plans.{members-count, cells-all, size-plan}
+use Rattle.js_plans.proofs.Options.{times-cells}
+use Rattle.js_plans.proofs.Plans.{members-count, cells-all, size-plan}
 
 plus-zero : (o : Option ℕ) → o ≡ plus (Some 0) o
 plus-zero None = refl
@@ -55,4 +55,5 @@ pub need-path : (frame : Frame) (ws : List Server) → IsPath frame ws → need 
     ≡ max frame.lower (size_of frame (most_used 0 ws) (length (cells_of ws)))
     - (frame.heads + length (cells_of ws))
 need-path frame ws path =
-    ap₂ (λ n m. max frame.lower n - (frame.heads + m)) (size-plan frame ws path) (members-count frame ws path.few)
+    ap₂ (λ n m. max frame.lower n - (frame.heads + m)) (size-plan frame ws path.few path.valid)
+    (members-count frame ws path.few)

@@ -1,10 +1,10 @@
 -- Labels of rows: what tests over all rows tell of each row, and which fault is first.
-use Rattle.std.proofs.Common.{◌≡◌, ◌<◌, ◌≤◌, ◌+◌, ◌*◌, ◌⊎◌, ℕ, zero, suc, min, List, [], ◌∷◌, Bool, true, false, ◌&&◌, cond, nat_eq, nat_le, length, get_or, inl, inr, refl, sym, ◌∙◌, ap, subst, arith}
+use Rattle.std.proofs.Common.{◌≡◌, ◌<◌, ◌≤◌, ◌+◌, ◌*◌, ◌⊎◌, ℕ, zero, suc, min, List, [], ◌∷◌, Bool, true, ◌&&◌, cond, nat_eq, nat_le, length, get_or, inl, inr, refl, sym, ◌∙◌, ap, subst, arith}
 use Rattle.std.specs.List.{range_with_len}
 use Rattle.std.specs.Cmp.{both_ways}
-use Rattle.std.proofs.lemmas.Bool.{and_from, and_parts, le-leb, leb-true, eq-eqb, eqb-true, cases_lt}
-use Rattle.list_laws.proofs.Lists.{every_at, every_from}
-use Rattle.list_laws.proofs.Tests.{in_range, from_range}
+use Rattle.std.proofs.lemmas.Bool.{and_from, and_parts, le-leb, leb-true, eq-eqb, eqb-true, cases_lt, false_from_ne_true}
+use Rattle.list_laws.proofs.Lists.{every_at}
+use Rattle.list_laws.proofs.Tests.{in_range, every_below}
 use Rattle.documents.specs.Tests.{every}
 use Rattle.word_states.specs.Atom.{Atom}
 use Rattle.word_states.specs.Classes.{class_count}
@@ -15,15 +15,8 @@ use Rattle.verdicts.specs.Leaves.{least_right}
 use Rattle.js_check_rows.specs.declared.fault.RowFault.TheVariants as R
 use Rattle.js_check_rows.specs.Labels.{IsFirst, IsAlone, IsPast, IsTooGreat, LeastTells, asked_of, are_kept, BoundTells, AreBounds}
 
-all_below : (p : ℕ → Bool) (n : ℕ) → ((r : ℕ) → r < n → p r ≡ true) → every p (range_with_len 0 n) ≡ true
-all_below p n h = every_from p (range_with_len 0 n) (λ r i. h r (from_range n r i))
-
 at_below : (p : ℕ → Bool) (n r : ℕ) → every p (range_with_len 0 n) ≡ true → r < n → p r ≡ true
 at_below p n r e l = every_at p r (range_with_len 0 n) e (in_range n r l)
-
-never : (b : Bool) → (b ≡ true → ⊥) → b ≡ false
-never false h = refl
-never true h = absurd (h refl)
 
 -- beyond a list stands 0
 pub past_end : (xs : List ℕ) (k : ℕ) → length xs ≤ k → get_or xs k 0 ≡ 0
@@ -45,7 +38,7 @@ module _ (atoms : List Atom) (t : Table (List ℕ)) where
         and_from (nat_eq (length labels) (length t.words))
         (every (λ r. nat_le (asked r) (get_or labels r 0)) (range_with_len 0 (length t.words)))
         (eq-eqb (length labels) (length t.words) e)
-        (all_below (λ r. nat_le (asked r) (get_or labels r 0)) (length t.words)
+        (every_below (λ r. nat_le (asked r) (get_or labels r 0)) (length t.words)
         (λ r l. le-leb (asked r) (get_or labels r 0) (h r l)))
 
     kept_length : are_kept atoms t marks labels ≡ true → length labels ≡ length t.words
@@ -80,21 +73,21 @@ module _ (atoms : List Atom) (t : Table (List ℕ)) where
         → BoundTells atoms t marks labels (R.Capacity r)
     bound_missing r h m l = (
       first_bound r h (inl (inl m)),
-      never (are_kept atoms t marks labels) (λ e. let q = kept_length e in omega (arith, q, m, l)),
+      false_from_ne_true (are_kept atoms t marks labels) (λ e. let q = kept_length e in omega (arith, q, m, l)),
     )
 
     pub bound_extra : (r : ℕ) → AreEnough r → length t.words ≤ r → r < length labels
         → BoundTells atoms t marks labels (R.Capacity r)
     bound_extra r h m l = (
       first_bound r h (inl (inr m)),
-      never (are_kept atoms t marks labels) (λ e. let q = kept_length e in omega (arith, q, m, l)),
+      false_from_ne_true (are_kept atoms t marks labels) (λ e. let q = kept_length e in omega (arith, q, m, l)),
     )
 
     pub bound_small : (r : ℕ) → AreEnough r → r < length t.words → get_or labels r 0 < asked r
         → BoundTells atoms t marks labels (R.Capacity r)
     bound_small r h l m = (
       first_bound r h (inr m),
-      never (are_kept atoms t marks labels) (λ e. let q = kept_at r e l in omega (arith, q, m)),
+      false_from_ne_true (are_kept atoms t marks labels) (λ e. let q = kept_at r e l in omega (arith, q, m)),
     )
 
     -- a row more
@@ -113,9 +106,9 @@ module _ (atoms : List Atom) (t : Table (List ℕ)) where
         ap (λ b. nat_eq (length labels) (length t.words) && b)
         (both_ways (every (λ r. nat_le (asked r) (get_or labels r 0)) (range_with_len 0 (length t.words)))
         (every (keeps T atoms t.words (stated t) C c labels) (range_with_len 0 (length t.words)))
-        (λ e. all_below (keeps T atoms t.words (stated t) C c labels) (length t.words)
+        (λ e. every_below (keeps T atoms t.words (stated t) C c labels) (length t.words)
         (λ r l. sym (same r l) ∙ at_below (λ r. nat_le (asked r) (get_or labels r 0)) (length t.words) r e l))
-        (λ e. all_below (λ r. nat_le (asked r) (get_or labels r 0)) (length t.words)
+        (λ e. every_below (λ r. nat_le (asked r) (get_or labels r 0)) (length t.words)
         (λ r l. same r l ∙ at_below (keeps T atoms t.words (stated t) C c labels) (length t.words) r e l))) where
           same : (r : ℕ) → r < length t.words
               → nat_le (asked r) (get_or labels r 0) ≡ keeps T atoms t.words (stated t) C c labels r
@@ -143,7 +136,7 @@ module _ (atoms : List Atom) (t : Table (List ℕ)) where
         (eq-eqb (length labels) (length t.words) e)
         (and_from (nat_eq (get_or labels 0 0) 0) (every fit (range_with_len 0 (length t.words)))
         (eq-eqb (get_or labels 0 0) 0 z)
-        (all_below fit (length t.words) (λ r l. all_below (fits r) (class_count atoms)
+        (every_below fit (length t.words) (λ r l. every_below (fits r) (class_count atoms)
         (λ k m. le-leb (get_or labels (stated t r k) 0) (suc (get_or labels r 0))
         (let q = h r k l m in omega (arith, q))))))
 
@@ -195,7 +188,7 @@ module _ (atoms : List Atom) (t : Table (List ℕ)) where
               | inr (inr p) ↦ past q m p
             ],
           ),
-          never (least_right [] [] atoms t labels) (λ e. bad is e),
+          false_from_ne_true (least_right [] [] atoms t labels) (λ e. bad is e),
         ) where
           past : (q : ℕ) → q < first → IsPast atoms t labels q → ⊥
           past q m p =

@@ -1,5 +1,5 @@
 -- Whether the least lengths of all rows are past the bound, by those of each row.
-use Rattle.std.proofs.Common.{◌≡◌, ◌<◌, ℕ, List, [], Bool, true, false, ◌||◌, not, length, get_or, refl, sym, ◌∙◌}
+use Rattle.std.proofs.Common.{◌≡◌, ◌<◌, ℕ, List, [], Bool, true, false, ◌||◌, not, length, get_or, sym, ◌∙◌}
 use Rattle.std.specs.List.{range_with_len}
 use Rattle.list_laws.proofs.Lists.{every_at, every_from}
 use Rattle.list_laws.proofs.Tests.{in_range, from_range}
@@ -9,6 +9,7 @@ use Rattle.frames.specs.Frame.{is_at_end}
 use Rattle.finders.specs.Strings.{below, is_wanted}
 use Rattle.verdicts.specs.RowLines.{Table}
 use Rattle.verdicts.specs.Leaves.{least_past}
+use Rattle.std.proofs.lemmas.Bool.{false_from_ne_true}
 
 module _ (T : List Position) (set : List Signed) (t : Table (List ℕ)) (ds : List ℕ) where
   -- the row isn't wanted, or its label is past the bound
@@ -20,10 +21,6 @@ module _ (T : List Position) (set : List Signed) (t : Table (List ℕ)) (ds : Li
       every_from row_past (range_with_len 0 (length t.words)) (λ r i. h r (from_range (length t.words) r i))
 
   pub one_left : (r : ℕ) → r < length t.words → row_past r ≡ false → least_past T set t ds ≡ false
-  one_left r l e = never (least_past T set t ds) (λ h. cc (sym (at h) ∙ e)) where
+  one_left r l e = false_from_ne_true (least_past T set t ds) (λ h. cc (sym (at h) ∙ e)) where
     at : least_past T set t ds ≡ true → row_past r ≡ true
     at h = every_at row_past r (range_with_len 0 (length t.words)) h (in_range (length t.words) r l)
-
-    never : (b : Bool) → (b ≡ true → ⊥) → b ≡ false
-    never false h = refl
-    never true h = absurd (h refl)

@@ -1,7 +1,7 @@
 -- The choices that are left, after a rule is put off and after a choice is taken to hand.
 use Rattle.std.proofs.Common.{◌≡◌, ◌+◌, ◌<◌, ◌≤◌, Bool, true, false, cond, ◌&&◌, nat_le, List, [], ◌∷◌, ◌++◌, take, drop, length, reverse, arith, ap, ap₂, sym, ◌∙◌}
 use Rattle.std.proofs.lemmas.Bool.{and_parts, and_from, leb-true, le-leb}
-use Rattle.std.proofs.lemmas.List.{reverse-append, drop_more, take-take, length-take-le}
+use Rattle.std.proofs.lemmas.List.{drop_more, take-take, length-take-le}
 use Rattle.documents.specs.Kind.{Kind}
 use Rattle.positions.specs.Position.{Position}
 use Rattle.goals.specs.Signed as G
@@ -13,9 +13,7 @@ use Rattle.js_algebra.specs.SignedSets.{set_of, with_members}
 use Rattle.js_algebra.proofs.Grown.{set-with_members, length-with_members, take-with_members}
 use Rattle.js_check_trees.specs.Choosing.{choices_of, choice_at, choice_duties, duties_left, are_fine}
 use Rattle.js_check_trees.specs.declared.pending.Pending.{Pending}
-
-reverse-push : {A : Type 0} (xs : List A) (x : A) → reverse (xs ++ x ∷ []) ≡ x ∷ reverse xs
-reverse-push xs x = reverse-append xs (x ∷ [])
+use Rattle.list_laws.proofs.Lists.{reverse-last}
 
 -- the set that a tree begins with is the goal
 pub first_set : (g ms ws gs : List G.Signed) → is_rising g ≡ true → ms ≡ with_members gs ws → ws ≡ [] → gs ≡ g
@@ -32,7 +30,7 @@ module _ (T : List Position) (t : Kind) where
   module _ (xs : List G.Signed) (es old : List Pending) (e : Pending) (popped : old ≡ es ++ e ∷ [])
       (fine : are_fine T (length xs) (reverse old) ≡ true) where
     turned : reverse old ≡ e ∷ reverse es
-    turned = ap reverse popped ∙ reverse-push es e
+    turned = reverse-last es old e popped
 
     head_fine : (nat_le e.members (length xs) && is_in_table T (signed_view e.rule)) ≡ true
     head_fine = (and_parts (nat_le e.members (length xs) && is_in_table T (signed_view e.rule))
@@ -70,7 +68,7 @@ module _ (T : List Position) (t : Kind) where
       longer = omega (arith, length-back, length-with_members C (take e.members xs), ap length all)
 
       new_turned : reverse new ≡ record { members = e.members; rule = e.rule; next = e.next + 1 } ∷ reverse es
-      new_turned = ap reverse put ∙ reverse-push es _
+      new_turned = reverse-last es new _ put
 
       pub next_fine : are_fine T (length zs) (reverse new) ≡ true
       next_fine =

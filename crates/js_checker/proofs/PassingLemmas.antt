@@ -1,6 +1,6 @@
 -- An entry that was checked by itself leads on as its lines do one after another.
-use Rattle.std.proofs.Common.{◌≡◌, ℕ, suc, ◌+◌, ◌<◌, List, [], ◌∷◌, ◌++◌, length, drop, get_or, nat_lt, Bool, true, false, not, ◌&&◌, Result, Ok, Err, refl, ap, ap₂, sym, ◌∙◌, subst, append_assoc, arith}
-use Rattle.std.proofs.lemmas.Bool.{and_parts, true≢false}
+use Rattle.std.proofs.Common.{◌≡◌, ℕ, suc, ◌+◌, ◌<◌, List, [], ◌∷◌, ◌++◌, length, drop, get_or, nat_lt, true, false, not, ◌&&◌, Result, Ok, Err, refl, ap, ap₂, sym, ◌∙◌, subst, append_assoc, arith}
+use Rattle.std.proofs.lemmas.Bool.{and_parts, true≢false, not-true}
 use Rattle.std.proofs.lemmas.Bool.Decides.{nat_tests}
 use Rattle.positions.specs.Position.{Position}
 use Rattle.goals.specs.Signed.{Signed}
@@ -66,14 +66,10 @@ showing_is P.Counting e = cc
 showing_is (P.Listing n) e = cc
 showing_is P.Ended e = cc
 
-not_true : (b : Bool) → not b ≡ true → b ≡ false
-not_true false e = refl
-not_true true e = cc
-
 between : (j : Judge) → is_between j ≡ true → (j.progress ≡ P.Showing) × (is_busy j.entry ≡ false)
 between j e =
     let parts = and_parts (is_showing j.progress) (not (is_busy j.entry)) e in
-    (showing_is j.progress parts.0, not_true (is_busy j.entry) parts.1)
+    (showing_is j.progress parts.0, not-true (is_busy j.entry) parts.1)
 
 -- the judge that passed the entry
 module _ (T : List Position) (j k : Judge) (n : ℕ) (ls : List Line) (idle : is_between j ≡ true)

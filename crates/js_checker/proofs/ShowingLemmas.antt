@@ -1,5 +1,5 @@
 -- Lines while the listed goals are shown.
-use Rattle.std.proofs.Common.{◌≡◌, ℕ, suc, ◌+◌, ◌<◌, ◌≤◌, List, [], ◌∷◌, ◌++◌, map, length, drop, get_or, nat_eq, Bool, true, false, Result, Ok, Err, refl, ap, sym, ◌∙◌, append-nil, arith, eq-eqb}
+use Rattle.std.proofs.Common.{◌≡◌, ℕ, suc, ◌+◌, ◌<◌, ◌≤◌, List, [], ◌∷◌, ◌++◌, map, length, drop, get_or, nat_eq, Bool, true, false, Result, Ok, Err, ap, sym, ◌∙◌, append-nil, arith}
 use Rattle.std.proofs.lemmas.List.{drop_more}
 use Rattle.std.proofs.lemmas.Bool.Decides.{nat_tests}
 use Rattle.std.proofs.Math.ListN.{drop_of_length-le}
@@ -17,6 +17,7 @@ use Rattle.js_rules.specs.Told.{Breaks}
 use Rattle.js_rules.specs.declared.fault.RuleFault.{RuleFault}
 use Rattle.js_rules.specs.declared.fault.RuleFault.TheVariants as F
 use Rattle.js_checker.specs.Duties.{any_left, Leaves, Faults}
+use Rattle.list_laws.proofs.Numbers.{nat_eq-refl}
 
 module _ (T : List Position) (a b : ℕ) (gs : List (List Signed)) where
   -- a line that leaves duties
@@ -57,11 +58,8 @@ module _ (T : List Position) (a b : ℕ) (gs : List (List Signed)) where
   entered n es h e =
       ap (λ ds. step T a b (Showing gs ds) (L.Entry n)) (next_goal n h)
       ∙ ap (λ c. and_then (λ xs. Ok (Showing gs (xs ++ left_from (n + 1))))
-      (if_so other_entry c (map (λ t. AtKind t (get_or gs n [])) all_kinds))) (same n)
+      (if_so other_entry c (map (λ t. AtKind t (get_or gs n [])) all_kinds))) (nat_eq-refl n)
       ∙ ap (λ xs. Ok (Showing gs (xs ++ left_from (n + 1)))) (sym e)
-    where
-      same : (m : ℕ) → nat_eq m m ≡ true
-      same m = eq-eqb m m refl
 
   pub other_entered : (n m : ℕ) → n < length gs → (n ≡ m → ⊥)
       → step T a b (Showing gs (left_from n)) (L.Entry m) ≡ Err other_entry

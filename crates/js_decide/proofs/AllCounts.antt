@@ -9,18 +9,16 @@ use Rattle.alternatives.specs.Alternative.{named, places}
 use Rattle.alternatives.specs.Limit.{LimitKind, Goals, Total}
 use Rattle.alternatives.specs.Expansion.{Expansion, first_limit}
 use Rattle.search.specs.Explored.{Found, found, is_listed, mention, mention_goals, take_goal, step, after, explored}
-use Rattle.decision_laws.proofs.Full.{IsKept, explored_kept}
+use Rattle.decision_laws.proofs.Full.{IsKept, explored_kept, not_total}
 use Rattle.js_decide.specs.Counted.{all_places, PassesAll}
-
-some_same : {A : Type 0} (x y : A) → Some x ≡ Some y → x ≡ y
-some_same x y e = cc
+use Rattle.std.proofs.lemmas.Option.{same_Some}
 
 -- what is taken with one more
 take_next : {A : Type 0} (n : ℕ) (xs ys : List A) (x : A) → slice_get xs n ≡ Some x
     → take (suc n) (xs ++ ys) ≡ take n xs ++ x ∷ []
 take_next zero [] ys x e = cc
 take_next (suc n) [] ys x e = cc
-take_next zero (z ∷ xs) ys x e = ap (λ y. y ∷ []) (some_same z x e)
+take_next zero (z ∷ xs) ys x e = ap (λ y. y ∷ []) (same_Some z x e)
 take_next (suc n) (z ∷ xs) ys x e = ap (λ l. z ∷ l) (take_next n xs ys x e)
 
 goals_first : (o : Option LimitKind) → first_limit o Goals ≡ Some Goals → (o ≡ None) ⊎ (o ≡ Some Goals)
@@ -30,10 +28,6 @@ goals_first (Some j) e = inr e
 not_goals : (o : Option LimitKind) → first_limit o Goals ≡ Some Total → o ≡ Some Total
 not_goals None e = cc
 not_goals (Some j) e = e
-
-not_total : (o : Option LimitKind) → first_limit o Total ≡ Some Goals → o ≡ Some Goals
-not_total None e = cc
-not_total (Some j) e = e
 
 module _ (most : ℕ) where
   -- what mentions change
@@ -209,7 +203,7 @@ module _ (most : ℕ) where
       never_heavy : s.places + places (expansion g).alternatives ≤ most_total → s.over ≡ Some Total → ⊥
       never_heavy l o =
           let k = h.total o in
-          let same : k.goal ≡ g = some_same k.goal g (sym k.at ∙ at) in
+          let same : k.goal ≡ g = same_Some k.goal g (sym k.at ∙ at) in
           let many = subst (λ x. most_total < s.places + places (expansion x).alternatives) same k.many in
           omega (arith, l, many)
 

@@ -31,9 +31,7 @@ use Rattle.js_decide.specs.declared.verdict.Decided.{Decided}
 use Rattle.js_decide.proofs.Shallow.{shallow}
 use Rattle.js_decide.proofs.GoalCounts.{goal_counted}
 use Rattle.js_decide.proofs.AllCounts.{all_counted}
-
-same_goal : (g h : List Signed) → Some g ≡ Some h → g ≡ h
-same_goal g h e = cc
+use Rattle.std.proofs.lemmas.Option.{same_Some}
 
 -- the hole of a number is that of its goal
 hole_at_goal : (expansion : List Signed → Expansion) (f : Found) (n : ℕ) (k : LimitKind) (g : List Signed)
@@ -41,7 +39,7 @@ hole_at_goal : (expansion : List Signed → Expansion) (f : Found) (n : ℕ) (k 
 hole_at_goal expansion f n k g at hole = go (nat_lt n f.taken) (slice_get f.goals n) at hole where
   go : (b : Bool) (o : Option (List Signed)) → o ≡ Some g → cond b (hole_at expansion f o) None ≡ Some k
       → (expansion g).hole ≡ Some k
-  go true (Some h) p q = subst (λ z. (expansion z).hole ≡ Some k) (same_goal h g p) q
+  go true (Some h) p q = subst (λ z. (expansion z).hole ≡ Some k) (same_Some h g p) q
   go true None p q = cc
   go false o p q = cc
 

@@ -1,13 +1,13 @@
 -- The hole of a goal means that the count which the limit names is over its number.
-use Rattle.std.proofs.Common.{◌≡◌, ℕ, zero, suc, ◌+◌, ◌<◌, ◌≤◌, ◌⊎◌, inl, inr, ⊎_elim, Bool, true, false, cond, nat_lt, List, [], ◌∷◌, ◌++◌, flat_map, get_or, length, Option, Some, None, Result, Ok, Err, slice_get, refl, ap, sym, ◌∙◌, subst, arith}
+use Rattle.std.proofs.Common.{◌≡◌, ℕ, zero, suc, ◌+◌, ◌<◌, ◌≤◌, ◌⊎◌, inl, inr, ⊎_elim, Bool, true, false, cond, nat_lt, List, [], ◌∷◌, ◌++◌, flat_map, get_or, length, Option, Some, None, Result, Ok, Err, slice_get, refl, ap, sym, ◌∙◌, subst, zero-add}
 use Rattle.std.specs.List.{list_all, IsDistinct}
-use Rattle.std.proofs.lemmas.Bool.{and_from, ltb-true, ltb-false}
+use Rattle.std.proofs.lemmas.Bool.{ltb-true, ltb-false}
 use Rattle.documents.specs.Kind as K
 use Rattle.documents.specs.Kind.{Kind, all_kinds}
 use Rattle.documents.specs.Tests.{some}
 use Rattle.list_laws.specs.In.{IsIn}
 use Rattle.list_laws.proofs.Lists.{from_map, in_get, in_right, from_flat_map}
-use Rattle.list_laws.proofs.Tests.{some_find}
+use Rattle.list_laws.proofs.Tests.{some_find, all_from}
 use Rattle.patterns.specs.CharSet.{is_scalar}
 use Rattle.word_states.specs.Atom.{Atom}
 use Rattle.word_states.specs.AtomPositions.{positions_of}
@@ -46,21 +46,12 @@ use Rattle.finders.specs.Strings.{lower, below, string_atoms, string_found}
 use Rattle.finders.specs.Names.{atoms_of_names, names_found, cells_of}
 use Rattle.js_expander.specs.Found.{finders, leaf_of, goal_expansion}
 use Rattle.js_decide.specs.Counted.{HaveManyStates, OfBranch, OfAtoms, OfNumbers, HasManyParts, HasManyPlans, HasWide, Passes}
-
-some_limit : (k l : LimitKind) → Some k ≡ Some l → k ≡ l
-some_limit k l e = cc
+use Rattle.std.proofs.lemmas.Option.{same_Some}
 
 err_same : {A : Type 0} (k l : LimitKind) (r : Result A LimitKind) → r ≡ Err k → r ≡ Err l → k ≡ l
 err_same k l r a b = cc
 
 -- an automaton's limits
-
-all_words : (K : List (List ℕ)) → ((w : List ℕ) → IsIn w K → list_all is_scalar w ≡ true)
-    → list_all (list_all is_scalar) K ≡ true
-all_words [] h = refl
-all_words (w ∷ K) h =
-    and_from (list_all is_scalar w) (list_all (list_all is_scalar) K) (h w (inl refl))
-    (all_words K (λ v i. h v (inr i)))
 
 module _ (atoms : List Atom) where
   abbrev Rows : ℕ → List (List ℕ)
@@ -110,7 +101,7 @@ module _ (atoms : List Atom) where
   row_states n = (
     Rows n,
     refl,
-    all_words (Rows n) (row_words n),
+    (all_from (list_all is_scalar) (Rows n)) (row_words n),
     rows_apart n,
   )
 
@@ -130,11 +121,11 @@ module _ (atoms : List Atom) where
             → cond a (Some L.Positions) (cond b (Some L.Classes) (cond c (Some L.States) None)) ≡ Some l
             → AtomsPass most l
         go true b c p q r e =
-            subst (AtomsPass most) (some_limit L.Positions l e) (ltb-true most_positions (positions_of atoms) p)
+            subst (AtomsPass most) (same_Some L.Positions l e) (ltb-true most_positions (positions_of atoms) p)
         go false true c p q r e =
-            subst (AtomsPass most) (some_limit L.Classes l e) (ltb-true most_classes (class_count atoms) q)
+            subst (AtomsPass most) (same_Some L.Classes l e) (ltb-true most_classes (class_count atoms) q)
         go false false true p q r e =
-            subst (AtomsPass most) (some_limit L.States l e)
+            subst (AtomsPass most) (same_Some L.States l e)
             (length (Rows most), ltb-true most (length (Rows most)) r, row_states most)
         go false false false p q r e = cc
 
@@ -239,9 +230,6 @@ module _ (T : List Position) where
       answer_from r i =
           let (t, u, v) = from_flat_map (at_kind T (leaf_of T) g) r all_kinds i in
           go t (nat_lt most_ends (G.ends (G.steps T t g))) refl v where
-            plus : (k : ℕ) → 0 + k ≡ k
-            plus k = omega arith
-
             go : (t : Kind) (b : Bool) → nat_lt most_ends (G.ends (G.steps T t g)) ≡ b
                 → IsIn r (cond b (Err L.Branches ∷ []) (from_branch T (leaf_of T) t 0 (G.branches (G.steps T t g))))
                 → IsOver r ⊎ IsOf r
@@ -255,7 +243,7 @@ module _ (T : List Position) where
                   set = S;
                   few = ltb-false most_ends (G.ends (G.steps T t g)) p;
                   at = at;
-                  is = e ∙ ap (λ z. leaf_of T t z S) (plus k);
+                  is = e ∙ ap (λ z. leaf_of T t z S) (zero-add k);
                 })
 
       err_passes : (l : LimitKind) (r : Answer) → r ≡ Err l → IsOver r ⊎ IsOf r → Passes T g l

@@ -24,7 +24,7 @@ use Rattle.search.specs.Witness.{place_in, parts}
 use Rattle.search_laws.proofs.Answers.{Least, answer_least, last_answer, last_least, before_too}
 use Rattle.search_laws.proofs.Witness.{IsWitness, witness_made}
 use Rattle.decisions.specs.Decision.{Verdict, Document, Limit, NoDocument, of_root, root_of}
-use Rattle.decision_laws.proofs.Decisions.{Decision, RootSays, root_says}
+use Rattle.decision_laws.proofs.Decisions.{Decision, RootSays, root_says, no_document}
 use Rattle.js_decide.specs.Shallow.{IsFirstRound, IsNoDeeper, IsShallow}
 
 -- the round of an answer is the first one that has the goal
@@ -45,9 +45,6 @@ answer_within expansion f k i e =
     let l : Least expansion f (last_round expansion f) 0 k i =
     answer_least expansion f (last_round expansion f) 0 k i (sym same ∙ e) in
     l.within
-
-no_document : (ps : List Part) (i : ℕ) → Document ps i ≡ NoDocument → ⊥
-no_document ps i e = cc
 
 module _ (F : Finders) (T : List Position) (most most_places a b : ℕ) (ok : IsTable T)
     (numbers : IsFinder T K.Number (words_of F K.Number) Number F.numbers)

@@ -1,6 +1,6 @@
 -- The least number above all numbers that a part names: what falls as unsharing goes down.
 use Rattle.std.proofs.Common.{◌≡◌, ℕ, zero, suc, ◌<◌, ◌≤◌, max, List, [], ◌∷◌, map, length, get_or, true, nat_lt, refl, subst, arith}
-use Rattle.std.proofs.lemmas.Bool.{and_parts, and_from}
+use Rattle.std.proofs.lemmas.Bool.{and_parts, and_from, ltb-true, lt-ltb}
 use Rattle.std.proofs.lemmas.List.{get_or-map}
 use Rattle.std.proofs.Math.ListN.{length-map}
 use Rattle.documents.specs.Tests.{every}
@@ -9,19 +9,13 @@ pub above_all : List ℕ → ℕ
 above_all [] = 0
 above_all (i ∷ is) = max (suc i) (above_all is)
 
-less_by : (i n : ℕ) → nat_lt i n ≡ true → i < n
-less_by i n h = grind (arith, h)
-
-test_less : (i n : ℕ) → i < n → nat_lt i n ≡ true
-test_less i n h = grind (arith, h)
-
 -- numbers below n
 pub above_all-below : (n : ℕ) (is : List ℕ) → every (λ i. nat_lt i n) is ≡ true → above_all is ≤ n
 unfolding above_all
 above_all-below n [] h = omega arith
 above_all-below n (i ∷ is) h =
     let both = and_parts (nat_lt i n) (every (λ j. nat_lt j n) is) h in
-    let first = less_by i n both.0 in
+    let first = ltb-true i n both.0 in
     let rest = above_all-below n is both.1 in
     omega (arith, first, rest)
 
@@ -46,6 +40,6 @@ pub every-more : (n m : ℕ) (is : List ℕ) → n ≤ m → every (λ i. nat_lt
 every-more n m [] le h = refl
 every-more n m (i ∷ is) le h =
     let both = and_parts (nat_lt i n) (every (λ j. nat_lt j n) is) h in
-    let first = less_by i n both.0 in
-    and_from (nat_lt i m) (every (λ j. nat_lt j m) is) (test_less i m (omega (arith, first, le)))
+    let first = ltb-true i n both.0 in
+    and_from (nat_lt i m) (every (λ j. nat_lt j m) is) (lt-ltb i m (omega (arith, first, le)))
     (every-more n m is le both.1)

@@ -1,7 +1,7 @@
 -- Tables of parts as the program holds them.
 use Rattle.std.proofs.Common.{◌≡◌, ℕ, suc, ◌<◌, ◌≤◌, List, [], ◌∷◌, ◌++◌, map, length, get_or, take, None, true, nat_lt, refl, sym, ap, subst, ◌∙◌, arith}
 use Rattle.std.proofs.Math.ListN.{length-map}
-use Rattle.std.proofs.lemmas.List.{get_or-map, take_all}
+use Rattle.std.proofs.lemmas.List.{get_or-map, take_all, map_push}
 use Rattle.documents.specs.Tests.{every}
 use Rattle.documents.specs.Document as D
 use Rattle.shared_documents.specs.Part as P
@@ -14,6 +14,7 @@ use Rattle.js_doc.specs.declared.parts.PartMember.{PartMember}
 use Rattle.js_doc.specs.PartMembers.{number_of, member_view}
 use Rattle.js_doc.specs.PartView.{part_view, AreParts}
 use Rattle.js_doc.proofs.NumbersAbove.{above_all, above_all-below, mapped-above_all, every-more}
+use Rattle.std.proofs.lemmas.Simd.{map-map}
 
 -- the part at a place of a table
 pub part-found : (ps : List Part) (table : List P.Part) (i k : ℕ) (p : Part) → P.is_table (map part_view ps) ≡ true
@@ -25,10 +26,6 @@ part-found ps table i k p h view within index is =
     subst (P.IsPart i) (sym at)
     (part_at-table (map part_view ps) i h (omega (arith, ap length view, within)))
 
-mapped-pushed : {A B : Type 0} (f : A → B) (xs : List A) (x : A) → map f (xs ++ x ∷ []) ≡ map f xs ++ f x ∷ []
-mapped-pushed f [] x = refl
-mapped-pushed f (y ∷ xs) x = ap (λ zs. f y ∷ zs) (mapped-pushed f xs x)
-
 length-pushed : {A : Type 0} (xs : List A) (x : A) → length (xs ++ x ∷ []) ≡ suc (length xs)
 length-pushed [] x = refl
 length-pushed (y ∷ xs) x = ap suc (length-pushed xs x)
@@ -39,7 +36,7 @@ pub AreParts-pushed : (ps qs : List Part) (table : List P.Part) (p : Part) (coun
     → P.first_forward count (part_view p) ≡ None → P.names_rise (part_view p) ≡ true → AreParts (map part_view qs)
 AreParts-pushed ps qs table p count view are number room pushed none rises =
     let seen = map part_view ps in
-    let same : map part_view qs ≡ seen ++ part_view p ∷ [] = ap (map part_view) pushed ∙ mapped-pushed part_view ps p in
+    let same : map part_view qs ≡ seen ++ part_view p ∷ [] = ap (map part_view) pushed ∙ map_push part_view ps p in
     let last : count ≡ length seen = number ∙ sym (length-map ps part_view) in
     let below = below-none_forward (length seen) (part_view p)
     (ap (λ n. P.first_forward n (part_view p)) (sym last) ∙ none) in
@@ -80,14 +77,10 @@ pub members_below : (i n : ℕ) (p : Part) (ms : List (List ℕ × ℕ)) → P.I
     → p ≡ V.Members ms → AreBelow i n (map (λ m. m.1) ms)
 members_below i n p ms part within e = named_below i n p (V.Members ms) part within e
 
-pub mapped-twice : {A B C : Type 0} (f : B → C) (g : A → B) (xs : List A) → map (λ x. f (g x)) xs ≡ map f (map g xs)
-mapped-twice f g [] = refl
-mapped-twice f g (x ∷ xs) = ap (λ zs. f (g x) ∷ zs) (mapped-twice f g xs)
-
 -- the documents of a list of parts, by their numbers
 pub mapped_numbers : {A B C : Type 0} (f : B → C) (g : A → B) (xs : List A) (is : List B) → map g xs ≡ is
     → map (λ x. f (g x)) xs ≡ map f is
-mapped_numbers f g xs is e = mapped-twice f g xs ∙ ap (map f) e
+mapped_numbers f g xs is e = sym (map-map f g xs) ∙ ap (map f) e
 
 -- and the documents of members, by their names and numbers
 pub mapped_members : (f : ℕ → D.Document) (ms : List PartMember) (ns : List (List ℕ × ℕ)) → map member_view ms ≡ ns

@@ -5,7 +5,7 @@ use Rattle.std.specs.Int.Signed.{lt_z}
 use Rattle.std.specs.List.{AllZip, list_any, count_by}
 use Rattle.std.specs.List.Sorted.{IsSorted, IsPartitionPoint}
 use Rattle.std.specs.Ordering.{is_lt, int_cmp, int_eq}
-use Rattle.std.proofs.lemmas.Bool.{cases_lt}
+use Rattle.std.proofs.lemmas.Bool.{cases_lt, false_from_ne_true}
 use Rattle.std.proofs.lemmas.Bool.Decides.{Decides-int_eq}
 use Rattle.std.proofs.lemmas.Cmp.{int_cmp_total}
 use Rattle.std.proofs.lemmas.Int.{ints}
@@ -13,10 +13,6 @@ use Rattle.std.proofs.lemmas.List.Folds.{list_any_at}
 use Rattle.std.proofs.lemmas.List.Sorted.{sorted_far, ranks_by}
 use Rattle.std.proofs.lemmas.List.Sums.{sum_by-cons}
 use Rattle.js_doc.specs.Numbers.{has, count_below, rank_of, IsSortedCopy}
-
-false_unless : (b : Bool) → (b ≡ true → ⊥) → b ≡ false
-false_unless false h = refl
-false_unless true h = absurd (h refl)
 
 -- ---- a copy
 
@@ -118,7 +114,7 @@ pub rank_of-none : (xs s : List ℤ) (n : ℤ) (i : ℕ) → IsSortedCopy xs s
     → ((d : ℤ) → i < length s → get_or s i d ≡ n → ⊥) → None ≡ rank_of xs n
 rank_of-none xs s n i h p other =
     let nowhere = list_any_nowhere (λ y. int_eq y n) s (λ k d l.
-    false_unless (int_eq (get_or s k d) n) (λ e. at k d l ((Decides-int_eq (get_or s k d) n).0 e))) in
+    false_from_ne_true (int_eq (get_or s k d) n) (λ e. at k d l ((Decides-int_eq (get_or s k d) n).0 e))) in
     sym (rank_by xs n false (sym (h.same_any (λ y. int_eq y n)) ∙ nowhere))
   where
     at : (k : ℕ) (d : ℤ) → k < length s → get_or s k d ≡ n → ⊥

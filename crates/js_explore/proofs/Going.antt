@@ -1,26 +1,20 @@
 -- What holds after each answer, and that the answers are then those of an expansion of each goal.
 use Rattle.std.proofs.Common.{◌≡◌, ℕ, zero, suc, ◌+◌, ◌≤◌, ◌<◌, ◌⊎◌, inl, inr, List, [], ◌∷◌, ◌++◌, length, Bool, true, false, cond, nat_lt, Option, Some, None, slice_get, refl, ap, sym, ◌∙◌, subst, arith, length-append}
 use Rattle.std.proofs.lemmas.Bool.{and_parts, and_from, ltb-true, ltb-false}
-use Rattle.std.proofs.lemmas.Option.{slice_get_past, slice_get_within}
+use Rattle.std.proofs.lemmas.Option.{slice_get_past, slice_get_within, same_Some}
 use Rattle.documents.specs.Tests.{every}
 use Rattle.goals.specs.Signed.{Signed}
 use Rattle.alternatives.specs.Alternative.{named, places}
-use Rattle.alternatives.specs.Limit.{Goals, Total}
+use Rattle.alternatives.specs.Limit.{Total}
 use Rattle.alternatives.specs.Expansion.{Expansion, first_limit}
-use Rattle.search.specs.Explored.{Found, found, is_listed, mention, mention_goals}
+use Rattle.search.specs.Explored.{Found, found, mention, mention_goals}
 use Rattle.search.specs.Rounds.{alternatives_at, hole_at}
 use Rattle.js_explore.specs.Exploration.{Exploration, Explores, GoesOn, exploration, answer_to, alternatives_in, hole_in, is_settled, with_answer}
-use Rattle.js_explore.proofs.Settled.{get_before, every_both, keeps_all, settles_all, every_settled, numbered_kept}
-
--- what all of a list pass is passed by what stands at a place
-pub every_get : {A : Type 0} (p : A → Bool) (xs : List A) (i : ℕ) (x : A) → every p xs ≡ true
-    → slice_get xs i ≡ Some x → p x ≡ true
-every_get p [] i x e f = cc
-every_get p (y ∷ ys) zero x e f = let (a, b) = and_parts (p y) (every p ys) e in cc
-every_get p (y ∷ ys) (suc i) x e f = every_get p ys i x (and_parts (p y) (every p ys) e).1 f
-
-some_same : {A : Type 0} {x y : A} → Some x ≡ Some y → x ≡ y
-some_same e = cc
+use Rattle.js_explore.proofs.Settled.{keeps_all, settles_all, every_settled, numbered_kept}
+use Rattle.list_laws.proofs.Numbers.{below_suc}
+use Rattle.list_laws.proofs.Lists.{slice_get-append}
+use Rattle.list_laws.proofs.Every.{every-append}
+use Rattle.search_laws.proofs.Whole.{mention_cases, taken_kept}
 
 get_last : {A : Type 0} (xs : List A) (x : A) (i : ℕ) → i ≡ length xs → slice_get (xs ++ x ∷ []) i ≡ Some x
 get_last [] x zero e = refl
@@ -28,43 +22,19 @@ get_last [] x (suc i) e = absurd (omega (arith, e))
 get_last (y ∷ xs) x zero e = absurd (omega (arith, e))
 get_last (y ∷ xs) x (suc i) e = get_last xs x i (omega (arith, e))
 
-below : (n m : ℕ) → n < suc m → (n < m) ⊎ (n ≡ m)
-below zero zero l = inr refl
-below zero (suc m) l = inl (omega arith)
-below (suc n) zero l = absurd (omega (arith, l))
-below (suc n) (suc m) l = go (below n m (omega (arith, l))) where
-  go : (n < m) ⊎ (n ≡ m) → (suc n < suc m) ⊎ (suc n ≡ suc m)
-  go (inl k) = inl (omega (arith, k))
-  go (inr e) = inr (ap suc e)
-
 module _ (most : ℕ) where
-  -- what one mention keeps
-  mention_cases : (P : Found → Type 0) (s : Found) (g : List Signed) → P s
-      → P (found (s.goals ++ g ∷ []) s.taken s.places s.over)
-      → P (found s.goals s.taken s.places (first_limit s.over Goals)) → P (mention most s g)
-  mention_cases P s g p q r = go (is_listed s.goals g) (nat_lt (length s.goals) most) where
-    go : (a b : Bool) → P (cond a s (cond b (found (s.goals ++ g ∷ []) s.taken s.places s.over)
-        (found s.goals s.taken s.places (first_limit s.over Goals))))
-    go true b = p
-    go false true = q
-    go false false = r
-
-  pub taken_kept : (s : Found) (xs : List (List Signed)) → (mention_goals most s xs).taken ≡ s.taken
-  taken_kept s [] = refl
-  taken_kept s (x ∷ xs) = taken_kept (mention most s x) xs ∙ mention_cases (λ t. t.taken ≡ s.taken) s x refl refl refl
-
   pub places_kept : (s : Found) (xs : List (List Signed)) → (mention_goals most s xs).places ≡ s.places
   places_kept s [] = refl
   places_kept s (x ∷ xs) =
-      places_kept (mention most s x) xs ∙ mention_cases (λ t. t.places ≡ s.places) s x refl refl refl
+      places_kept (mention most s x) xs ∙ mention_cases most (λ t. t.places ≡ s.places) s x refl refl refl
 
   every_kept : (p : List Signed → Bool) (s : Found) (xs : List (List Signed)) → every p s.goals ≡ true
       → every p xs ≡ true → every p (mention_goals most s xs).goals ≡ true
   every_kept p s [] e f = e
   every_kept p s (x ∷ xs) e f =
       let (a, b) = and_parts (p x) (every p xs) f in
-      every_kept p (mention most s x) xs (mention_cases (λ t. every p t.goals ≡ true) s x e
-      (every_both p s.goals (x ∷ []) e (and_from _ _ a refl)) e) b
+      every_kept p (mention most s x) xs (mention_cases most (λ t. every p t.goals ≡ true) s x e
+      (every-append p s.goals (x ∷ []) e (and_from _ _ a refl)) e) b
 
   module _ (total : ℕ) (takes : List Signed → Bool) (expansion : List Signed → Expansion) where
     pub start : (root : List Signed) → takes root ≡ true
@@ -95,7 +65,7 @@ module _ (most : ℕ) where
         → slice_get e.found.goals e.found.taken ≡ Some g → (n : ℕ) (x : List Signed) → n ≡ e.found.taken
         → slice_get (Then e g).goals n ≡ Some x → g ≡ x
     is_next e g h at n x q f =
-        some_same (sym at ∙ sym (ap (slice_get e.found.goals) q) ∙ still e g h at n x (omega (arith, q)) f)
+        same_Some _ _ (sym at ∙ sym (ap (slice_get e.found.goals) q) ∙ still e g h at n x (omega (arith, q)) f)
 
     settled_on : (e : Exploration) (g : List Signed) → GoesOn most total takes expansion e
         → slice_get e.found.goals e.found.taken ≡ Some g → (n : ℕ) (x : List Signed)
@@ -115,7 +85,7 @@ module _ (most : ℕ) where
         ≡ Some (answer_to (Then e g).goals (expansion x))
     answered_on e g h at n x f (inl l) =
         let old = still e g h at n x (omega (arith, l)) f in
-        get_before e.answers (answer_to (Then e g).goals (expansion g) ∷ []) n (omega (arith, l, h.count))
+        slice_get-append e.answers (answer_to (Then e g).goals (expansion g) ∷ []) n (omega (arith, l, h.count))
         ∙ h.answered n x l old
         ∙ ap (λ bs. Some (record { alternatives = bs; hole = (expansion x).hole }))
         (sym (numbered_kept most e.found.goals (Then e g).goals (expansion x).alternatives
@@ -134,17 +104,17 @@ module _ (most : ℕ) where
       takes_all = every_kept takes e.found (Names g) h.takes_all all;
       within = omega (arith, places_kept e.found (Names g), fits);
       count = length-append e.answers (answer_to (Then e g).goals (expansion g) ∷ [])
-          ∙ omega (arith, h.count, taken_kept e.found (Names g));
+          ∙ omega (arith, h.count, taken_kept most e.found (Names g));
       taken = omega (
         arith,
-        taken_kept e.found (Names g),
+        taken_kept most e.found (Names g),
         slice_get_within e.found.goals e.found.taken g at,
         (keeps_all most e.found (Names g)).longer,
       );
       settled = λ n x l f.
-          settled_on e g h at n x f (below n e.found.taken (omega (arith, l, taken_kept e.found (Names g))));
+          settled_on e g h at n x f (below_suc n e.found.taken (omega (arith, l, taken_kept most e.found (Names g))));
       answered = λ n x l f.
-          answered_on e g h at n x f (below n e.found.taken (omega (arith, l, taken_kept e.found (Names g))));
+          answered_on e g h at n x f (below_suc n e.found.taken (omega (arith, l, taken_kept most e.found (Names g))));
     }
 
     pub goes_on : (e now : Exploration) (g : List Signed) → GoesOn most total takes expansion e

@@ -8,6 +8,7 @@ use Rattle.alternatives.specs.Limit.{LimitKind, Goals}
 use Rattle.alternatives.specs.Expansion.{first_limit}
 use Rattle.search.specs.Explored.{same_goal, number_in, is_listed, found, mention}
 use Rattle.js_algebra.specs.Equality as J
+use Rattle.list_laws.proofs.Options.{is_some-suc}
 
 same_is : (g h : List Signed) → J.same_goal g h ≡ same_goal g h
 same_is [] [] = refl
@@ -15,17 +16,13 @@ same_is [] (y ∷ h) = refl
 same_is (x ∷ g) [] = refl
 same_is (x ∷ g) (y ∷ h) = ap (λ b. same_signed x y && b) (same_is g h)
 
-pub shift_some : (o : Option ℕ) → is_some (option_map suc o) ≡ is_some o
-shift_some None = refl
-shift_some (Some n) = refl
-
 pub listed_is : (g : List Signed) (gs : List (List Signed)) → list_any (J.same_goal g) gs ≡ is_listed gs g
 listed_is g [] = refl
 listed_is g (h ∷ gs) = ap₂ (λ a b. a || b) (same_is g h) (listed_is g gs) ∙ go (same_goal g h) where
   go : (b : Bool)
       → (b || is_some (number_in gs g)) ≡ is_some (cond b (Some 0) (option_map suc (number_in gs g)))
   go true = refl
-  go false = sym (shift_some (number_in gs g))
+  go false = sym (is_some-suc (number_in gs g))
 
 shift_lt : (n k : ℕ) → nat_lt (1 + n) (suc k) ≡ nat_lt n k
 shift_lt n k = go (nat_lt n k) refl where

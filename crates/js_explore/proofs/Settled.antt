@@ -1,5 +1,5 @@
 -- A goal that was mentioned keeps its number, or stays without one; so do alternatives that name such goals.
-use Rattle.std.proofs.Common.{◌≡◌, ℕ, zero, suc, ◌≤◌, ◌<◌, ◌⊎◌, inl, inr, List, [], ◌∷◌, ◌++◌, map, length, Bool, true, false, cond, nat_le, nat_lt, Option, Some, None, option_map, is_some, slice_get, refl, ap, ap₂, sym, ◌∙◌, arith, length-append}
+use Rattle.std.proofs.Common.{◌≡◌, ℕ, suc, ◌≤◌, ◌<◌, ◌⊎◌, inl, inr, List, [], ◌∷◌, ◌++◌, map, length, Bool, true, false, cond, nat_le, nat_lt, Option, Some, None, option_map, is_some, slice_get, refl, ap, ap₂, sym, ◌∙◌, arith, length-append}
 use Rattle.std.proofs.lemmas.Bool.{and_parts, and_from, or_cases, or_left, or_right, ltb-true, ltb-false, leb-true, le-leb}
 use Rattle.documents.specs.Tests.{every}
 use Rattle.goals.specs.Signed.{Signed}
@@ -10,7 +10,8 @@ use Rattle.search.specs.Explored.{Found, found, same_goal, number_in, is_listed,
 use Rattle.search.specs.Rounds.{with_member, with_filler, number_members, number_fillers, with_members, numbered}
 use Rattle.search_laws.proofs.Numbers.{still_listed, last_listed}
 use Rattle.js_explore.specs.Exploration.{is_settled}
-use Rattle.js_explore.proofs.Keys.{shift_some}
+use Rattle.list_laws.proofs.Options.{is_some-suc}
+use Rattle.list_laws.proofs.Lists.{slice_get-append}
 
 number_before : (gs hs : List (List Signed)) (g : List Signed) → is_listed gs g ≡ true
     → number_in (gs ++ hs) g ≡ number_in gs g
@@ -20,17 +21,7 @@ number_before (h ∷ gs) hs g e = go (same_goal g h) e (number_before gs hs g) w
       → (is_listed gs g ≡ true → number_in (gs ++ hs) g ≡ number_in gs g)
       → cond b (Some 0) (option_map suc (number_in (gs ++ hs) g)) ≡ cond b (Some 0) (option_map suc (number_in gs g))
   go true e more = refl
-  go false e more = ap (option_map suc) (more (sym (shift_some (number_in gs g)) ∙ e))
-
-pub get_before : {A : Type 0} (xs ys : List A) (i : ℕ) → i < length xs → slice_get (xs ++ ys) i ≡ slice_get xs i
-get_before [] ys i l = absurd (omega (arith, l))
-get_before (x ∷ xs) ys zero l = refl
-get_before (x ∷ xs) ys (suc i) l = get_before xs ys i (omega (arith, l))
-
-pub every_both : {A : Type 0} (p : A → Bool) (xs ys : List A) → every p xs ≡ true → every p ys ≡ true
-    → every p (xs ++ ys) ≡ true
-every_both p [] ys e f = f
-every_both p (x ∷ xs) ys e f = let (a, b) = and_parts (p x) (every p xs) e in and_from _ _ a (every_both p xs ys b f)
+  go false e more = ap (option_map suc) (more (sym (is_some-suc (number_in gs g)) ∙ e))
 
 every_left : {A : Type 0} (p : A → Bool) (xs ys : List A) → every p (xs ++ ys) ≡ true → every p xs ≡ true
 every_left p [] ys e = refl
@@ -70,7 +61,7 @@ module _ (most : ℕ) where
     number = λ g e. number_before gs (h ∷ []) g (listed g e);
     settled = λ g e. or_left (is_listed (gs ++ h ∷ []) g) (nat_le most (length (gs ++ h ∷ [])))
         (still_listed gs (h ∷ []) g (listed g e));
-    same = λ n k. get_before gs (h ∷ []) n k;
+    same = λ n k. slice_get-append gs (h ∷ []) n k;
     longer = omega (arith, length-append gs (h ∷ []));
   } where
     listed : (g : List Signed) → is_settled most gs g ≡ true → is_listed gs g ≡ true

@@ -15,7 +15,8 @@ use Rattle.js_expansion.specs.ExpansionView.{expansion_view}
 use Rattle.js_explore.specs.Exploration.{Exploration, GoesOn, with_answer}
 use Rattle.js_explore.specs.WaveAnswers.{expansion_in, expansion_at, Gives, AnswersFrom, IsTaken}
 use Rattle.js_explore.proofs.Settled.{Keeps, keeps_all}
-use Rattle.js_explore.proofs.Going.{every_get, goes_on}
+use Rattle.js_explore.proofs.Going.{goes_on}
+use Rattle.list_laws.proofs.Tests.{every_slice}
 
 pub if_both : {A E : Type 0} {P Q R : A → Type 0} (r : Result A E) → ((x : A) → P x → Q x → R x) → IfOk r P → IfOk r Q
     → IfOk r R
@@ -105,7 +106,7 @@ module _ (most : ℕ) where
         let g = get_or e.found.goals e.found.taken [] in
         let at = slice_get-get_or e.found.goals e.found.taken [] next in
         goes_on most total takes expansion e now g h at
-        (all g (every_get takes e.found.goals e.found.taken g h.takes_all at))
+        (all g (every_slice takes e.found.goals e.found.taken g h.takes_all at))
         (is ∙ ap (with_answer most total e) (answer ∙ ap (expansion_in expansion) at))
 
     -- after k answers of a wave another goal waits, and the next answer is for it

@@ -1,9 +1,8 @@
 -- The lines of a goal, and of a set, none of whose alternatives is met are dead.
-use Rattle.std.proofs.Common.{◌≡◌, ℕ, ◌<◌, inl, inr, Bool, true, false, List, [], ◌∷◌, ◌++◌, map, drop, length, Option, Some, Result, Ok, Err, OnOk, refl, ap, ap₂, sym, ◌∙◌, subst, append-nil, arith}
-use Rattle.std.proofs.lemmas.Bool.{and_parts, or_parts, ltb-true}
+use Rattle.std.proofs.Common.{◌≡◌, ℕ, ◌<◌, inl, Bool, true, false, List, [], ◌∷◌, ◌++◌, map, drop, length, Option, Some, Result, Ok, Err, OnOk, refl, ap, ap₂, sym, ◌∙◌, subst, append-nil, arith, true≢false}
+use Rattle.std.proofs.lemmas.Bool.{and_parts, ltb-true}
 use Rattle.documents.specs.Kind as K
 use Rattle.documents.specs.Kind.{all_kinds}
-use Rattle.documents.specs.Tests.{some}
 use Rattle.positions.specs.Position.{Position, is_table}
 use Rattle.positions.specs.Holds.{IsTable}
 use Rattle.position_laws.proofs.Tables.{is_table-IsTable}
@@ -35,14 +34,7 @@ use Rattle.js_lines.specs.declared.lines.CertLine.{CertLine}
 use Rattle.js_lines.specs.View.{line_view}
 use Rattle.js_row_lines.proofs.DeadLines.{added-are}
 use Rattle.js_goal_lines.specs.Dead.{IsUnmet, AreDead, AreDeadAt}
-
-none-at : {A : Type 0} (p : A → Bool) (x : A) (xs : List A) → some p xs ≡ false → IsIn x xs → p x ≡ false
-none-at p x [] e i = absurd i
-none-at p x (y ∷ xs) e (inl q) = subst (λ z. p z ≡ false) (sym q) (or_parts (p y) (some p xs) e).0
-none-at p x (y ∷ xs) e (inr i) = none-at p x xs (or_parts (p y) (some p xs) e).1 i
-
-differ : true ≡ false → ⊥
-differ e = cc
+use Rattle.list_laws.proofs.Tests.{none_at}
 
 some-false : (b : Bool) → Some b ≡ Some false → b ≡ false
 some-false b e = cc
@@ -58,7 +50,7 @@ module _ (number : List Signed → Option ℕ) (T : List Position) where
   never-unmet h =
       let (k, (more, e, up)) = expansion_has T (leaf (finders_of T) T) [] h.whole K.Null [] (null-branch T) in
       let q = ok_same (scalar K.Null k Alt.Null ∷ []) more (leaf (finders_of T) T K.Null k []) refl e in
-      differ (none-at (is_met (can number)) (scalar K.Null k Alt.Null) (expansion_of T []).alternatives h.unmet
+      true≢false (none_at (is_met (can number)) (scalar K.Null k Alt.Null) (expansion_of T []).alternatives h.unmet
       (up (scalar K.Null k Alt.Null) (subst (λ z. IsIn (scalar K.Null k Alt.Null) z) q (inl refl))))
 
   goal-dead : (ranks : List ℕ) → is_table T ranks ≡ true → (g : List Signed) → are_in_table T g ≡ true
@@ -71,7 +63,7 @@ module _ (number : List Signed → Option ℕ) (T : List Position) where
       ap₂ (run T cite) (sym (append-nil (map (λ t. AtKind t (x ∷ g)) all_kinds)))
       (sym (append-nil (goal_lines number T (x ∷ g))))
       ∙ goal_does T ok cite number cited (x ∷ g) h.whole
-      (λ a i. none-at (is_met (can number)) a (expansion_of T (x ∷ g)).alternatives h.unmet i) [] []
+      (λ a i. none_at (is_met (can number)) a (expansion_of T (x ∷ g)).alternatives h.unmet i) [] []
 
   array-dead : (S : List Signed)
       → AreDeadAt number T K.Array S (L.Arrays ∷ plan_lines number OfArrays T (array_frame T S))
@@ -80,14 +72,14 @@ module _ (number : List Signed → Option ℕ) (T : List Position) where
       ap (run T cite (OfSet K.Array S ∷ [])) (sym (append-nil ls))
       ∙ arrays_do T S cite number cited 0 h.alternatives
       (some-false (is_at_end (A.lower T S) (A.below T S)) h.bounds) h.are
-      (λ a i. none-at (is_met (can number)) a h.alternatives h.unmet i) [] []
+      (λ a i. none_at (is_met (can number)) a h.alternatives h.unmet i) [] []
 
   object-dead : (S : List Signed) → AreDeadAt number T K.Object S (object_lines number T S)
   object-dead S h cite cited =
       ap (run T cite (OfSet K.Object S ∷ [])) (sym (append-nil (object_lines number T S)))
       ∙ objects_do T S cite number cited 0 h.alternatives
       (some-false (is_at_end (O.lower T S) (O.below T S)) h.bounds) h.are
-      (λ a i. none-at (is_met (can number)) a h.alternatives h.unmet i) [] []
+      (λ a i. none_at (is_met (can number)) a h.alternatives h.unmet i) [] []
 
   -- where they were added
 

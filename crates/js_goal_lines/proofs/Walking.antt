@@ -7,12 +7,12 @@ use Rattle.goals.specs.Signed as G
 use Rattle.certificate_lines.specs.Line.{Line}
 use Rattle.refutations.specs.TreeLines.{step_lines, tree_lines}
 use Rattle.js_algebra.specs.View.{is_in_table, are_in_table}
-use Rattle.js_algebra.proofs.Sets.{every-add_all}
 use Rattle.js_tableau.specs.Walks.{step_view}
 use Rattle.js_tableau.specs.Progress.{left, told_set, IsTree, AfterStep}
 use Rattle.js_tableau.specs.declared.walk.Step.{Step}
 use Rattle.js_tableau.specs.declared.visits.Tree.{Tree}
 use Rattle.js_goal_lines.proofs.Adding.{told-all}
+use Rattle.goal_laws.proofs.Signs.{every-add_all}
 
 module _ (T : List Position) (t : Kind) where
   -- the set of the last step is in the table

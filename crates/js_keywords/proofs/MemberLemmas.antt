@@ -7,17 +7,17 @@ use Rattle.schemas.specs.Places.{Pointer}
 use Rattle.schemas.specs.Keyword as S
 use Rattle.schemas.specs.Keyword.{Shape, keywords, shape_in, shape_of}
 use Rattle.schemas.specs.Reading.{id_fault, shape_fault}
-use Rattle.schema_laws.proofs.Pointers.{same_word-eq}
 use Rattle.js_keywords.specs.declared.keyword.Keyword.{Keyword}
 use Rattle.js_keywords.specs.declared.keyword.Keyword.TheVariants as K
 use Rattle.js_keywords.specs.Names.{keyword_name}
 use Rattle.js_keywords.specs.Reading.{rules}
 use Rattle.js_keywords.specs.Words.{all_keywords, keyword_in, keyword_of, shape_by}
 use Rattle.js_keywords.specs.Member.{shape_beside, shape_given, named_fault, fault_by}
+use Rattle.list_laws.proofs.Tests.{same_word-true}
 
 named : (w : List ℕ) (j k : Keyword) (rest : Option Keyword) (test : Bool) → same_word w (keyword_name j) ≡ test
     → cond test (Some j) rest ≡ Some k → (rest ≡ Some k → w ≡ keyword_name k) → w ≡ keyword_name k
-named w j k rest true e h later = same_word-eq w (keyword_name j) e ∙ ap keyword_name (same_Some j k h)
+named w j k rest true e h later = same_word-true w (keyword_name j) e ∙ ap keyword_name (same_Some j k h)
 named w j k rest false e h later = later h
 
 keyword_in-name : (ks : List Keyword) (w : List ℕ) (k : Keyword) → keyword_in ks w ≡ Some k → w ≡ keyword_name k

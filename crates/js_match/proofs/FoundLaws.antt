@@ -1,5 +1,5 @@
 -- A pattern is found where the walk from all places ends somewhere.
-use Rattle.std.proofs.Common.{◌≡◌, ℕ, ◌≤◌, List, [], ◌∷◌, length, Bool, true, false, nat_le, Ok, refl, sym, ap, subst, ◌∙◌, arith, true≢false}
+use Rattle.std.proofs.Common.{◌≡◌, ℕ, ◌≤◌, List, [], ◌∷◌, length, true, nat_le, Ok, refl, sym, ap, subst, ◌∙◌, arith, true≢false}
 use Rattle.patterns.specs.Tree.{Tree, empty, one_of, at_start, at_end, in_turn, either, repeated, no_trees, tree}
 use Rattle.patterns.specs.Match.{Matches}
 use Rattle.patterns.specs.Decision.{finds}
@@ -9,6 +9,8 @@ use Rattle.js_match.specs.Anchors.{is_start, is_anchored}
 use Rattle.js_match.specs.Matching.{read_finds, matches}
 use Rattle.js_match.specs.Places.{is_at, IsAt, Leads, has_place}
 use Rattle.js_match.proofs.LeadsLaws.{here_at, match_within}
+use Rattle.list_laws.proofs.Booleans.{same_test}
+use Rattle.std.proofs.lemmas.Bool.{le-leb, leb-true}
 
 place-some : (j : ℕ) (xs : List ℕ) → IsAt j xs → has_place xs ≡ true
 place-some j [] h = absurd (true≢false (sym h))
@@ -18,17 +20,6 @@ some-place : (xs : List ℕ) → has_place xs ≡ true → (j : ℕ) × IsAt j x
 some-place [] h = absurd (true≢false (sym h))
 some-place (x ∷ xs) h = (x, here_at x xs)
 
-same_test : (a b : Bool) → (a ≡ true → b ≡ true) → (b ≡ true → a ≡ true) → a ≡ b
-same_test true b there back = sym (there refl)
-same_test false true there back = back refl
-same_test false false there back = refl
-
-le-true : (a b : ℕ) → a ≤ b → nat_le a b ≡ true
-le-true a b h = grind (arith, h)
-
-true-le : (a b : ℕ) → nat_le a b ≡ true → a ≤ b
-true-le a b h = grind (arith, h)
-
 pub found-in : (t : Tree) (w starts ends : List ℕ) → ((j : ℕ) → is_at j starts ≡ nat_le j (length w))
     → Leads (Matches t w) starts ends → has_place ends ≡ finds t w
 found-in t w starts ends all leads =
@@ -37,11 +28,11 @@ found-in t w starts ends all leads =
     (λ h.
     let (j, a) = some-place ends h in
     let (i, b, m) = leads.sound j a in
-    let il = true-le i (length w) (sym (all i) ∙ b) in
+    let il = leb-true i (length w) (sym (all i) ∙ b) in
     decides.1 (i, j, il, match_within t w i j il m, m))
     (λ h.
     let (i, j, il, jl, m) = decides.0 h in
-    place-some j ends (leads.complete i j (all i ∙ le-true i (length w) il) m))
+    place-some j ends (leads.complete i j (all i ∙ le-leb i (length w) il) m))
 
 -- ---- from the start alone
 

@@ -7,6 +7,7 @@ use Rattle.patterns.specs.Tree.{Tree, Trees, empty, one_of, at_start, at_end, in
 use Rattle.patterns.specs.Match.{Repeats, Matches, MatchesInTurn, MatchesOne}
 use Rattle.patterns.specs.Decision.{ends}
 use Rattle.js_match.specs.Places.{is_at, IsAt, Leads, More, are_within}
+use Rattle.std.proofs.Math.Bool.{or_assoc}
 
 -- ---- lists of places
 
@@ -23,12 +24,8 @@ or_left_true false b h = absurd (true≢false (sym h))
 
 pub is_at-append : (j : ℕ) (xs ys : List ℕ) → is_at j (xs ++ ys) ≡ (is_at j xs || is_at j ys)
 is_at-append j [] ys = refl
-is_at-append j (x ∷ xs) ys = ap (λ b. nat_eq x j || b) (is_at-append j xs ys) ∙ or_assoc (nat_eq x j) (is_at j xs)
-    (is_at j ys)
-  where
-    or_assoc : (a b c : Bool) → (a || (b || c)) ≡ ((a || b) || c)
-    or_assoc true b c = refl
-    or_assoc false b c = refl
+is_at-append j (x ∷ xs) ys =
+    ap (λ b. nat_eq x j || b) (is_at-append j xs ys) ∙ sym (or_assoc (nat_eq x j) (is_at j xs) (is_at j ys))
 
 pub within-at : (n j : ℕ) (xs : List ℕ) → are_within n xs ≡ true → IsAt j xs → j ≤ n
 within-at n j [] w h = absurd (true≢false (sym h))

@@ -3,6 +3,7 @@ use Rattle.std.proofs.Common.{◌≡◌, ℕ, zero, suc, ◌+◌, ◌-◌, ◌�
 use Rattle.patterns.specs.Match.{Repeats}
 use Rattle.js_match.specs.Places.{is_at, IsAt, Leads, More, marked, is_open}
 use Rattle.js_match.proofs.LeadsLaws.{or_left_true, or_right_true, repeats_last, repeats_before}
+use Rattle.std.proofs.lemmas.Bool.{and_parts}
 
 -- so many steps have been taken for sure
 abbrev pub AreTaken : Option ℕ → Option ℕ → ℕ → Type 0
@@ -133,10 +134,6 @@ module _ (Step : ℕ → ℕ → Type 0) (most : Option ℕ) (starts : List ℕ)
       comes : (j : ℕ) → is_at j next ≡ true → marked marks' j ≡ true
       comes j h = m j ∙ or_right_true (marked marks j) (is_at j next) h
 
-      second : (a b : Bool) → (a && b) ≡ true → b ≡ true
-      second true b h = h
-      second false b h = absurd (true≢false (sym h))
-
       after : (h j : ℕ) → marked marks h ≡ true → Step h j → marked marks' j ≡ true
       after h j a s = elim (round.explored h j a s) [
         | inl k ↦ comes j (leads.complete h j k s)
@@ -169,7 +166,7 @@ module _ (Step : ℕ → ℕ → Type 0) (most : Option ℕ) (starts : List ℕ)
       pub round-next : IsRound Step most starts (option_map (λ n. n - 1) left) marks' fresh'
       round-next = record {
         remains = left_next left round.remains;
-        kept = λ j h. comes j (second (not (marked marks j)) (is_at j next) (sym (f j) ∙ h));
+        kept = λ j h. comes j ((and_parts (not (marked marks j)) (is_at j next) (sym (f j) ∙ h)).1);
         begun = λ j h. stays j (round.begun j h);
         explored = λ h j a s. explored_next h j (marked marks h) refl a s;
         sound = λ j h. sound_next j (marked marks j) refl h;

@@ -1,25 +1,14 @@
 -- Key lemma: where a run from some start reaches a place, one from the last start that is far enough before it does.
 use Rattle.std.proofs.Common.{◌≡◌, ℕ, zero, suc, ◌+◌, ◌-◌, ◌<◌, ◌≤◌, inl, inr, List, [], ◌∷◌, ◌++◌, nat_eq, length, get_or, slice_index, IfSome, Bool, true, false, ◌&&◌, ◌||◌, if◌then◌else◌, nat_le, nat_lt, Option, Some, None, refl, sym, ap, subst, ◌∙◌, arith, true≢false}
-use Rattle.std.proofs.lemmas.Bool.{and_parts, or_cases, cases_lt, eqb-true, ltb-true, lt-ltb}
+use Rattle.std.proofs.lemmas.Bool.{and_parts, or_cases, cases_lt, eqb-true, ltb-true, lt-ltb, le-leb, leb-true}
 use Rattle.patterns.specs.CharSet.{has}
 use Rattle.patterns.specs.Tree.{one_of, repeated}
 use Rattle.patterns.specs.Match.{Matches, Repeats}
 use Rattle.js_match.specs.Places.{is_at, IsAt, Leads, marked, are_within}
 use Rattle.js_match.specs.Runs.{begins, latest, fits, reaches, lone, is_lone_end}
 use Rattle.js_match.proofs.LeadsLaws.{here_at, is_at-append, within-at, within-from}
-
-le-true : (a b : ℕ) → a ≤ b → nat_le a b ≡ true
-le-true a b h = grind (arith, h)
-
-true-le : (a b : ℕ) → nat_le a b ≡ true → a ≤ b
-true-le a b h = grind (arith, h)
-
-some≢none : {A : Type 0} (x : A) → None ≡ Some x → ⊥
-some≢none x h = true≢false (ap (λ o. is_none o) h)
-  where
-    is_none : {A : Type 0} → Option A → Bool
-    is_none None = true
-    is_none (Some x) = false
+use Rattle.std.proofs.lemmas.Option.{none-some}
+use Rattle.std.proofs.Math.Bool.{or-false, or-true, and-false}
 
 -- ---- one more place
 
@@ -37,21 +26,13 @@ one_more test n b xs ys e h is j = ap (λ zs. is_at j zs) is ∙ go b e (nat_eq 
     past : nat_eq n j ≡ true → nat_lt j n ≡ false
     past k = grind (arith, k)
 
-    or_false : (a : Bool) → (a || false) ≡ a
-    or_false true = refl
-    or_false false = refl
-
-    or_true : (a : Bool) → (a || true) ≡ true
-    or_true true = refl
-    or_true false = refl
-
     go : (b : Bool) → b ≡ test n → (same : Bool) → nat_eq n j ≡ same
         → is_at j (if b then xs ++ n ∷ [] else xs) ≡ (nat_lt j (n + 1) && test j)
     go true e true k =
-        is_at-append j xs (n ∷ []) ∙ ap (λ a. is_at j xs || (a || false)) k ∙ or_true (is_at j xs)
+        is_at-append j xs (n ∷ []) ∙ ap (λ a. is_at j xs || (a || false)) k ∙ or-true (is_at j xs)
         ∙ sym (ap (λ a. a && test j) (inside k) ∙ sym (e ∙ ap test (eqb-true n j k)))
     go true e false k =
-        is_at-append j xs (n ∷ []) ∙ ap (λ a. is_at j xs || (a || false)) k ∙ or_false (is_at j xs) ∙ h j
+        is_at-append j xs (n ∷ []) ∙ ap (λ a. is_at j xs || (a || false)) k ∙ or-false (is_at j xs) ∙ h j
         ∙ ap (λ a. a && test j) (before k)
     go false e true k =
         h j ∙ ap (λ a. a && test j) (past k)
@@ -61,7 +42,7 @@ one_more test n b xs ys e h is j = ap (λ zs. is_at j zs) is ∙ go b e (nat_eq 
 -- ---- the last start
 
 latest-marked : (marks : List Bool) (n s : ℕ) → latest marks n ≡ Some s → (marked marks s ≡ true) × (s < n)
-latest-marked marks zero s h = absurd (some≢none s h)
+latest-marked marks zero s h = absurd (none-some s h)
 latest-marked marks (suc n) s h = go (marked marks n) refl (latest-marked marks n s)
   where
     go : (b : Bool) → marked marks n ≡ b → (latest marks n ≡ Some s → (marked marks s ≡ true) × (s < n))
@@ -170,17 +151,17 @@ module _ (set : List (ℕ × ℕ)) (w : List ℕ) where
 
   fits-some : (high : Option ℕ) (k : ℕ) → fits high k ≡ true → IfSome high (λ most. k ≤ most)
   fits-some None k h = tt
-  fits-some (Some most) k h = true-le k most h
+  fits-some (Some most) k h = leb-true k most h
 
   some-fits : (high : Option ℕ) (k n : ℕ) → IfSome high (λ most. k ≤ most) → n ≤ k → fits high n ≡ true
   some-fits None k n h l = refl
-  some-fits (Some most) k n h l = le-true n most (omega (arith, h, l))
+  some-fits (Some most) k n h l = le-leb n most (omega (arith, h, l))
 
   reached : (from : ℕ) (last high : Option ℕ) (j : ℕ) → reaches from last high j ≡ true
       → (s : ℕ) × (last ≡ Some s) × (from ≤ s) × (fits high (j - s) ≡ true)
   reached from None high j h = absurd (true≢false (sym h))
   reached from (Some s) high j h =
-      let both = and_parts (nat_le from s) (fits high (j - s)) h in (s, refl, true-le from s both.0, both.1)
+      let both = and_parts (nat_le from s) (fits high (j - s)) h in (s, refl, leb-true from s both.0, both.1)
 
   -- the start that each place goes by is one that is far enough before it, and the last such
   pub record GoesBy (starts : List ℕ) (low : ℕ) (last : ℕ → Option ℕ) : Type 0 where
@@ -212,7 +193,7 @@ module _ (set : List (ℕ × ℕ)) (w : List ℕ) where
         let (s, is_last, le) = by.greatest j i a (omega (arith, e, lk)) in
         let (m, sl) = by.one j s is_last in
         let few = some-fits high k (j - s) kh (omega (arith, e, le)) in
-        let from = le-true (begins set w j) s (omega (arith, b, le)) in
+        let from = le-leb (begins set w j) s (omega (arith, b, le)) in
         is j ∙ ap (λ b. b && reaches (begins set w j) (last j) high j)
         (lt-ltb j (length w + 1) (omega (arith, jl)))
         ∙ ap (λ o. reaches (begins set w j) o high j) is_last
@@ -278,17 +259,13 @@ module _ (set : List (ℕ × ℕ)) (w : List ℕ) where
   lone-stops start low high end ends le less out is j = is j ∙ elim (cases_lt end j) [
     | inl past ↦
         let none = none-past start low high end j le out past in
-        ap (λ b. nat_lt j (end + 1) && b) none ∙ and_false (nat_lt j (end + 1))
-        ∙ sym (ap (λ b. nat_lt j (length w + 1) && b) none ∙ and_false (nat_lt j (length w + 1)))
+        ap (λ b. nat_lt j (end + 1) && b) none ∙ and-false (nat_lt j (end + 1))
+        ∙ sym (ap (λ b. nat_lt j (length w + 1) && b) none ∙ and-false (nat_lt j (length w + 1)))
     | inr before ↦
         let first : nat_lt j (end + 1) ≡ true = grind (arith, before) in
         let second : nat_lt j (length w + 1) ≡ true = grind (arith, before, less) in
         ap (λ b. b && is_lone_end set w start low high j) (first ∙ sym second)
   ]
-    where
-      and_false : (a : Bool) → (a && false) ≡ false
-      and_false true = refl
-      and_false false = refl
 
   -- a place that the run reaches
   pub lone-here : (start low : ℕ) (high : Option ℕ) (end : ℕ) (b : Bool) → start ≤ end → begins set w end ≤ start
@@ -300,7 +277,7 @@ module _ (set : List (ℕ × ℕ)) (w : List ℕ) where
       go true k =
           let far : nat_le (start + low) end ≡ true = grind (arith, k, le) in
           sym (ap (λ b. reaches (begins set w end) (if b then Some start else None) high end) far
-          ∙ ap (λ b. b && fits high (end - start)) (le-true (begins set w end) start from))
+          ∙ ap (λ b. b && fits high (end - start)) (le-leb (begins set w end) start from))
       go false k =
           let near : nat_le (start + low) end ≡ false = grind (arith, k, le) in
           sym (ap (λ b. reaches (begins set w end) (if b then Some start else None) high end) near)
@@ -322,7 +299,7 @@ lone-by set w start low starts is = record {
   greatest = λ j i a l.
       let same = only i (subst (IsAt i) is a) in (
         start,
-        ap (λ b. if b then Some start else None) (le-true (start + low) j (omega (arith, same, l))),
+        ap (λ b. if b then Some start else None) (le-leb (start + low) j (omega (arith, same, l))),
         omega (arith, same),
       );
 }
@@ -345,10 +322,10 @@ lone-by set w start low starts is = record {
     go j s true k e =
         let same = some_same s (sym (ap (λ b. if b then Some start else None) k) ∙ e) in (
           subst (λ xs. IsAt s xs) (sym is) (subst (λ x. IsAt x (start ∷ [])) same (here_at start [])),
-          omega (arith, same, true-le (start + low) j k),
+          omega (arith, same, leb-true (start + low) j k),
         )
     go j s false k e =
-        absurd (some≢none s (sym (ap (λ b. if b then Some start else None) k) ∙ e))
+        absurd (none-some s (sym (ap (λ b. if b then Some start else None) k) ∙ e))
 
 pub only-one : (xs : List ℕ) → length xs ≡ 1 → xs ≡ get_or xs 0 0 ∷ []
 only-one [] h = absurd (omega (arith, h))

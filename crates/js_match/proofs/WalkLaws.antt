@@ -1,12 +1,13 @@
 -- What each loop of the walk keeps, over plain variables.
 use Rattle.std.proofs.Common.{◌≡◌, ℕ, zero, suc, ◌+◌, ◌-◌, ◌<◌, ◌≤◌, inl, inr, ◌∙◌, List, [], ◌∷◌, ◌++◌, map, drop, drop-cons, add-one, length, get_or, replicate, Bool, true, false, ◌||◌, ◌&&◌, not, true≢false, Result, Ok, Err, IfOk, refl, sym, ap, subst, arith}
-use Rattle.std.proofs.lemmas.Bool.{or_cases}
+use Rattle.std.proofs.lemmas.Bool.{or_cases, false≢true, and_parts}
 use Rattle.patterns.specs.Tree.{Tree, no_trees, tree, trees_of}
 use Rattle.patterns.specs.Match.{Repeats, Matches, MatchesInTurn, MatchesOne}
 use Rattle.js_pattern.specs.declared.re.Re.{Re}
 use Rattle.js_pattern.specs.View.{view}
 use Rattle.js_match.specs.Places.{is_at, Leads, HasBoth, marked, nodes, list_nodes, are_within}
 use Rattle.js_match.proofs.LeadsLaws.{leads_then, leads_same, leads_nowhere_else, leads_either, leads_still, is_at-append, within-from, within-at}
+use Rattle.std.proofs.Math.Bool.{or_assoc, or-false}
 
 rest_trees : (items : List Re) (i : ℕ) (x : Re) → i < length items → x ≡ get_or items i x
     → trees_of (map view (drop i items)) ≡ tree (view x) (trees_of (map view (drop (i + 1) items)))
@@ -56,27 +57,16 @@ module _ (w starts : List ℕ) (items : List Re) where
       items))) w) starts next ends l k)) in
       leads_same Step starts (found ++ (next ++ ends)) (both ++ ends) (λ j.
       is_at-append j both ends ∙ ap (λ t. t || is_at j ends) (b j)
-      ∙ sym (or_assoc (is_at j found) (is_at j next) (is_at j ends))
+      ∙ or_assoc (is_at j found) (is_at j next) (is_at j ends)
       ∙ ap (λ t. is_at j found || t) (sym (is_at-append j next ends)) ∙ sym (is_at-append j found
       (next ++ ends))) joined
-    where
-      or_assoc : (a b c : Bool) → (a || (b || c)) ≡ ((a || b) || c)
-      or_assoc true b c = refl
-      or_assoc false b c = refl
 
   pub either_done : (Step : ℕ → ℕ → Type 0) (i : ℕ) (found : List ℕ) → length items ≤ i
       → ((ends : List ℕ) → OneOf i starts ends → Leads Step starts (found ++ ends)) → Leads Step starts found
   either_done Step i found h rest =
-      leads_same Step starts (found ++ []) found (λ j. or_none (is_at j found) ∙ sym (is_at-append j found []))
+      leads_same Step starts (found ++ []) found (λ j. sym (or-false (is_at j found)) ∙ sym (is_at-append j found []))
       (rest [] (subst (λ ts. Leads (MatchesOne ts w) starts []) (sym (no_rest items i h))
-      (record { sound = λ j a. absurd (none a); complete = λ i j a m. absurd m })))
-    where
-      none : false ≡ true → ⊥
-      none e = true≢false (sym e)
-
-      or_none : (a : Bool) → a ≡ (a || false)
-      or_none true = refl
-      or_none false = refl
+      (record { sound = λ j a. absurd (false≢true a); complete = λ i j a m. absurd m })))
 
 pub times_next : (Step : ℕ → ℕ → Type 0) (R : List ℕ → Type 0) (times round : ℕ) (places next : List ℕ) → round < times
     → Leads Step places next → ((ends : List ℕ) → Leads (Repeats Step (times - round)) places ends → R ends)
@@ -114,12 +104,8 @@ fresh_first bs n xs new e h j =
 
 pub within_new : (n : ℕ) (xs new : List ℕ) (old : ℕ → Bool) → are_within n xs ≡ true
     → ((j : ℕ) → is_at j new ≡ (old j && is_at j xs)) → are_within n new ≡ true
-within_new n xs new old w h = within-from n new (λ j a. within-at n j xs w (second (old j) (is_at j xs) (sym (h j)
-    ∙ a)))
-  where
-    second : (a b : Bool) → (a && b) ≡ true → b ≡ true
-    second true b h = h
-    second false b h = absurd (true≢false (sym h))
+within_new n xs new old w h = within-from n new (λ j a. within-at n j xs w ((and_parts (old j) (is_at j xs) (sym (h j)
+    ∙ a)).1))
 
 pub within_both : (n : ℕ) (xs ys zs : List ℕ) → are_within n xs ≡ true → are_within n ys ≡ true → HasBoth xs ys zs
     → are_within n zs ≡ true

@@ -13,9 +13,3 @@ range_more p a (suc n) j e = go (p a) (range_more p (a + 1) n j (omega (arith, e
       ≡ cond b (a ∷ filter p (range_with_len (a + 1) n)) (filter p (range_with_len (a + 1) n)) ++ cond (p j) (j ∷ []) []
   go true more = ap (λ z. a ∷ z) more
   go false more = more
-
-pub filter-range-more : (p : ℕ → Bool) (n : ℕ)
-    → filter p (range_with_len 0 (n + 1)) ≡ filter p (range_with_len 0 n) ++ cond (p n) (n ∷ []) []
-filter-range-more p n =
-    let e : n + 1 ≡ suc n = omega arith in
-    rw e (range_more p 0 n n (omega arith))

@@ -1,9 +1,9 @@
 -- What an answer says of the group.
-use Rattle.std.proofs.Common.{◌≡◌, ℕ, ◌*◌, ◌%◌, ◌^◌, ◌<◌, ◌≤◌, ◌==◌, ◌⊎◌, inl, inr, List, [], ◌∷◌, Bool, true, false, not, ◌||◌, nat_lt, nat_le, Option, Some, None, Ok, Err, ℤ, pos, ◌≤ℤ◌, ◌<ℤ◌, unsigned_abs, int_lt, refl, ap, sym, ◌∙◌, subst, arith, if◌then◌else◌}
+use Rattle.std.proofs.Common.{◌≡◌, ℕ, ◌*◌, ◌%◌, ◌^◌, ◌<◌, ◌≤◌, ◌==◌, ◌⊎◌, inl, inr, List, [], ◌∷◌, Bool, true, false, not, nat_lt, nat_le, Option, Some, None, Ok, Err, ℤ, pos, ◌≤ℤ◌, ◌<ℤ◌, unsigned_abs, refl, ap, sym, ◌∙◌, subst, arith, if◌then◌else◌}
 use Rattle.std.specs.List.{find, list_all, list_any}
 use Rattle.std.specs.Ordering.{int_eq}
 use Rattle.std.proofs.lemmas.Int.{ints}
-use Rattle.std.proofs.lemmas.Bool.{cases_lt, eq-eqb, ne_eqb, eqb-true, leb-true, and_parts, and_from, or_cases, not-false, not-true, true≢false}
+use Rattle.std.proofs.lemmas.Bool.{cases_lt, eq-eqb, ne_eqb, eqb-true, leb-true, and_parts, and_from, or_cases, not-false, not-true, true≢false, false_from_ne_true, or_left, or_right}
 use Rattle.std.proofs.lemmas.Bool.Decides.{Decides-int_eq}
 use Rattle.std.proofs.lemmas.Nat.Gcd.{dvd_trans, dvd_refl, dvd_of_mod-eq-zero}
 use Rattle.std.proofs.Math.Nat.{mul-le-mul_right}
@@ -18,21 +18,10 @@ use Rattle.number_groups.specs.Correct.{IsTooLarge, IsTried, IsStruckAt, Says, S
 use Rattle.js_numbers.proofs.Least.{least_below-cases}
 use Rattle.js_numbers.proofs.CommonMultiples.{IsLcmOf-lcm_of, common_along}
 use Rattle.js_numbers.proofs.Finding.{find-front}
-use Rattle.js_numbers.proofs.Sizes.{le_from, le_true}
+use Rattle.js_numbers.proofs.Sizes.{le_from, le_true, lt_from}
 use Rattle.js_numbers.proofs.Searching.{StruckBefore}
 use Rattle.js_numbers.proofs.Deciding.{step}
 use Rattle.js_numbers.proofs.PlaceLaws.{divides, is_multiple_from, divides_place, place_above, place_below, some_place, are_candidates}
-
-false_unless : (b : Bool) → (b ≡ true → ⊥) → b ≡ false
-false_unless false h = refl
-false_unless true h = absurd (h refl)
-
-or_left : (a b : Bool) → a ≡ true → (a || b) ≡ true
-or_left a b h = ap (λ t. t || b) h
-
-or_right : (a b : Bool) → b ≡ true → (a || b) ≡ true
-or_right true b h = refl
-or_right false b h = h
 
 -- ---- what it is to meet a group
 
@@ -55,9 +44,6 @@ is_met_from : (g : Group) (x : ℤ) → Meets g x → is_met g x ≡ true
 is_met_from g x h =
     and_from _ _ (and_from _ _ (and_from _ _ (and_from _ _ h.above h.below) h.common) h.listed)
     (ap not h.spared)
-
-lt_from : (a b : ℤ) → int_lt a b ≡ true → a <ℤ b
-lt_from a b h = grind (arith, ints)
 
 none_between_crossed : (low high : Option ℤ) (x : ℤ) → is_crossed low high ≡ true → is_above low x ≡ true
     → is_below high x ≡ true → ⊥
@@ -98,7 +84,7 @@ says_found limit m g s ss e (Some x) h = record {
       let same : s ∷ ss ≡ t ∷ ts = sym e ∙ f in
       let front : s ≡ t = cc in sym (ap (find (is_met g)) front) ∙ h;
 }
-says_found limit m g s ss e None h = λ x. false_unless (is_met g x) (λ met.
+says_found limit m g s ss e None h = λ x. false_from_ne_true (is_met g x) (λ met.
     let all : list_all (λ t. has t x) (s ∷ ss) ≡ true =
     subst (λ ts. list_all (λ t. has t x) ts ≡ true) e (meets_from g x met).listed in
     let (here, rest) = and_parts _ _ all in
@@ -106,7 +92,7 @@ says_found limit m g s ss e None h = λ x. false_unless (is_met g x) (λ met.
 
 -- ---- a divisor that is ruled out and divides them all
 
-some_divides : (bs : List ℕ) (m : ℕ) (x : ℤ) → m ∣ unsigned_abs x → list_any (λ b. m % b == 0) bs ≡ true
+pub some_divides : (bs : List ℕ) (m : ℕ) (x : ℤ) → m ∣ unsigned_abs x → list_any (λ b. m % b == 0) bs ≡ true
     → list_any (λ b. is_multiple b x) bs ≡ true
 some_divides [] m x d h = h
 some_divides (b ∷ bs) m x d h = elim (or_cases (m % b == 0) (list_any (λ c. m % c == 0) bs) h) [
@@ -121,7 +107,7 @@ strikes_all m bs =
 divisor_empty : (g : Group) (m : ℕ) → IsLcmOf g.multiples m
     → list_any (λ b. m % b == 0) g.not_multiples ≡ true
     → (x : ℤ) → is_met g x ≡ false
-divisor_empty g m l h x = false_unless (is_met g x) (λ met.
+divisor_empty g m l h x = false_from_ne_true (is_met g x) (λ met.
     let w = meets_from g x met in
     let d : m ∣ unsigned_abs x = l.least (unsigned_abs x) w.common in
     true≢false (sym (or_left _ _ (some_divides g.not_multiples m x d h)) ∙ w.spared))
@@ -171,7 +157,7 @@ struck_at m g j h = elim (reach m g j) [
 ]
 
 -- before a candidate that isn't above the upper bound, none is
-below_before : (m : ℕ) (low high : Option ℤ) (k j : ℕ) → k ≤ j → is_below high (place m low high j) ≡ true
+pub below_before : (m : ℕ) (low high : Option ℤ) (k j : ℕ) → k ≤ j → is_below high (place m low high j) ≡ true
     → is_below high (place m low high k) ≡ true
 below_before m (Some l) None k j le h = refl
 below_before m (Some l) (Some u) k j le h =
@@ -183,7 +169,7 @@ below_before m None high k j le h = place_below m high k
 none_left : (m : ℕ) (g : Group) (k : ℕ) → IsLcmOf g.multiples m → StruckBefore m g k
     → is_below g.high (candidate m g k) ≡ false
     → (x : ℤ) → is_met g x ≡ false
-none_left m g k l before ends x = false_unless (is_met g x) (λ met.
+none_left m g k l before ends x = false_from_ne_true (is_met g x) (λ met.
     let w = meets_from g x met in
     let (j, e) = some_place m g.low g.high x l.positive (l.least (unsigned_abs x) w.common) w.above w.below in
     elim (cases_lt j k) [
@@ -286,7 +272,7 @@ says_in limit m g (s ∷ ss) e l h = says_found limit m g s ss h (find (is_met g
 says : (limit : ℕ) (g : Group) (b : Bool) → is_crossed g.low g.high ≡ b
     → IsLcmOf g.multiples (lcm_of g.multiples)
     → Says limit (lcm_of g.multiples) g (if b then Empty else answer_in limit g g.sets)
-says limit g true e l = λ x. false_unless (is_met g x) (λ met.
+says limit g true e l = λ x. false_from_ne_true (is_met g x) (λ met.
     let w = meets_from g x met in none_between_crossed g.low g.high x e w.above w.below)
 says limit g false e l = says_in limit (lcm_of g.multiples) g g.sets refl l refl
 

@@ -10,6 +10,7 @@ use Rattle.std.proofs.lemmas.List.Recursion.{and_at}
 use Rattle.std.proofs.lemmas.List.{take_more, take-append-drop}
 use Rattle.number_groups.specs.Multiples.{is_common, product_of, lcm_of, IsLcm, IsLcmOf}
 use Rattle.js_numbers.proofs.Least.{least_below-at}
+use Rattle.std.proofs.Math.Bool.{and_assoc}
 
 -- ---- two numbers
 
@@ -156,10 +157,6 @@ common_append : (ms ns : List ℕ) (x : ℕ) → is_common (ms ++ ns) x ≡ (is_
 common_append [] ns x = refl
 common_append (m ∷ ms) ns x = ap (λ t. (x % m == 0) && t) (common_append ms ns x)
     ∙ sym (and_assoc (x % m == 0) _ _)
-  where
-    and_assoc : (a b c : Bool) → ((a && b) && c) ≡ (a && (b && c))
-    and_assoc true b c = refl
-    and_assoc false b c = refl
 
 -- one more number at the end
 pub IsLcmOf-push : (ms : List ℕ) (m l k : ℕ) → 0 < m → IsLcmOf ms l → IsLcm l m k → IsLcmOf (ms ++ m ∷ []) k

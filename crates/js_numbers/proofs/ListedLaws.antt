@@ -13,16 +13,12 @@ use Rattle.js_doc.specs.Numbers.{count_below, has, rank_of}
 use Rattle.number_groups.specs.Multiples.{is_common, lcm_of}
 use Rattle.js_numbers.specs.Marking.{is_at, marked_from, mark_of, AddsListed, AreListed}
 use Rattle.js_numbers.proofs.CommonMultiples.{IsLcmOf-lcm_of, common_along}
-use Rattle.js_numbers.proofs.MarkLaws.{same_bool, or_assoc}
 use Rattle.js_numbers.proofs.SieveLaws.{get_or-replicate_false}
+use Rattle.std.proofs.Math.Bool.{or-false, or_assoc}
+use Rattle.list_laws.proofs.Booleans.{same_test}
+use Rattle.js_numbers.proofs.Sizes.{lt_true, lt_from}
 
 -- ---- different values have different ranks
-
-lt_true : (a b : ℤ) → a <ℤ b → int_lt a b ≡ true
-lt_true a b e = grind (arith, ints)
-
-lt_from : (a b : ℤ) → int_lt a b ≡ true → a <ℤ b
-lt_from a b e = grind (arith, ints)
 
 -- 1 for true, 0 for false
 abbrev flag : Bool → ℕ
@@ -108,7 +104,7 @@ is_at_from (Some j) k h = ap Some (eqb-true j k h)
 -- the mark of one value is that of another one exactly where they are equal
 pub is_at-mark_of : (limit start : ℕ) (values : List ℤ) (x y : ℤ) (k : ℕ) → mark_of limit start values y ≡ Some k
     → is_at (mark_of limit start values x) k ≡ int_eq x y
-is_at-mark_of limit start values x y k e = same_bool (is_at (mark_of limit start values x) k) (int_eq x y)
+is_at-mark_of limit start values x y k e = same_test (is_at (mark_of limit start values x) k) (int_eq x y)
     (λ h.
     let f = mark_parts limit start (rank_of values x) k (is_at_from (mark_of limit start values x) k h) in
     (Decides-int_eq x y).1 (rank_same values x y (start + k) f (mark_parts limit start (rank_of values y) k e)))
@@ -116,13 +112,9 @@ is_at-mark_of limit start values x y k e = same_bool (is_at (mark_of limit start
     let same : x ≡ y = (Decides-int_eq x y).0 h in
     ap (λ z. is_at (mark_of limit start values z) k) same ∙ ap (λ r. is_at r k) e ∙ eq-eqb k k refl)
 
-or_false : (b : Bool) → b ≡ (b || false)
-or_false true = refl
-or_false false = refl
-
 pub AddsListed-none : (limit start : ℕ) (values : List ℤ) (marks : List Bool)
     → AddsListed limit start values (λ y. false) marks marks
-AddsListed-none limit start values marks = λ y k e. or_false (get_or marks k false)
+AddsListed-none limit start values marks = λ y k e. sym (or-false (get_or marks k false))
 
 -- one element more of a list whose elements give tests
 pub AddsListed-more : {X : Type 0} (limit start : ℕ) (values : List ℤ) (p : X → ℤ → Bool) (xs : List X) (i : ℕ)
@@ -183,7 +175,7 @@ AreListed-from_none limit start n values test new h = λ y k e.
 pub common_by_lcm : (ms : List ℕ) (n : ℕ) → list_all (λ m. nat_lt 0 m) ms ≡ true → (n % lcm_of ms == 0) ≡ is_common ms n
 common_by_lcm ms n p =
     let l = IsLcmOf-lcm_of ms p in
-    same_bool (n % lcm_of ms == 0) (is_common ms n)
+    same_test (n % lcm_of ms == 0) (is_common ms n)
     (λ h. common_along ms (lcm_of ms) n (dvd_of_mod-eq-zero (lcm_of ms) (eqb-true _ _ h)) l.common)
     (λ h. eq-eqb _ _ (mod-eq-zero_of_dvd (lcm_of ms) (l.least n h)))
 

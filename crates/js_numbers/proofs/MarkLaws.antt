@@ -3,7 +3,7 @@ use Rattle.std.proofs.Common.{◌≡◌, ℕ, ◌*◌, ◌/◌, ◌%◌, ◌<◌
 use Rattle.std.specs.List.{list_any}
 use Rattle.std.specs.Ordering.{int_eq}
 use Rattle.std.proofs.lemmas.Int.{ints}
-use Rattle.std.proofs.lemmas.Bool.{eq-eqb, eqb-true}
+use Rattle.std.proofs.lemmas.Bool.{eq-eqb, eqb-true, false_from_ne_true}
 use Rattle.std.proofs.lemmas.Bool.Decides.{Decides-int_eq}
 use Rattle.std.proofs.lemmas.Nat.Gcd.{dvd_of_mod-eq-zero}
 use Rattle.std.proofs.Math.Nat.{mul-mod_left, mul-div_cancel, div-mul_cancel}
@@ -13,18 +13,7 @@ use Rattle.number_groups.specs.Group.{Group, is_listed, is_struck}
 use Rattle.number_groups.specs.Outcome.{multiple_from, candidate, reached}
 use Rattle.js_numbers.proofs.AnswerLaws.{reached_Ok}
 use Rattle.js_numbers.specs.Marking.{AddsMarks, AddsRuledOut, AreMarked, AreStruckMarked}
-
-pub same_bool : (a b : Bool) → (a ≡ true → b ≡ true) → (b ≡ true → a ≡ true) → a ≡ b
-same_bool true b f g = sym (f refl)
-same_bool false true f g = g refl
-same_bool false false f g = refl
-
-false_unless : (b : Bool) → (b ≡ true → ⊥) → false ≡ b
-false_unless false h = refl
-false_unless true h = absurd (h refl)
-
-int_eq_from : (x y : ℤ) → int_eq x y ≡ true → x ≡ y
-int_eq_from x y = (Decides-int_eq x y).0
+use Rattle.list_laws.proofs.Booleans.{same_test}
 
 to_int_eq : (x y : ℤ) → x ≡ y → int_eq x y ≡ true
 to_int_eq x y = (Decides-int_eq x y).1
@@ -32,34 +21,34 @@ to_int_eq x y = (Decides-int_eq x y).1
 -- ---- steps of one size
 
 pub steps_found : (d m k : ℕ) → 0 < m → d % m ≡ 0 → (d / m == k) ≡ (k * m == d)
-steps_found d m k p e = same_bool (d / m == k) (k * m == d)
+steps_found d m k p e = same_test (d / m == k) (k * m == d)
     (λ h. let f = eqb-true (d / m) k h in eq-eqb (k * m) d
     (ap (λ z. z * m) (sym f) ∙ div-mul_cancel m (dvd_of_mod-eq-zero m e)))
     (λ h. let f = eqb-true (k * m) d h in eq-eqb (d / m) k (ap (λ z. z / m) (sym f) ∙ mul-div_cancel k p))
 
 pub steps_none : (d m k limit : ℕ) → 0 < m → (d % m ≡ 0 → limit ≤ d / m) → k < limit → false ≡ (k * m == d)
-steps_none d m k limit p none l = false_unless (k * m == d) (λ h.
+steps_none d m k limit p none l = sym (false_from_ne_true (k * m == d) (λ h.
     let f = eqb-true (k * m) d h in
     let le = none (ap (λ z. z % m) (sym f) ∙ mul-mod_left k m) in
     let count : d / m ≡ k = ap (λ z. z / m) (sym f) ∙ mul-div_cancel k p in
-    omega (arith, le, count))
+    omega (arith, le, count)))
 
 -- ---- upwards and downwards
 
 pub index_up_found : (m : ℕ) (low x first : ℤ) (k d : ℕ) → multiple_from m low 0 ≡ first → first ≤ℤ x
     → d ≡ unsigned_abs (x -ℤ first)
     → (k * m == d) ≡ int_eq x (multiple_from m low k)
-index_up_found m low x first k d e l f = same_bool (k * m == d) (int_eq x (multiple_from m low k))
+index_up_found m low x first k d e l f = same_test (k * m == d) (int_eq x (multiple_from m low k))
     (λ h. let g = eqb-true (k * m) d h in to_int_eq x (multiple_from m low k) (omega (arith, ints, e, f, g)))
-    (λ h. let g = int_eq_from x (multiple_from m low k) h in eq-eqb (k * m) d (omega (arith, ints, e, f, g)))
+    (λ h. let g = (Decides-int_eq x (multiple_from m low k)).0 h in eq-eqb (k * m) d (omega (arith, ints, e, f, g)))
 
 pub index_down_found : (m : ℕ) (low x last : ℤ) (k d : ℕ) → neg_ℤ (multiple_from m low 0) ≡ last → x ≤ℤ last
     → d ≡ unsigned_abs (last -ℤ x)
     → (k * m == d) ≡ int_eq x (neg_ℤ (multiple_from m low k))
-index_down_found m low x last k d e l f = same_bool (k * m == d) (int_eq x (neg_ℤ (multiple_from m low k)))
+index_down_found m low x last k d e l f = same_test (k * m == d) (int_eq x (neg_ℤ (multiple_from m low k)))
     (λ h. let g = eqb-true (k * m) d h in to_int_eq x (neg_ℤ (multiple_from m low k))
     (omega (arith, ints, e, f, g)))
-    (λ h. let g = int_eq_from x (neg_ℤ (multiple_from m low k)) h in
+    (λ h. let g = (Decides-int_eq x (neg_ℤ (multiple_from m low k))).0 h in
     eq-eqb (k * m) d (omega (arith, ints, e, f, g)))
 
 -- ---- marks
@@ -69,10 +58,6 @@ pub AreMarked-from_none : (limit : ℕ) (candidate : ℕ → ℤ) (test : ℤ �
     → AddsMarks limit candidate test (replicate limit false) new → AreMarked limit candidate test new
 AreMarked-from_none limit candidate test new h = λ k l small.
     h k l small ∙ ap (λ b. b || test (candidate k)) (get_or-replicate limit k false false l)
-
-pub or_assoc : (a b c : Bool) → ((a || b) || c) ≡ (a || (b || c))
-or_assoc true b c = refl
-or_assoc false b c = refl
 
 pub or_comm : (a b : Bool) → (a || b) ≡ (b || a)
 or_comm true true = refl

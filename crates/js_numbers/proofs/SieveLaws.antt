@@ -3,7 +3,7 @@ use Rattle.std.proofs.Common.{◌≡◌, ◌≢◌, ℕ, zero, suc, ◌+◌, ◌
 use Rattle.std.specs.List.{list_any}
 use Rattle.std.specs.Int.{IsGcd, int_div_euclid, int_rem_euclid}
 use Rattle.std.proofs.lemmas.Int.{ints}
-use Rattle.std.proofs.lemmas.Bool.{cases_lt, eq-eqb, eqb-true, ltb-true, lt-ltb, le-leb, leb-true, and_parts, and_from, or_cases, false≢true}
+use Rattle.std.proofs.lemmas.Bool.{cases_lt, eq-eqb, eqb-true, ltb-true, lt-ltb, le-leb, leb-true, and_parts, and_from, or_cases, false≢true, or_right}
 use Rattle.std.proofs.lemmas.Nat.Gcd.{dvd_trans, dvd_of_mod-eq-zero}
 use Rattle.std.proofs.lemmas.List.{get_or-set_other}
 use Rattle.std.proofs.lemmas.List.Folds.{list_any_more}
@@ -15,9 +15,10 @@ use Rattle.number_groups.specs.Group.{Group, is_near, is_ready}
 use Rattle.number_groups.specs.Outcome.{multiple_from, alternate, candidate}
 use Rattle.js_numbers.specs.Marking.{AddsMarks, AreStepsMarked, is_on}
 use Rattle.js_numbers.proofs.CommonMultiples.{IsLcm-from_gcd}
-use Rattle.js_numbers.proofs.MarkLaws.{same_bool, or_assoc}
 use Rattle.js_numbers.proofs.PlaceLaws.{divides, is_multiple_from, divides_multiple_from, some_multiple_from, are_candidates}
 use Rattle.js_numbers.proofs.Sizes.{abs-neg, ready_parts}
+use Rattle.list_laws.proofs.Booleans.{same_test}
+use Rattle.std.proofs.Math.Bool.{or_assoc, or-false}
 
 -- ---- the step of a divisor
 
@@ -26,7 +27,7 @@ pub strikes_steps : (b m g : ℕ) (x : ℤ) → 0 < b → IsGcd b m g → is_mul
     → is_multiple b x ≡ is_multiple (b / g * m) x
 strikes_steps b m g x p h e =
     let l = IsLcm-from_gcd b m g p h in
-    same_bool (is_multiple b x) (is_multiple (b / g * m) x)
+    same_test (is_multiple b x) (is_multiple (b / g * m) x)
     (λ d. is_multiple_from (b / g * m) x (l.least (unsigned_abs x) (divides b x d) (divides m x e)))
     (λ d. is_multiple_from b x (dvd_trans b l.first (divides (b / g * m) x d)))
 
@@ -68,17 +69,10 @@ none_between first step j k h i l =
           omega (arith, e, f, near)
     ]
 
-lt_or_not : (j k : ℕ) → k ≤ j → nat_lt j k ≡ false
-lt_or_not j k l = go (nat_lt j k) refl
-  where
-    go : (b : Bool) → nat_lt j k ≡ b → nat_lt j k ≡ false
-    go true e = absurd (omega (arith, ltb-true j k e))
-    go false e = e
-
 -- another number is passed at a step exactly where it was passed before
 pub passed_more : (first step j k : ℕ) → is_on first step k ≡ true → j ≢ k
     → (is_on first step j && nat_lt j (k + step)) ≡ (is_on first step j && nat_lt j k)
-passed_more first step j k h other = same_bool
+passed_more first step j k h other = same_test
     (is_on first step j && nat_lt j (k + step)) (is_on first step j && nat_lt j k)
     (λ e. let (a, b) = and_parts _ _ e in
     let le = none_between first step j k a h (ltb-true j (k + step) b) in
@@ -94,7 +88,7 @@ passed_here first step k p h = and_from _ _ h (lt-ltb k (k + step) (omega arith)
 
 -- none is passed at the first one
 pub passed_none : (first step j : ℕ) → (is_on first step j && nat_lt j first) ≡ false
-passed_none first step j = sym (same_bool false (is_on first step j && nat_lt j first)
+passed_none first step j = sym (same_test false (is_on first step j && nat_lt j first)
     (λ e. absurd (false≢true e))
     (λ e. let (a, b) = and_parts _ _ e in
     let (i, f) = is_on-parts first step j a in
@@ -102,7 +96,7 @@ passed_none first step j = sym (same_bool false (is_on first step j && nat_lt j 
 
 -- all are passed that are below a number
 pub passed_all : (first step j k : ℕ) → j < k → (is_on first step j && nat_lt j k) ≡ is_on first step j
-passed_all first step j k l = same_bool (is_on first step j && nat_lt j k) (is_on first step j)
+passed_all first step j k l = same_test (is_on first step j && nat_lt j k) (is_on first step j)
     (λ e. (and_parts _ _ e).0) (λ e. and_from _ _ e (lt-ltb j k l))
 
 -- ---- upwards and downwards
@@ -170,7 +164,7 @@ pub is_on-multiple_from : (m s k first : ℕ) (low : ℤ) → 0 < m → 0 < s
 is_on-multiple_from m s k first low p r f =
     let q = factor m low in
     let size = abs_multiple_from m low k p in
-    same_bool (is_on first s k) (is_multiple (s * m) (multiple_from m low k))
+    same_test (is_on first s k) (is_multiple (s * m) (multiple_from m low k))
     (λ h.
     let (j, e) = is_on-parts first s k h in
     let same : multiple_from s q j ≡ q +ℤ pos k = omega (arith, ints, e, f) in
@@ -201,7 +195,7 @@ abs_alternate m k = go (k % 2 == 0) refl
 -- the candidates at the steps are the multiples of m that the divisor divides
 pub is_on-alternate : (m s k : ℕ) → 0 < m → 0 < s
     → (is_on 0 (2 * s) k || is_on (2 * s - 1) (2 * s) k) ≡ is_multiple (s * m) (alternate m k)
-is_on-alternate m s k p r = same_bool
+is_on-alternate m s k p r = same_test
     (is_on 0 (2 * s) k || is_on (2 * s - 1) (2 * s) k) (is_multiple (s * m) (alternate m k))
     (λ h. elim (or_cases (is_on 0 (2 * s) k) (is_on (2 * s - 1) (2 * s) k) h) [
       | inl even ↦
@@ -224,10 +218,6 @@ is_on-alternate m s k p r = same_bool
     odd_found : (j : ℕ) → j * s ≡ (k + 1) / 2 → k + 1 ≡ 2 * ((k + 1) / 2) → is_on (2 * s - 1) (2 * s) k ≡ true
     odd_found zero e f = absurd (omega (arith, e))
     odd_found (suc j) e f = is_on-step (2 * s - 1) (2 * s) j k (omega (arith, e))
-
-    or_right : (a b : Bool) → b ≡ true → (a || b) ≡ true
-    or_right true b h = refl
-    or_right false b h = h
 
     found : (j : ℕ) → j * s ≡ (k + 1) / 2 → (is_on 0 (2 * s) k || is_on (2 * s - 1) (2 * s) k) ≡ true
     found j e = elim (cases_lt (k % 2) 1) [
@@ -283,11 +273,7 @@ AreStepsMarked-none limit m n g marks = λ s h. absurd (false≢true (sym (get_o
 
 pub AddsMarks-none : (limit m : ℕ) (g : Group) (marks : List Bool)
     → AddsMarks limit (candidate m g) (λ x. false) marks marks
-AddsMarks-none limit m g marks = λ k l small. sym (or_false (get_or marks k false))
-  where
-    or_false : (b : Bool) → (b || false) ≡ b
-    or_false true = refl
-    or_false false = refl
+AddsMarks-none limit m g marks = λ k l small. sym (or-false (get_or marks k false))
 
 -- one divisor more, of which the candidates at its steps are marked
 pub AddsMarks-divisor : (limit m : ℕ) (g : Group) (bs : List ℕ) (i b step : ℕ) (old mid new : List Bool) → 0 < m

@@ -1,5 +1,5 @@
 -- Numbers within 2^127-1 in size.
-use Rattle.std.proofs.Common.{◌≡◌, ℕ, zero, suc, ◌*◌, ◌^◌, ◌<◌, ◌≤◌, Bool, true, false, Option, Some, None, Ok, Err, ℤ, pos, negsuc, neg_ℤ, ◌+ℤ◌, ◌-ℤ◌, to_z, of_z, ◌≤ℤ◌, ◌<ℤ◌, unsigned_abs, refl, ap, sym, ◌∙◌, subst, arith, SomeIff, FitsSigned, inl, inr, int_le, if◌then◌else◌}
+use Rattle.std.proofs.Common.{◌≡◌, ℕ, zero, suc, ◌*◌, ◌^◌, ◌<◌, ◌≤◌, Bool, true, false, Option, Some, None, Ok, Err, ℤ, pos, negsuc, neg_ℤ, ◌+ℤ◌, ◌-ℤ◌, to_z, of_z, ◌≤ℤ◌, ◌<ℤ◌, unsigned_abs, refl, ap, sym, ◌∙◌, subst, arith, SomeIff, FitsSigned, inl, inr, int_le, if◌then◌else◌, int_lt}
 use Rattle.std.proofs.lemmas.Int.{ints}
 use Rattle.std.proofs.lemmas.Bool.{le-leb, lt-leb, leb-true, cases_lt, and_parts}
 use Rattle.std.specs.Int.{w128, int_rem_euclid}
@@ -149,3 +149,9 @@ pub reached-None : (m : ℕ) (g : Group) (k : ℕ) → is_ready g ≡ true → s
 unfolding reached
 reached-None m g k r e =
     let (p, q) = ready_parts g r in none_reached m g.low g.high k p q e
+
+pub lt_true : (a b : ℤ) → a <ℤ b → int_lt a b ≡ true
+lt_true a b e = grind (arith, ints)
+
+pub lt_from : (a b : ℤ) → int_lt a b ≡ true → a <ℤ b
+lt_from a b e = grind (arith, ints)

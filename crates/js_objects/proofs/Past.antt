@@ -1,12 +1,12 @@
 -- A cell that isn't there has no words.
 use Rattle.std.proofs.Common.{◌≡◌, ℕ, ◌<◌, ◌≤◌, inl, inr, Bool, true, false, cond, List, [], ◌∷◌, map, filter, length, get_or, nat_eq, Ok, refl, ap, sym, ◌∙◌, subst, arith}
-use Rattle.std.proofs.lemmas.Bool.{and_parts, cases_lt, ltb-true, ne_eqb}
+use Rattle.std.proofs.lemmas.Bool.{and_parts, cases_lt, ne_eqb}
 use Rattle.std.proofs.lemmas.List.{get_or_past}
 use Rattle.word_states.specs.Classes.{characters}
 use Rattle.word_states.specs.Mention.{mention_all}
 use Rattle.positions.specs.Position.{Position, is_table}
 use Rattle.position_laws.proofs.Tables.{is_table-IsTable}
-use Rattle.goals.specs.Signed.{Signed, position_of}
+use Rattle.goals.specs.Signed.{Signed}
 use Rattle.list_laws.specs.In.{IsIn}
 use Rattle.cells.specs.Cells.{Cells, vector, same_vector, place, vectors_of}
 use Rattle.cells.specs.WordsInOrder.{shorter}
@@ -18,6 +18,7 @@ use Rattle.js_algebra.specs.View.{is_in_table, are_in_table}
 use Rattle.js_automaton.specs.AutomatonView.{atoms_of, rows_of}
 use Rattle.js_automaton.specs.declared.automaton.Automaton.{Automaton}
 use Rattle.js_objects.specs.Steps.{IsOfNames, cells_by}
+use Rattle.js_algebra.proofs.Inside.{is_in_table-some}
 
 -- a list that has the first numbers has them all, where the others are none
 pub counts-all : (f : ℕ → ℕ) (xs : List ℕ) (n : ℕ) → length xs ≡ n → ((c : ℕ) → c < n → get_or xs c 0 ≡ f c)
@@ -34,10 +35,6 @@ none_in (w ∷ ws) h = absurd (h w (inl refl))
 filter_none : (p : List ℕ → Bool) → ((w : List ℕ) → p w ≡ false) → (ws : List (List ℕ)) → filter p ws ≡ []
 filter_none p h [] = refl
 filter_none p h (w ∷ ws) = ap (λ b. cond b (w ∷ filter p ws) (filter p ws)) (h w) ∙ filter_none p h ws
-
--- a set with a member in the table has a table with places
-some_place : (T : List Position) (x : Signed) → is_in_table T x ≡ true → 0 < length T
-some_place T x h = let l = ltb-true (position_of x) (length T) h in omega (arith, l)
 
 -- of cells that are found rightly
 right_past : (T : List Position) (ranks : List ℕ) → is_table T ranks ≡ true → 0 < length T → (S : List Signed)
@@ -78,5 +75,5 @@ module _ (T : List Position) (ranks : List ℕ) (table : is_table T ranks ≡ tr
       ∙ empty_past T far characters (rows_of a) (first_row (atoms_of a) (rows_of a) a.found.1.0).0 c
       (subst (λ D. length D.vectors ≤ c) is past)
   words-past (x ∷ S) h a names C is c past =
-      right_past T ranks table (some_place T x (and_parts (is_in_table T x) (are_in_table T S) h).0) (x ∷ S) C
+      right_past T ranks table (is_in_table-some T x (and_parts (is_in_table T x) (are_in_table T S) h).0) (x ∷ S) C
       (names.found ∙ ap Ok (sym is)) c past

@@ -19,10 +19,6 @@ pub on_both : {A E : Type 0} (P Q R : Type 0) (r : Result A E) → (P → Q → 
 on_both P Q R (Ok x) f g h = f g h
 on_both P Q R (Err e) f g h = tt
 
-pub none_is : {A : Type 0} (o : Option A) → ((x : A) → o ≡ Some x → ⊥) → o ≡ None
-none_is None h = refl
-none_is (Some x) h = absurd (h x refl)
-
 -- whether there is none, as it was reported
 pub none_told : {A : Type 0} (o : Option A) (b t : Bool) → is_some o ≡ not b → b ≡ t → is_none o ≡ t
 none_told o b t e q = other o ∙ ap not e ∙ twice b ∙ q where

@@ -15,9 +15,9 @@ use Rattle.js_plans.specs.Serving.{plan_after}
 use Rattle.js_plans.specs.Servers.{cells_of}
 use Rattle.js_plan_lines.specs.Reach.{IsPath, server_at, seen}
 use Rattle.js_plan_lines.specs.Cited.{cited_as, cited_from, entry_in}
-use Rattle.js_plan_lines.proofs.Options.{times-cells}
-use Rattle.js_plan_lines.proofs.Plans.{cells-all}
 use Rattle.js_plan_lines.proofs.Placing.{placed-at}
+use Rattle.js_plans.proofs.Options.{times-cells}
+use Rattle.js_plans.proofs.Plans.{cells-all}
 
 abbrev value : {A : Type 0} → A → Option A → A
 value x None = x
@@ -28,12 +28,6 @@ drop-get : {A : Type 0} (xs : List A) (k : ℕ) (x : A) → k < length xs → sl
 drop-get [] k x l e = absurd (omega (arith, l))
 drop-get (y ∷ ys) zero x l e = ap (λ o. value y o ∷ ys) e
 drop-get (y ∷ ys) (suc k) x l e = drop-get ys k x (omega (arith, l)) e
-
-pub drop-past : {A : Type 0} (xs : List A) (k : ℕ) → length xs ≤ k → drop k xs ≡ []
-drop-past [] zero l = refl
-drop-past [] (suc k) l = refl
-drop-past (x ∷ xs) zero l = absurd (omega (arith, l))
-drop-past (x ∷ xs) (suc k) l = drop-past xs k (omega (arith, l))
 
 module _ (T : List Position) (frame : Frame) (ws : List Server) (path : IsPath frame ws) (h k j : ℕ)
     (heads : h ≡ heads_placed frame (plan_after frame ws)) (less : k < length (placed frame (plan_after frame ws)))

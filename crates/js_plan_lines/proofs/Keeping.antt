@@ -1,7 +1,7 @@
 -- What was placed before the last server serves what it served, and doesn't clash where nothing clashed.
 use Rattle.std.proofs.Common.{◌≡◌, ℕ, zero, suc, ◌+◌, ◌-◌, ◌<◌, List, [], ◌∷◌, ◌++◌, take, length, reverse, get_or, Bool, true, false, not, cond, Option, Some, None, slice_get, refl, arith, ap, ap₂, sym, ◌∙◌, subst, true≢false}
 use Rattle.std.specs.Option.{is_none}
-use Rattle.std.proofs.lemmas.Bool.{and_parts, ltb-true}
+use Rattle.std.proofs.lemmas.Bool.{and_parts, ltb-true, not-true}
 use Rattle.std.proofs.lemmas.List.{length-append, take-append-le}
 use Rattle.std.proofs.Math.Seq.{take-length}
 use Rattle.positions.specs.Position.{Position}
@@ -18,8 +18,9 @@ use Rattle.js_plans.specs.Goals.{place_after}
 use Rattle.js_plan_lines.specs.declared.before.Before.{Before}
 use Rattle.js_plan_lines.specs.Reach.{IsPath, seen}
 use Rattle.js_plan_lines.specs.Kept.{IsClear, is_among, is_kept, AreBefore}
-use Rattle.js_plan_lines.proofs.Plans.{members_on-cons, valid-before}
-use Rattle.js_plan_lines.proofs.Placing.{heads-are, placed-count, at-head, at-member}
+use Rattle.js_plan_lines.proofs.Placing.{heads-are, placed-count}
+use Rattle.js_plans.proofs.Plans.{members_on-cons, valid-before}
+use Rattle.js_plans.proofs.Placing.{at-head, at-member}
 
 -- what stands before the last server
 pub cut-last : (ws us : List Server) (s : Server) → ws ≡ us ++ s ∷ [] → take (length ws - 1) ws ≡ us
@@ -96,7 +97,7 @@ module _ (T : List Position) (frame : Frame) (us : List Server) (s : Server) (pa
       (seen-kept (V.Head k) refl (ap (λ n. serves_too (V.Head k) n s) (sym f) ∙ apart))
       ∙ clear-at T frame 0 k (placed frame (plan_after frame us)) (seen frame us (V.Head k)) clear
       (omega (arith, l, e, heads-are frame us first, placed-count frame us first))
-      (at-head frame us first k (omega (arith, l, e, heads-are frame us first)))
+      (at-head frame us first.few first.valid k (omega (arith, l, e, heads-are frame us first)))
   stays-clear h m e f (V.Member j) a apart =
       let l : j < length (cells_of us) = omega (arith, ltb-true j m a, f) in
       ap (λ y. is_none (goal_of T frame y))
@@ -104,7 +105,7 @@ module _ (T : List Position) (frame : Frame) (us : List Server) (s : Server) (pa
       (ap (λ n. serves_too (V.Member j) n s) (sym f) ∙ apart))
       ∙ clear-at T frame 0 (h + j) (placed frame (plan_after frame us)) (seen frame us (V.Member j)) clear
       (omega (arith, l, e, heads-are frame us first, placed-count frame us first))
-      (at-member frame us first j (h + j) (omega (arith, e, heads-are frame us first)) l)
+      (at-member frame us first.few first.valid j (h + j) (omega (arith, e, heads-are frame us first)) l)
   stays-clear h m e f (V.New c) a apart = absurd (true≢false (sym a))
 
 pub path-before : (frame : Frame) (ws us : List Server) (s : Server) → ws ≡ us ++ s ∷ [] → IsPath frame ws
@@ -120,7 +121,4 @@ kept-goal T frame ws (Some b) x path h k =
     let (a, apart) = and_parts (is_among b.heads b.members x) (not (serves_too x b.members b.last)) k in
     subst (λ us. is_none (goal_of T frame (seen frame us x)) ≡ false) (sym h.is)
     (stays-clear T frame h.path b.last (subst (IsPath frame) h.is path) h.clear b.heads b.members h.heads h.members x a
-    (other (serves_too x b.members b.last) apart)) where
-      other : (t : Bool) → not t ≡ true → t ≡ false
-      other true e = sym e
-      other false e = refl
+    (not-true (serves_too x b.members b.last) apart))

@@ -1,8 +1,4 @@
-mod Grown
-mod Served
-mod Seen
 mod Plans
-mod Options
 mod Placing
 mod Keeping
 mod Firsts

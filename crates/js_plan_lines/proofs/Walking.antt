@@ -1,7 +1,7 @@
 -- The lines that are left after each plan that is visited.
-use Rattle.std.proofs.Common.{◌≡◌, ℕ, zero, suc, ◌<◌, ◌≤◌, List, [], ◌∷◌, ◌++◌, map, flat_map, take, drop, length, reverse, get_or, true, false, cond, Option, Some, None, refl, arith, ap, ap₂, sym, ◌∙◌, subst, append-nil, append_assoc}
+use Rattle.std.proofs.Common.{◌≡◌, ℕ, suc, ◌<◌, ◌≤◌, List, [], ◌∷◌, ◌++◌, map, flat_map, take, drop, length, reverse, true, false, cond, Option, Some, None, refl, arith, ap, ap₂, sym, ◌∙◌, subst, append-nil, append_assoc, drop-cons}
 use Rattle.std.proofs.lemmas.Bool.{and_parts}
-use Rattle.std.proofs.lemmas.List.{length-append, take-append-le, reverse-append}
+use Rattle.std.proofs.lemmas.List.{length-append, take-append-le, drop_all}
 use Rattle.std.proofs.Math.Seq.{take-length}
 use Rattle.documents.specs.Tests.{every}
 use Rattle.positions.specs.Position.{Position}
@@ -20,20 +20,11 @@ use Rattle.js_plan_lines.specs.declared.tree.Pending.{Pending}
 use Rattle.js_plan_lines.specs.Reach.{IsPath}
 use Rattle.js_plan_lines.specs.Kept.{IsClear, WasClear}
 use Rattle.js_plan_lines.specs.Left.{entry, Fits, AreFine, AreClear, lines_after, lines_left, Visits}
-use Rattle.js_plan_lines.proofs.Firsts.{drop-past}
-use Rattle.js_plan_lines.proofs.Options.{options-choices, choices-valid}
-use Rattle.js_plan_lines.proofs.Plans.{next-plan, path-take, path-push}
+use Rattle.js_plan_lines.proofs.Plans.{path-take, path-push}
 use Rattle.js_plan_lines.proofs.Keeping.{cut-last}
-
--- a demand is left
-left-on : (n : ℕ) (ds : List Signed) → n < length ds → drop n ds ≡ get_or ds n (Plus 0) ∷ drop (suc n) ds
-left-on n [] l = absurd (omega (arith, l))
-left-on zero (d ∷ ds) l = refl
-left-on (suc n) (d ∷ ds) l = left-on n ds (omega (arith, l))
-
--- the plan that comes next
-popped : (es old : List Pending) (e : Pending) → old ≡ es ++ e ∷ [] → reverse old ≡ e ∷ reverse es
-popped es old e q = ap reverse q ∙ reverse-append es (e ∷ [])
+use Rattle.js_plans.proofs.Options.{options-choices, choices-valid}
+use Rattle.js_plans.proofs.Plans.{next-plan}
+use Rattle.list_laws.proofs.Lists.{reverse-last}
 
 module _ (frame : Frame) where
   fine-more : (ws zs : List Server) (es : List Pending) → AreFine frame ws es → AreFine frame (ws ++ zs) es
@@ -138,7 +129,7 @@ module _ (number : List Signed → Option ℕ) (form : Form) (T : List Position)
       let p = plan_after frame ws in
       let d = next_demand frame ws in
       let ds = drop (suc (length ws)) frame.demands in
-      ap (λ us. lines_from number form T frame us p) (left-on (length ws) frame.demands l)
+      ap (λ us. lines_from number form T frame us p) (drop-cons frame.demands (length ws) (Plus 0) l)
       ∙ by_clash p (L.Split ∷ flat_map (lines_from number form T frame ds) (options frame d p)) None under clear
       ∙ ap (λ ps. L.Split ∷ flat_map (lines_from number form T frame ds) ps) (options-choices frame d p)
       ∙ ap (λ ls. L.Split ∷ ls) (option-lines ws (choices_after frame ws) l)
@@ -149,7 +140,7 @@ module _ (number : List Signed → Option ℕ) (form : Form) (T : List Position)
       → after ws ≡ complete_line number form T frame (plan_after frame ws) ∷ []
   lines-complete ws l under clear =
       let p = plan_after frame ws in
-      ap (λ us. lines_from number form T frame us p) (drop-past frame.demands (length ws) l)
+      ap (λ us. lines_from number form T frame us p) (drop_all (length ws) frame.demands l)
       ∙ by_clash p (complete_line number form T frame p ∷ []) None under clear
 
   -- a plan is visited
@@ -231,7 +222,7 @@ module _ (number : List Signed → Option ℕ) (form : Form) (T : List Position)
       (q : old ≡ es ++ e ∷ []) (cut : path' ≡ take e.level path ++ e.server ∷ [])
       (fine : AreFine frame path (reverse old)) where
     at_next : AreFine frame path (e ∷ reverse es)
-    at_next = subst (λ us. AreFine frame path us) (popped es old e q) fine
+    at_next = subst (λ us. AreFine frame path us) (reverse-last es old e q) fine
 
     pub next-path : IsPath frame path → IsPath frame path'
     next-path p =
@@ -239,14 +230,14 @@ module _ (number : List Signed → Option ℕ) (form : Form) (T : List Position)
         (path-push frame (take e.level path) e.server (path-take frame e.level path p) at_next.1)
 
     clear_next : AreClear T frame path (reverse old) → AreClear T frame path (e ∷ reverse es)
-    clear_next c = subst (λ us. AreClear T frame path us) (popped es old e q) c
+    clear_next c = subst (λ us. AreClear T frame path us) (reverse-last es old e q) c
 
     pub next-was : AreClear T frame path (reverse old) → WasClear T frame path'
     next-was c l = subst (IsClear T frame) (sym (cut-last path' (take e.level path) e.server cut)) (clear_next c).0
 
     next-left : left path (reverse old) ≡ after path' ++ left path' (reverse es)
     next-left =
-        ap (left path) (popped es old e q)
+        ap (left path) (reverse-last es old e q)
         ∙ ap₂ (λ us ls. after us ++ ls) (sym cut)
         (sym (left-more (take e.level path) (e.server ∷ []) (reverse es) at_next.2)
         ∙ ap (λ us. left us (reverse es)) (sym cut))

@@ -1,7 +1,7 @@
 -- What serves the next demand serves these demands, and a longer list clashes where a shorter one does.
-use Rattle.std.proofs.Common.{◌≡◌, inl, inr, Result, Ok, Err, IfOk, ℕ, zero, suc, ◌+◌, ◌<◌, List, [], ◌∷◌, ◌++◌, map, reverse, length, get_or, Bool, true, false, ◌||◌, cond, Some, None, refl, arith, ap, ap₂, sym, ◌∙◌, subst, append-nil}
+use Rattle.std.proofs.Common.{◌≡◌, inl, inr, ℕ, zero, suc, ◌+◌, ◌<◌, List, [], ◌∷◌, ◌++◌, map, reverse, length, get_or, Bool, true, false, ◌||◌, cond, Some, None, refl, arith, ap, ap₂, sym, ◌∙◌, subst, append-nil}
 use Rattle.std.proofs.lemmas.Bool.{and_parts, and_from, or_left, or_right, or_cases}
-use Rattle.std.proofs.lemmas.List.{map-append, length-map, reverse-append}
+use Rattle.std.proofs.lemmas.List.{map-append, length-map}
 use Rattle.documents.specs.Tests.{every}
 use Rattle.positions.specs.Position.{Position}
 use Rattle.goals.specs.Signed.{Signed, Plus, has, add_all, opposite}
@@ -14,16 +14,11 @@ use Rattle.js_algebra.specs.declared.signed.Signed as C
 use Rattle.js_algebra.proofs.Choosing.{get_or-map}
 use Rattle.js_plans.specs.declared.server.Server.{Server}
 use Rattle.js_plans.specs.declared.path.Served.{Served}
-use Rattle.js_plans.specs.Servers.{earlier, serves_too, members_after, servers_of}
+use Rattle.js_plans.specs.Servers.{earlier, servers_of}
 use Rattle.js_plans.specs.Goals.{AreFirst}
-
-pub map-reverse : {A B : Type 0} (f : A → B) (xs : List A) → map f (reverse xs) ≡ reverse (map f xs)
-map-reverse f [] = refl
-map-reverse f (x ∷ xs) =
-    ap (map f) (reverse-append (x ∷ []) xs)
-    ∙ map-append f (reverse xs) (x ∷ [])
-    ∙ ap (λ ys. ys ++ f x ∷ []) (map-reverse f xs)
-    ∙ sym (reverse-append (f x ∷ []) (map f xs))
+use Rattle.list_laws.proofs.Lists.{map-reverse}
+use Rattle.js_plans.proofs.Served.{every-reverse, every-earlier}
+use Rattle.list_laws.proofs.Every.{every-append}
 
 pub served_list : (s : Server) (ds : List C.Signed) (D : List Signed) (path : List Served) (v xs ys : List C.Signed)
     (z : C.Signed) (n : ℕ) → map signed_view ds ≡ D
@@ -40,35 +35,7 @@ served_list s ds D path v xs ys z n same e more count l back =
     ∙ ap₂ (λ us k. reverse (earlier s us 0 (servers_of path) ++ get_or us k (Plus 0) ∷ [])) same
     (count ∙ sym (length-map path (λ e. e.server)))
 
-pub if_ok : {A E : Type 0} (P Q : A → Type 0) (r : Result A E) → ((x : A) → P x → Q x) → IfOk r P → IfOk r Q
-if_ok P Q (Ok x) f h = f x h
-if_ok P Q (Err e) f h = tt
-
 module _ (p : Signed → Bool) where
-  every-append : (xs ys : List Signed) → every p xs ≡ true → every p ys ≡ true → every p (xs ++ ys) ≡ true
-  every-append [] ys a b = b
-  every-append (x ∷ xs) ys a b =
-      let (h, t) = and_parts (p x) (every p xs) a in and_from _ _ h (every-append xs ys t b)
-
-  every-reverse : (xs : List Signed) → every p xs ≡ true → every p (reverse xs) ≡ true
-  every-reverse [] a = refl
-  every-reverse (x ∷ xs) a =
-      let (h, t) = and_parts (p x) (every p xs) a in
-      subst (λ ys. every p ys ≡ true) (sym (reverse-append (x ∷ []) xs))
-      (every-append (reverse xs) (x ∷ []) (every-reverse xs t) (and_from _ _ h refl))
-
-  every-earlier : (s : Server) (ds : List Signed) (m : ℕ) (ws : List Server) → every p ds ≡ true
-      → every p (earlier s ds m ws) ≡ true
-  every-earlier s ds m [] a = refl
-  every-earlier s [] m (w ∷ ws) a = refl
-  every-earlier s (d ∷ ds) m (w ∷ ws) a =
-      let (h, t) = and_parts (p d) (every p ds) a in
-      go (serves_too s m w) h (every-earlier s ds (members_after m w) ws t) where
-        go : (b : Bool) → p d ≡ true → every p (earlier s ds (members_after m w) ws) ≡ true
-            → every p (cond b (d ∷ earlier s ds (members_after m w) ws) (earlier s ds (members_after m w) ws)) ≡ true
-        go true h t = and_from _ _ h t
-        go false h t = t
-
   every-get : (ds : List Signed) (n : ℕ) (z : Signed) → n < length ds → every p ds ≡ true → p (get_or ds n z) ≡ true
   every-get [] n z l a = absurd (omega (arith, l))
   every-get (d ∷ ds) zero z l a = (and_parts (p d) (every p ds) a).0
@@ -77,7 +44,7 @@ module _ (p : Signed → Bool) where
   pub every-served : (s : Server) (ds : List Signed) (ws : List Server) → length ws < length ds → every p ds ≡ true
       → every p (reverse (earlier s ds 0 ws ++ get_or ds (length ws) (Plus 0) ∷ [])) ≡ true
   every-served s ds ws l a =
-      every-reverse _ (every-append (earlier s ds 0 ws) _ (every-earlier s ds 0 ws a)
+      every-reverse p _ (every-append p (earlier s ds 0 ws) _ (every-earlier p s ds 0 ws a)
       (and_from _ _ (every-get ds (length ws) (Plus 0) l a) refl))
 
 pub first-push : (T : List Position) (frame : Frame) (k : ℕ) (gs : List (List Signed)) (g : List Signed)

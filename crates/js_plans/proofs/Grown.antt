@@ -1,7 +1,7 @@
 -- What a list of servers says of the plan that it makes.
 use Rattle.std.proofs.Common.{◌≡◌, ℕ, zero, suc, ◌+◌, ◌<◌, ◌≤◌, max, List, [], ◌∷◌, ◌++◌, map, drop, length, get_or, Bool, true, false, cond, refl, arith, ap, ap₂, sym, ◌∙◌, subst, drop-cons, append-nil, append_assoc}
 use Rattle.std.proofs.lemmas.Bool.{and_parts, ltb-true}
-use Rattle.std.proofs.lemmas.List.{map-append}
+use Rattle.std.proofs.lemmas.List.{map-append, length_push}
 use Rattle.goals.specs.Signed.{Signed}
 use Rattle.js_algebra.specs.View.{signed_view}
 use Rattle.js_algebra.specs.declared.signed.Signed as C
@@ -11,6 +11,7 @@ use Rattle.js_plans.specs.declared.server.Server.{Server}
 use Rattle.js_plans.specs.declared.server.Server.TheVariants as V
 use Rattle.js_plans.specs.Serving.{serve, serve_all}
 use Rattle.js_plans.specs.Servers.{with_cell, cells_of, members_after, used_after, most_used, serves_too, earlier, is_valid, are_valid, servers_of}
+use Rattle.frame_laws.proofs.Lengths.{length-serve_head, length-serve_member}
 
 -- a step of the loop over the path
 one_earlier : (s w : Server) (ds : List Signed) (d : Signed) (found : List Signed) (m : ℕ) (ws : List Server)
@@ -46,10 +47,32 @@ next_earlier s path demands i m x y b found found' all l k at also is more e =
       by_case true = refl
       by_case false = refl
 
-pub get_same : {A : Type 0} (xs : List A) (i : ℕ) (a b : A) → i < length xs → get_or xs i a ≡ get_or xs i b
-get_same [] i a b l = absurd (omega (arith, l))
-get_same (x ∷ xs) zero a b l = refl
-get_same (x ∷ xs) (suc i) a b l = get_same xs i a b (omega (arith, l))
+-- the same over servers alone
+pub next_earlier-servers : (s : Server) (path : List Server) (demands : List C.Signed) (i m : ℕ) (x : Server)
+    (y : C.Signed) (b : Bool) (found found' : List C.Signed) (all : List Signed) → i < length path → i < length demands
+    → x ≡ get_or path i x → y ≡ get_or demands i y → b ≡ serves_too s m x → found' ≡ found ++ cond b (y ∷ []) []
+    → map signed_view found ++ earlier s (map signed_view (drop i demands)) m (drop i path) ≡ all
+    → map signed_view found' ++ earlier s (map signed_view (drop (i + 1) demands)) (members_after m x)
+    (drop (i + 1) path) ≡ all
+next_earlier-servers s path demands i m x y b found found' all l k at also is more e =
+    let after : suc i ≡ i + 1 = omega arith in
+    let ds = map signed_view (drop (i + 1) demands) in
+    let ws = drop (i + 1) path in
+    let cut : drop i path ≡ x ∷ drop (i + 1) path =
+    drop-cons path i x l ∙ ap₂ (λ z n. z ∷ drop n path) (sym at) after in
+    let also_cut : drop i demands ≡ y ∷ drop (i + 1) demands =
+    drop-cons demands i y k ∙ ap₂ (λ z n. z ∷ drop n demands) (sym also) after in
+    ap (λ zs. map signed_view zs ++ earlier s ds (members_after m x) ws) more
+    ∙ ap (λ zs. zs ++ earlier s ds (members_after m x) ws)
+    (map-append signed_view found (cond b (y ∷ []) []) ∙ ap (λ zs. map signed_view found ++ zs) (by_case b))
+    ∙ sym (one_earlier s x ds (signed_view y) (map signed_view found) m ws b)
+    ∙ ap (λ c. map signed_view found ++ cond c (signed_view y ∷ earlier s ds (members_after m x) ws)
+    (earlier s ds (members_after m x) ws)) is
+    ∙ ap₂ (λ zs es. map signed_view found ++ earlier s (map signed_view zs) m (es)) (sym also_cut) (sym cut)
+    ∙ e where
+      by_case : (b : Bool) → map signed_view (cond b (y ∷ []) []) ≡ cond b (signed_view y ∷ []) []
+      by_case true = refl
+      by_case false = refl
 
 pub few_after : (m : ℕ) (s : Server) → members_after m s ≤ m + 1
 few_after m (V.Head k) = omega arith
@@ -60,11 +83,6 @@ pub get_within : {A : Type 0} (xs : List A) (i : ℕ) → i < length xs → (x :
 get_within [] i l = absurd (omega (arith, l))
 get_within (x ∷ xs) zero l = (x, refl)
 get_within (x ∷ xs) (suc i) l = get_within xs i (omega (arith, l))
-
-pub length-serve_head : (d : Signed) (xs : List (List Signed)) (k : ℕ) → length (serve_head d xs k) ≡ length xs
-length-serve_head d [] k = refl
-length-serve_head d (x ∷ xs) zero = refl
-length-serve_head d (x ∷ xs) (suc k) = ap suc (length-serve_head d xs k)
 
 cells-serve_member : (d : Signed) (ms : List Member) (k : ℕ)
     → map (λ m. m.cell) (serve_member d ms k) ≡ map (λ m. m.cell) ms
@@ -98,10 +116,7 @@ cells-serve d p (V.New c) cs = push p.members where
 -- the cells of the members
 pub cells-serve_all : (ds : List Signed) (ws : List Server) (p : Plan) → length ws ≤ length ds
     → cells_in (serve_all ds ws p) ≡ cells_in p ++ cells_of ws
-cells-serve_all ds [] p l = no_more (cells_in p) where
-  no_more : (xs : List ℕ) → xs ≡ xs ++ []
-  no_more [] = refl
-  no_more (x ∷ xs) = ap (λ ys. x ∷ ys) (no_more xs)
+cells-serve_all ds [] p l = sym (append-nil (cells_in p))
 cells-serve_all [] (w ∷ ws) p l = absurd (omega (arith, l))
 cells-serve_all (d ∷ ds) (w ∷ ws) p l =
     cells-serve_all ds ws (serve d p w) (omega (arith, l)) ∙ cells-serve d p w (cells_of ws)
@@ -110,15 +125,8 @@ cells-serve_all (d ∷ ds) (w ∷ ws) p l =
 pub members-serve : (d : Signed) (p : Plan) (s : Server)
     → length (serve d p s).members ≡ members_after (length p.members) s
 members-serve d p (V.Head k) = refl
-members-serve d p (V.Member k) = same p.members k where
-  same : (ms : List Member) (k : ℕ) → length (serve_member d ms k) ≡ length ms
-  same [] k = refl
-  same (m ∷ ms) zero = refl
-  same (m ∷ ms) (suc k) = ap suc (same ms k)
-members-serve d p (V.New c) = longer p.members where
-  longer : (ms : List Member) → length (ms ++ member c (d ∷ []) ∷ []) ≡ length ms + 1
-  longer [] = refl
-  longer (m ∷ ms) = omega (arith, longer ms)
+members-serve d p (V.Member k) = length-serve_member d p.members k
+members-serve d p (V.New c) = length_push p.members (member c (d ∷ []))
 
 -- one more than the last first place that serves
 pub used-serve_head : (d : Signed) (xs : List (List Signed)) (k : ℕ) → k < length xs

@@ -1,8 +1,11 @@
+pub mod Grown
+pub mod Seen
+pub mod Plans
+pub mod Placing
+pub mod Served
+pub mod Options
 mod Opening
-mod Grown
 mod Forming
-mod Seen
 mod Shown
-mod Options
 mod Remaining
 mod Namings

@@ -27,8 +27,8 @@ use Rattle.js_plans.specs.Placing.{put_head, put_member, put_heads, put_members}
 use Rattle.js_plans.specs.Walks.{placed_heads, IsPath}
 use Rattle.js_plans.specs.Named.{naming_view, placed_from, filler_in}
 use Rattle.js_plans.proofs.Options.{times-cells}
-use Rattle.js_plans.proofs.Shown.{heads-long, cells-all}
 use Rattle.js_plans.proofs.Remaining.{shown-path}
+use Rattle.js_plans.proofs.Plans.{heads-long, cells-all}
 
 pub times-reverse : (c : ℕ) (xs : List ℕ) → times c (reverse xs) ≡ times c xs
 times-reverse c [] = refl
@@ -141,7 +141,7 @@ module _ (T : List Position) (frame : Frame) where
       let ws = servers_of es in
       let q = plan_after frame ws in
       let k = placed_heads frame ws in
-      let heads = heads-long T frame ws in
+      let heads = heads-long frame ws in
       let few : length ws ≤ length frame.demands = omega (arith, path.few, length-map es (λ e. e.server)) in
       let same : length (range_with_len 0 k) ≡ length (put_heads es (take k gs)) =
       omega (arith, length-range_with_len 0 k, length-put_heads es (take k gs), length-take-le k gs l) in
@@ -149,7 +149,7 @@ module _ (T : List Position) (frame : Frame) where
       members_are n 0 [] (placed frame q) (put_heads es (take k gs) ++ put_members es [])
       (shown-path T frame es gs path first l)
       ∙ ap (λ cs. placed_from (naming_view n) 0 [] cs (put_heads es (take k gs) ++ put_members es []))
-      (placed-cells q ∙ ap₂ (λ h cs. range_with_len 0 (min (size frame q) h) ++ cs) heads (cells-all T frame ws few))
+      (placed-cells q ∙ ap₂ (λ h cs. range_with_len 0 (min (size frame q) h) ++ cs) heads (cells-all frame ws few))
       ∙ placed_append (naming_view n) 0 [] (range_with_len 0 k) (cells_of ws) (put_heads es (take k gs))
       (put_members es []) same
       ∙ ap₂ (λ i before. placed_from (naming_view n) 0 [] (range_with_len 0 k) (put_heads es (take k gs))
@@ -161,8 +161,8 @@ module _ (T : List Position) (frame : Frame) where
   placed-length ws l =
       let q = plan_after frame ws in
       sym (length-map (placed frame q) (λ s. cell_of s.0))
-      ∙ ap length (placed-cells q ∙ ap₂ (λ h cs. range_with_len 0 (min (size frame q) h) ++ cs) (heads-long T frame ws)
-      (cells-all T frame ws l))
+      ∙ ap length (placed-cells q ∙ ap₂ (λ h cs. range_with_len 0 (min (size frame q) h) ++ cs) (heads-long frame ws)
+      (cells-all frame ws l))
       ∙ length-append (range_with_len 0 (placed_heads frame ws)) (cells_of ws)
       ∙ ap (λ n. n + length (cells_of ws)) (length-range_with_len 0 (placed_heads frame ws))
 
@@ -176,7 +176,7 @@ module _ (T : List Position) (frame : Frame) where
         each [] = refl
         each (c ∷ cs) =
             let e : count_in c (plan_after frame ws).members ≡ times c (cells_of ws) =
-            sym (times-cells c (plan_after frame ws).members) ∙ ap (times c) (cells-all T frame ws l) in
+            sym (times-cells c (plan_after frame ws).members) ∙ ap (times c) (cells-all frame ws l) in
             ap₂ (λ n fs. with_room c n (goal_of T frame (In c, [])) (frame.room c n) ++ fs) e (each cs)
 
 abbrev alternative_of : Kind → ℕ → A.Shape → List A.Placed → ℕ → List A.Filler → A.Alternative

@@ -1,18 +1,47 @@
 -- The choices by the cells of the members, and that each of them is there.
 use Rattle.std.proofs.Common.{◌≡◌, ℕ, zero, suc, ◌+◌, ◌-◌, ◌<◌, ◌≤◌, List, [], ◌∷◌, ◌++◌, map, filter, length, Bool, true, false, ◌&&◌, not, cond, nat_eq, refl, arith, ap, ap₂, sym, ◌∙◌}
 use Rattle.std.specs.List.{range_with_len}
-use Rattle.std.proofs.lemmas.Bool.{and_parts, and_from, lt-ltb}
+use Rattle.std.proofs.lemmas.Bool.{and_from, lt-ltb}
 use Rattle.documents.specs.Tests.{every}
 use Rattle.goals.specs.Signed.{Signed}
 use Rattle.frames.specs.Frame.{Frame, is_at_end}
-use Rattle.frames.specs.Plan.{Member, count_in, has_room, servers}
+use Rattle.frames.specs.Plan.{Member, count_in, has_room, servers, Plan, plan, member, serve_head, serve_member, options}
 use Rattle.frames.specs.Fillers.{times}
 use Rattle.js_plans.specs.declared.server.Server.{Server}
 use Rattle.js_plans.specs.declared.server.Server.TheVariants as V
-use Rattle.js_plans.specs.Serving.{plan_after}
+use Rattle.js_plans.specs.Serving.{plan_after, serve, choices}
 use Rattle.js_plans.specs.Servers.{cells_of, is_valid}
 use Rattle.js_plans.specs.Choosing.{next_demand, choices_after, serving_cells, open_cells}
-use Rattle.js_plans.proofs.Shown.{heads-long, members-count, cells-all}
+use Rattle.list_laws.proofs.Every.{every-append}
+use Rattle.js_plans.proofs.Plans.{heads-long, members-count, cells-all}
+use Rattle.std.proofs.lemmas.List.{map-append}
+
+by_head : (d : Signed) (p : Plan) (xs : List ℕ)
+    → map (λ k. plan (serve_head d p.heads k) p.members) xs ≡ map (serve d p) (map V.Head xs)
+by_head d p [] = refl
+by_head d p (x ∷ xs) = ap (λ ps. plan (serve_head d p.heads x) p.members ∷ ps) (by_head d p xs)
+
+by_member : (d : Signed) (p : Plan) (xs : List ℕ)
+    → map (λ k. plan p.heads (serve_member d p.members k)) xs ≡ map (serve d p) (map V.Member xs)
+by_member d p [] = refl
+by_member d p (x ∷ xs) = ap (λ ps. plan p.heads (serve_member d p.members x) ∷ ps) (by_member d p xs)
+
+by_new : (d : Signed) (p : Plan) (xs : List ℕ)
+    → map (λ c. plan p.heads (p.members ++ member c (d ∷ []) ∷ [])) xs ≡ map (serve d p) (map V.New xs)
+by_new d p [] = refl
+by_new d p (x ∷ xs) = ap (λ ps. plan p.heads (p.members ++ member x (d ∷ []) ∷ []) ∷ ps) (by_new d p xs)
+
+pub options-choices : (frame : Frame) (d : Signed) (p : Plan)
+    → options frame d p ≡ map (serve d p) (choices frame d p)
+options-choices frame d p =
+    let hs = range_with_len 0 (length p.heads) in
+    let ms = servers frame d 0 p.members in
+    let cs = filter (λ c. frame.inside d c && has_room frame p.members c) frame.cells in
+    ap₂ (λ xs ys. xs ++ ys)
+    (ap₂ (λ xs ys. xs ++ ys) (by_head d p hs) (by_member d p ms)
+    ∙ sym (map-append (serve d p) (map V.Head hs) (map V.Member ms)))
+    (by_new d p cs)
+    ∙ sym (map-append (serve d p) (map V.Head hs ++ map V.Member ms) (map V.New cs))
 
 pub range-next : (k n : ℕ) → k < n → range_with_len k (n - k) ≡ k ∷ range_with_len (k + 1) (n - (k + 1))
 range-next k n l = step (n - k) (n - (k + 1)) (omega (arith, l)) where
@@ -60,7 +89,7 @@ module _ (frame : Frame) where
       let d = next_demand frame ws in
       let p = plan_after frame ws in
       ap₂ (λ h cs. (map V.Head (range_with_len 0 h) ++ serving_cells frame d 0 cs) ++ open_cells frame d cs frame.cells)
-      (sym (heads-long [] frame ws)) (sym (cells-all [] frame ws l))
+      (sym (heads-long frame ws)) (sym (cells-all frame ws l))
       ∙ ap₂ (λ xs ys. (map V.Head (range_with_len 0 (length p.heads)) ++ xs) ++ ys) (serving-members d 0 p.members)
       (open-members d p.members frame.cells)
 
@@ -86,15 +115,9 @@ module _ (frame : Frame) where
       every-append _ (map V.Head (range_with_len 0 (length p.heads)) ++ map V.Member (servers frame d 0 p.members))
       (map V.New cs)
       (every-append _ (map V.Head (range_with_len 0 (length p.heads))) (map V.Member (servers frame d 0 p.members))
-      (heads-few 0 (length p.heads) (omega (arith, heads-long [] frame ws)))
-      (servers-few d 0 n p.members frame.heads (omega (arith, members-count [] frame ws l))))
+      (heads-few 0 (length p.heads) (omega (arith, heads-long frame ws)))
+      (servers-few d 0 n p.members frame.heads (omega (arith, members-count frame ws l))))
       (new-few cs) where
-        every-append : (q : Server → Bool) (xs ys : List Server) → every q xs ≡ true → every q ys ≡ true
-            → every q (xs ++ ys) ≡ true
-        every-append q [] ys a b = b
-        every-append q (x ∷ xs) ys a b =
-            let (h, t) = and_parts (q x) (every q xs) a in and_from _ _ h (every-append q xs ys t b)
-
         heads-few : (k n : ℕ) → k + n ≤ frame.heads
             → every (is_valid frame.heads (length (cells_of ws))) (map V.Head (range_with_len k n)) ≡ true
         heads-few k zero l = refl

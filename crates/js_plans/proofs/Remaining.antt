@@ -1,14 +1,14 @@
 -- The plans that are still to be visited: the steps that are left after each step of the walk.
-use Rattle.std.proofs.Common.{◌≡◌, ℕ, zero, suc, ◌+◌, ◌<◌, ◌≤◌, inl, inr, List, [], ◌∷◌, ◌++◌, map, flat_map, take, drop, length, max, replicate, reverse, Bool, true, false, cond, Option, Some, None, refl, arith, ap, ap₂, sym, ◌∙◌, subst, append-nil, append_assoc}
+use Rattle.std.proofs.Common.{◌≡◌, ℕ, zero, suc, ◌+◌, ◌<◌, ◌≤◌, inl, inr, List, [], ◌∷◌, ◌++◌, map, flat_map, take, drop, length, reverse, Bool, true, false, cond, Option, Some, None, refl, arith, ap, ap₂, sym, ◌∙◌, subst, append-nil, append_assoc}
 use Rattle.std.proofs.lemmas.Bool.{and_parts, cases_lt}
-use Rattle.std.proofs.lemmas.List.{map-append, take-append-drop, length-map, length-append, length-take, take-append-le, reverse-append}
+use Rattle.std.proofs.lemmas.List.{map-append, take-append-drop, length-map, length-append, length-take, take-append-le}
 use Rattle.std.proofs.Math.Seq.{take-length}
 use Rattle.documents.specs.Tests.{every}
 use Rattle.positions.specs.Position.{Position}
 use Rattle.goals.specs.Signed.{Signed}
 use Rattle.frames.specs.Frame.{Frame, is_at_end}
 use Rattle.frames.specs.Plan as S
-use Rattle.frames.specs.Plan.{Plan, Member, used, with_members, placed, goal_of, PlanStep, Over, Clashing, Split, Complete, size, ends, complete, steps, first_clash, by_clash, unless_dropped, empty_plan}
+use Rattle.frames.specs.Plan.{Plan, placed, goal_of, PlanStep, Over, Clashing, Split, Complete, size, ends, complete, steps, first_clash, by_clash, unless_dropped, empty_plan}
 use Rattle.frame_laws.proofs.FewMembers.{ends_append, unless_same, some_end}
 use Rattle.js_plans.specs.declared.server.Server.{Server}
 use Rattle.js_plans.specs.declared.path.Served.{Served}
@@ -16,15 +16,16 @@ use Rattle.js_plans.specs.declared.walk.Pending.{Pending}
 use Rattle.js_plans.specs.declared.walk.PlanStep as C
 use Rattle.js_plans.specs.declared.walk.PlanStep.TheVariants as W
 use Rattle.js_plans.specs.Serving.{plan_after, steps_after}
-use Rattle.js_plans.specs.Servers.{cells_of, most_used, is_valid, are_valid, servers_of}
+use Rattle.js_plans.specs.Servers.{cells_of, is_valid, are_valid, servers_of}
 use Rattle.js_plans.specs.Goals.{goal_after, AreFirst, AreGoals}
 use Rattle.js_plans.specs.Placing.{put_heads, put_members}
 use Rattle.js_plans.specs.Choosing.{choices_after}
-use Rattle.js_plans.specs.Walks.{listed, placed_heads, size_of, with_count, IsClash, IsDropped, GoesOn, Opens, IsPath, Fits, AreFine, steps_left, entry, Matches, is_end, one_more, told_plans}
+use Rattle.js_plans.specs.Walks.{listed, placed_heads, IsClash, IsDropped, GoesOn, Opens, IsPath, Fits, AreFine, steps_left, entry, Matches, is_end, one_more, told_plans}
 use Rattle.js_plans.proofs.Opening.{steps-split, steps-complete}
 use Rattle.js_plans.proofs.Options.{choices-valid}
-use Rattle.js_plans.proofs.Shown.{valid-before, valid-push, no-clash, shown-placed, heads-long, members-count, server-clash}
-use Rattle.js_plans.proofs.Grown.{used-serve_all}
+use Rattle.js_plans.proofs.Shown.{no-clash, shown-placed, server-clash}
+use Rattle.js_plans.proofs.Plans.{valid-before, valid-push}
+use Rattle.list_laws.proofs.Lists.{reverse-last}
 
 module _ (T : List Position) (frame : Frame) where
   -- servers that come later change nothing of what stands before them
@@ -207,23 +208,6 @@ module _ (T : List Position) (frame : Frame) where
         (subst (λ m. is_valid frame.heads m s ≡ true) (omega arith) v),
   )
 
-  pub size-plan : (ws : List Server) → length ws ≤ length frame.demands → are_valid frame.heads 0 ws ≡ true
-      → size frame (plan_after frame ws) ≡ size_of frame (most_used 0 ws) (length (cells_of ws))
-  size-plan ws l v =
-      let p = plan_after frame ws in
-      ap₂ (λ u n. max frame.floor (max u n))
-      (used-serve_all frame.demands ws (empty_plan frame) l
-      (subst (λ h. are_valid h 0 ws ≡ true) (sym (heads-long T frame [])) v)
-      ∙ ap (λ n. most_used n ws) (none_used frame.heads))
-      (counted p.members ∙ ap (with_count frame.heads) (members-count T frame ws l)) where
-        none_used : (n : ℕ) → used (replicate n []) ≡ 0
-        none_used zero = refl
-        none_used (suc n) = ap (S.one_more []) (none_used n)
-
-        counted : (ms : List Member) → with_members frame.heads ms ≡ with_count frame.heads (length ms)
-        counted [] = refl
-        counted (m ∷ ms) = refl
-
   -- the step of a plan that is dropped
   pub dropped : (ws vs : List Server) (s : C.PlanStep) (rest : List PlanStep) → IsDropped T frame ws s
       → (step : PlanStep) × Matches frame vs s step × (steps_after T frame ws ++ rest ≡ step ∷ rest)
@@ -280,14 +264,9 @@ module _ (T : List Position) (frame : Frame) where
             (subst (λ us. AreFine frame us (reverse ps)) (sym on.servers) more),
       )
 
-  -- the plan that is visited next
-  pub popped : (ws : List Server) (es old : List Pending) (e : Pending) → old ≡ es ++ e ∷ []
-      → reverse old ≡ e ∷ reverse es
-  popped ws es old e q = ap reverse q ∙ reverse-append es (e ∷ [])
-
   pub next-fine : (ws : List Server) (es old : List Pending) (e : Pending) → old ≡ es ++ e ∷ []
       → AreFine frame ws (reverse old) → AreFine frame ws (e ∷ reverse es)
-  next-fine ws es old e q f = subst (λ us. AreFine frame ws us) (popped ws es old e q) f
+  next-fine ws es old e q f = subst (λ us. AreFine frame ws us) (reverse-last es old e q) f
 
   -- the plan of a server that clashes
   pub clashed : (es : List Served) (server : Option Server) → IsPath T frame es → Fits frame (servers_of es) server
@@ -305,7 +284,7 @@ module _ (T : List Position) (frame : Frame) where
       → path' ≡ take e.level path → steps_left T frame (servers_of path) (reverse old)
       ≡ steps_after T frame (servers_of path' ++ listed e.server) ++ steps_left T frame (servers_of path') (reverse es)
   left-next path path' es old e q cut =
-      ap (steps_left T frame (servers_of path)) (popped (servers_of path) es old e q)
+      ap (steps_left T frame (servers_of path)) (reverse-last es old e q)
       ∙ ap (λ us. steps_after T frame (us ++ listed e.server) ++ steps_left T frame us (reverse es))
       (sym (ap servers_of cut ∙ servers-take e.level path))
 
@@ -323,7 +302,3 @@ complete-told frame ws W.Over step rest m = ap (λ x. complete (x ∷ rest)) m
 complete-told frame ws W.Clashing step rest m = ap (λ x. complete (x ∷ rest)) m.1
 complete-told frame ws (W.Split n) step rest m = ap (λ x. complete (x ∷ rest)) m
 complete-told frame ws W.Complete step rest m = ap (λ x. complete (x ∷ rest)) m
-
-pub none_is : {A : Type 0} (o : Option A) → ((x : A) → o ≡ Some x → ⊥) → o ≡ None
-none_is None h = refl
-none_is (Some x) h = absurd (h x refl)

@@ -2,25 +2,26 @@
 -- list of a server or of a first place clashes, the plan is dropped.
 use Rattle.std.proofs.Common.{◌≡◌, ℕ, zero, suc, ◌+◌, ◌<◌, ◌≤◌, max, min, List, [], ◌∷◌, ◌++◌, map, reverse, take, length, get_or, set, replicate, true, cond, Option, Some, None, refl, arith, ap, ap₂, sym, ◌∙◌, subst, append-nil, append_assoc}
 use Rattle.std.specs.Option.{is_none}
-use Rattle.std.proofs.lemmas.Bool.{and_parts, and_from, ltb-true}
+use Rattle.std.proofs.lemmas.Bool.{and_parts, ltb-true}
 use Rattle.std.proofs.lemmas.List.{map-append, length-map, length-append, map-set, reverse-append}
 use Rattle.std.proofs.lemmas.Simd.{map-map}
 use Rattle.positions.specs.Position.{Position}
-use Rattle.goals.specs.Signed.{Signed, Plus}
+use Rattle.goals.specs.Signed.{Signed}
 use Rattle.frames.specs.Frame as F
 use Rattle.frames.specs.Frame.{Frame, Head, In, is_at_end}
 use Rattle.frames.specs.Plan.{Plan, Member, member, empty_plan, serve_head, serve_member, used, size, goal_of, heads_from, placed, clash_from, first_clash}
 use Rattle.js_plans.specs.declared.server.Server.{Server}
 use Rattle.js_plans.specs.declared.server.Server.TheVariants as V
 use Rattle.js_plans.specs.declared.path.Served.{Served}
-use Rattle.js_plans.specs.Serving.{serve, serve_all, plan_after}
+use Rattle.js_plans.specs.Serving.{serve, plan_after}
 use Rattle.js_plans.specs.Servers.{cells_of, members_after, used_after, most_used, earlier, is_valid, are_valid, servers_of}
 use Rattle.js_plans.specs.Goals.{place_after, goal_after, AreFirst, AreGoals}
 use Rattle.js_plans.specs.Choosing.{next_demand}
 use Rattle.js_plans.specs.Placing.{put_head, put_member, put_heads, put_members}
 use Rattle.js_plans.proofs.Forming.{goal-more}
-use Rattle.js_plans.proofs.Grown.{heads-serve_all, cells_in, cells-serve_all, used-serve_head}
+use Rattle.js_plans.proofs.Grown.{used-serve_head}
 use Rattle.js_plans.proofs.Seen.{member_at, served_by, served-serve_all}
+use Rattle.js_plans.proofs.Plans.{members_on-cons, valid-before, cell-at, served-empty, heads-long, cells-all, members-count, next-plan}
 
 pub cells-push : (ws : List Server) (s : Server)
     → length (cells_of (ws ++ s ∷ [])) ≡ members_after (length (cells_of ws)) s
@@ -39,12 +40,6 @@ pub used-push : (n : ℕ) (ws : List Server) (s : Server) → most_used n (ws ++
 used-push n [] s = refl
 used-push n (w ∷ ws) s = used-push (used_after n w) ws s
 
-members_on-cons : (m : ℕ) (w : Server) (ws : List Server)
-    → members_after m w + length (cells_of ws) ≡ m + length (cells_of (w ∷ ws))
-members_on-cons m (V.Head k) ws = refl
-members_on-cons m (V.Member k) ws = refl
-members_on-cons m (V.New c) ws = omega arith
-
 -- each server was there when it came
 pub valid-at : (h m : ℕ) (ws : List Server) (s : Server) (ss : List Server) → are_valid h m (ws ++ s ∷ ss) ≡ true
     → is_valid h (m + length (cells_of ws)) s ≡ true
@@ -52,31 +47,6 @@ valid-at h m [] s ss v = subst (λ k. is_valid h k s ≡ true) (omega arith) (an
 valid-at h m (w ∷ ws) s ss v =
     subst (λ k. is_valid h k s ≡ true) (members_on-cons m w ws)
     (valid-at h (members_after m w) ws s ss (and_parts (is_valid h m w) _ v).1)
-
-pub valid-before : (h m : ℕ) (ws ss : List Server) → are_valid h m (ws ++ ss) ≡ true → are_valid h m ws ≡ true
-valid-before h m [] ss v = refl
-valid-before h m (w ∷ ws) ss v =
-    let (a, b) = and_parts (is_valid h m w) (are_valid h (members_after m w) (ws ++ ss)) v in
-    and_from _ _ a (valid-before h (members_after m w) ws ss b)
-
-pub valid-push : (h m : ℕ) (ws : List Server) (s : Server) → are_valid h m ws ≡ true
-    → is_valid h (m + length (cells_of ws)) s ≡ true → are_valid h m (ws ++ s ∷ []) ≡ true
-valid-push h m [] s v u = and_from _ _ (subst (λ k. is_valid h k s ≡ true) (omega arith) u) refl
-valid-push h m (w ∷ ws) s v u =
-    let (a, b) = and_parts (is_valid h m w) (are_valid h (members_after m w) ws) v in
-    and_from _ _ a
-    (valid-push h (members_after m w) ws s b
-    (subst (λ k. is_valid h k s ≡ true) (sym (members_on-cons m w ws)) u))
-
--- one more server
-pub serve_all-push : (ds : List Signed) (ws : List Server) (s : Server) (p : Plan) → length ws < length ds
-    → serve_all ds (ws ++ s ∷ []) p ≡ serve (get_or ds (length ws) (Plus 0)) (serve_all ds ws p) s
-serve_all-push [] ws s p l = absurd (omega (arith, l))
-serve_all-push (d ∷ ds) [] s p l = refl
-serve_all-push (d ∷ ds) (w ∷ ws) s p l = serve_all-push ds ws s (serve d p w) (omega (arith, l))
-
-abbrev none_served : List Signed
-none_served = []
 
 -- one of the goals isn't formed
 abbrev pub HasNone : List (Option (List Signed)) → Type 0
@@ -159,19 +129,6 @@ module _ (T : List Position) (frame : Frame) where
   abbrev P : List Server → Plan
   P ws = plan_after frame ws
 
-  pub heads-long : (ws : List Server) → length (P ws).heads ≡ frame.heads
-  heads-long ws = heads-serve_all frame.demands ws (empty_plan frame) ∙ long frame.heads where
-    long : (n : ℕ) → length (replicate n none_served) ≡ n
-    long zero = refl
-    long (suc n) = ap suc (long n)
-
-  pub cells-all : (ws : List Server) → length ws ≤ length frame.demands → cells_in (P ws) ≡ cells_of ws
-  cells-all ws l = cells-serve_all frame.demands ws (empty_plan frame) l
-
-  pub members-count : (ws : List Server) → length ws ≤ length frame.demands
-      → length (P ws).members ≡ length (cells_of ws)
-  members-count ws l = sym (length-map (P ws).members (λ m. m.cell)) ∙ ap length (cells-all ws l)
-
   -- what serves the next demand too, in the plan
   goal-after-plan : (ws : List Server) (s : Server) → length ws ≤ length frame.demands
       → are_valid frame.heads 0 ws ≡ true → is_valid frame.heads (length (cells_of ws)) s ≡ true
@@ -181,31 +138,14 @@ module _ (T : List Position) (frame : Frame) where
       (reverse-append (earlier s frame.demands 0 ws) (next_demand frame ws ∷ [])
       ∙ ap (λ ds. next_demand frame ws ∷ ds)
       (sym (append-nil (reverse (earlier s frame.demands 0 ws)))
-      ∙ ap (λ ds. reverse (earlier s frame.demands 0 ws) ++ ds) (sym (nothing s))
+      ∙ ap (λ ds. reverse (earlier s frame.demands 0 ws) ++ ds) (sym (served-empty frame s))
       ∙ sym (served-serve_all s frame.demands ws (empty_plan frame) frame.heads 0 (length (cells_of ws))
-      (sym (heads-long [])) refl l v u))) where
-        nothing : (s : Server) → served_by s (empty_plan frame) ≡ []
-        nothing (V.Head k) = empty frame.heads k where
-          empty : (n k : ℕ) → get_or (replicate n none_served) k [] ≡ []
-          empty zero k = refl
-          empty (suc n) zero = refl
-          empty (suc n) (suc k) = empty n k
-        nothing (V.Member k) = refl
-        nothing (V.New c) = refl
-
+      (sym (heads-long frame [])) refl l v u))) where
         place : (s : Server) → place_after ws s ≡ stands s (P ws)
         place (V.Head k) = refl
         place (V.Member k) =
-            ap (λ cs. In (get_or cs k 0)) (sym (cells-all ws l)) ∙ ap In (cell (P ws).members k) where
-              cell : (ms : List Member) (k : ℕ) → get_or (map (λ m. m.cell) ms) k 0 ≡ (member_at ms k).cell
-              cell [] k = refl
-              cell (m ∷ ms) zero = refl
-              cell (m ∷ ms) (suc k) = cell ms k
+            ap (λ cs. In (get_or cs k 0)) (sym (cells-all frame ws l)) ∙ ap In (cell-at (P ws).members k)
         place (V.New c) = refl
-
-  next-plan : (ws : List Server) (s : Server) → length ws < length frame.demands
-      → P (ws ++ s ∷ []) ≡ serve (next_demand frame ws) (P ws) s
-  next-plan ws s l = serve_all-push frame.demands ws s (empty_plan frame) l
 
   -- the goals after one more server
   abbrev head_with : Server → Option (List Signed) → List (Option (List Signed)) → List (Option (List Signed))
@@ -223,7 +163,7 @@ module _ (T : List Position) (frame : Frame) where
       → head_goals 0 n (P (ws ++ s ∷ [])).heads
       ≡ head_with s (goal_after T frame ws s) (head_goals 0 n (P ws).heads)
   heads-next ws s n l v u =
-      ap (λ p. head_goals 0 n p.heads) (next-plan ws s l)
+      ap (λ p. head_goals 0 n p.heads) (next-plan frame ws s l)
       ∙ by_server s u
       ∙ ap (λ o. head_with s o (head_goals 0 n (P ws).heads)) (sym (goal-after-plan ws s (omega (arith, l)) v u)) where
         by_server : (s : Server) → is_valid frame.heads (length (cells_of ws)) s ≡ true
@@ -233,7 +173,7 @@ module _ (T : List Position) (frame : Frame) where
         by_server (V.Head k) u =
             let i : k ≡ 0 + k = omega arith in
             head-put (next_demand frame ws) (P ws).heads k 0 n k
-            (subst (λ h. k < h) (sym (heads-long ws)) (ltb-true k frame.heads u)) i
+            (subst (λ h. k < h) (sym (heads-long frame ws)) (ltb-true k frame.heads u)) i
         by_server (V.Member k) u = refl
         by_server (V.New c) u = refl
 
@@ -241,7 +181,7 @@ module _ (T : List Position) (frame : Frame) where
       → are_valid frame.heads 0 ws ≡ true → is_valid frame.heads (length (cells_of ws)) s ≡ true
       → member_goals (P (ws ++ s ∷ [])).members ≡ member_with s (goal_after T frame ws s) (member_goals (P ws).members)
   members-next ws s l v u =
-      ap (λ p. member_goals p.members) (next-plan ws s l)
+      ap (λ p. member_goals p.members) (next-plan frame ws s l)
       ∙ by_server s u
       ∙ ap (λ o. member_with s o (member_goals (P ws).members))
       (sym (goal-after-plan ws s (omega (arith, l)) v u)) where
@@ -252,7 +192,7 @@ module _ (T : List Position) (frame : Frame) where
         by_server (V.Head k) u = refl
         by_server (V.Member k) u =
             member-put (next_demand frame ws) (P ws).members k
-            (subst (λ m. k < m) (sym (members-count ws (omega (arith, l)))) (ltb-true k (length (cells_of ws)) u))
+            (subst (λ m. k < m) (sym (members-count frame ws (omega (arith, l)))) (ltb-true k (length (cells_of ws)) u))
         by_server (V.New c) u = member-new (next_demand frame ws) (P ws).members c
 
   head_with-some : (s : Server) (g : List Signed) (hs : List (List Signed))
@@ -320,7 +260,7 @@ module _ (T : List Position) (frame : Frame) where
       ∙ member_with-some e.server e.goal ms)
 
   first-goals : (n j h : ℕ) (gs : List (List Signed)) → AreFirst T frame j gs → n ≤ length gs → n ≤ h
-      → head_goals j n (replicate h none_served) ≡ map Some (take n gs)
+      → head_goals j n (replicate h []) ≡ map Some (take n gs)
   first-goals zero j h gs a l m = refl
   first-goals (suc n) j zero gs a l m = absurd (omega (arith, m))
   first-goals (suc n) j (suc h) [] a l m = absurd (omega (arith, l))
@@ -387,7 +327,7 @@ module _ (T : List Position) (frame : Frame) where
   first-clash ws k l m g =
       from_none (P ws) (none-left (head_goals 0 (size frame (P ws)) (P ws).heads) (member_goals (P ws).members)
       (none-first (P ws).heads 0 (size frame (P ws)) k k (omega arith) l
-      (subst (λ h. k < h) (sym (heads-long ws)) m) g))
+      (subst (λ h. k < h) (sym (heads-long frame ws)) m) g))
 
   pub server-clash : (ws : List Server) (s : Server) → length ws < length frame.demands
       → are_valid frame.heads 0 ws ≡ true → is_valid frame.heads (length (cells_of ws)) s ≡ true
@@ -402,9 +342,10 @@ module _ (T : List Position) (frame : Frame) where
     by_server (V.Head k) u g =
         let p = P (ws ++ V.Head k ∷ []) in
         let n = size frame p in
-        let there : k < length (P ws).heads = subst (λ h. k < h) (sym (heads-long ws)) (ltb-true k frame.heads u) in
+        let there : k < length (P ws).heads = subst (λ h. k < h) (sym (heads-long frame ws))
+        (ltb-true k frame.heads u) in
         let reach : used p.heads ≡ max (used (P ws).heads) (k + 1) =
-        ap (λ r. used r.heads) (next-plan ws (V.Head k) l)
+        ap (λ r. used r.heads) (next-plan frame ws (V.Head k) l)
         ∙ used-serve_head (next_demand frame ws) (P ws).heads k there in
         none-left (head_goals 0 n p.heads) (member_goals p.members)
         (subst HasNone
@@ -417,7 +358,7 @@ module _ (T : List Position) (frame : Frame) where
         (none-set (member_goals (P ws).members) k (omega (
           arith,
           length-map (P ws).members (λ m. goal_of T frame (In m.cell, m.served)),
-          members-count ws (omega (arith, l)),
+          members-count frame ws (omega (arith, l)),
           ltb-true k (length (cells_of ws)) u,
         ))))
     by_server (V.New c) u g =
@@ -438,7 +379,7 @@ module _ (T : List Position) (frame : Frame) where
       placed-goals p
       ∙ ap (λ os. os ++ member_goals p.members)
       (head_goals-min 0 (size frame p) p.heads
-      ∙ ap (λ h. head_goals 0 (min (size frame p) h) p.heads) (heads-long (servers_of es)))
+      ∙ ap (λ h. head_goals 0 (min (size frame p) h) p.heads) (heads-long frame (servers_of es)))
       ∙ all-shown n es gs l v a f m (omega arith)
 
   -- nothing clashes

@@ -10,13 +10,13 @@ use Rattle.std.proofs.lemmas.Bool.{ltb-true, ltb-false}
 use Rattle.std.proofs.lemmas.List.Sums.{passes_at_first}
 use Rattle.indexmap.specs.IndexSet.{insert_key}
 use Rattle.schemas.specs.Places.{Pointer}
-use Rattle.schema_laws.proofs.Pointers.{same_word-eq}
 use Rattle.js_doc.proofs.Lookups.{same_word-bytes_eq}
 use Rattle.js_pointers.specs.Table.{IsTable, IsStep, IsWord, AreNames, Keeps, Grows, gone_on, numbered, word}
 use Rattle.js_pointers.proofs.WordLemmas.{distinct_more, name_word, more_names, keeps-more}
 use Rattle.js_pointers.proofs.PositionLemmas.{position_or_len-all_fail, position_or_len-passes, position-all_fail}
 use Rattle.js_pointers.proofs.SameStepLemmas.{pair, same_step-true}
 use Rattle.js_pointers.proofs.TableLemmas.{below-missing, text}
+use Rattle.list_laws.proofs.Tests.{same_word-true}
 
 -- More words.
 
@@ -243,7 +243,7 @@ module _ {Z : Type 0} (ts : List (String Z)) (are : AreNames (map text ts)) (t :
 module _ {Z : Type 0} (t k : String Z) (same : bytes_eq (string_bytes t) (string_bytes k) ≡ true) where
   same_text : text k ≡ text t
   same_text =
-      ap chars (sym (same_word-eq _ _ (same_word-bytes_eq (string_bytes t) (string_bytes k) ∙ same)))
+      ap chars (sym (same_word-true _ _ (same_word-bytes_eq (string_bytes t) (string_bytes k) ∙ same)))
 
   at_stored : (us : List (String Z)) (i : ℕ) → slice_get us i ≡ Some k
       → (i < length (map text us)) × (get_or (map text us) i [] ≡ text k)

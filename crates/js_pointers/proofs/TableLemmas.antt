@@ -9,11 +9,11 @@ use Rattle.std.proofs.lemmas.Str.{IsUtf8-string_bytes}
 use Rattle.documents.specs.Tests.{same_word}
 use Rattle.js_doc.proofs.Lookups.{same_word-named}
 use Rattle.schemas.specs.Places.{Pointer}
-use Rattle.schema_laws.proofs.Pointers.{same_word-refl, same_word-eq}
 use Rattle.js_pointers.specs.Table.{IsTable, IsWord, AreNames, word}
 use Rattle.js_pointers.proofs.PositionLemmas.{position-None}
 use Rattle.js_pointers.proofs.SameStepLemmas.{same_step-true, same_step-refl}
 use Rattle.js_pointers.proofs.WordLemmas.{same_number, name_word}
+use Rattle.list_laws.proofs.Tests.{same_word-refl, same_word-true}
 
 -- Words.
 
@@ -46,7 +46,7 @@ pub named : (names : List (List ℕ)) (t : List ℕ) (i : ℕ) → position (λ 
     → IsWord names (2147483648 + i) t
 named names t i found =
     let at = position-Some (λ w. same_word w t) names i [] found in
-    name_word names t i at.0 (same_word-eq _ t at.1)
+    name_word names t i at.0 (same_word-true _ t at.1)
 
 -- Tables.
 

@@ -1,5 +1,5 @@
 -- Listed goals that are gone through: the list and the text of the entries are what they are in the whole certificate.
-use Rattle.std.proofs.Common.{◌≡◌, ℕ, zero, suc, ◌+◌, ◌-◌, ◌<◌, ◌≤◌, Bool, true, false, cond, nat_eq, nat_lt, List, [], ◌∷◌, ◌++◌, map, take, length, get_or, refl, ap, ap₂, sym, ◌∙◌, subst, append-nil, append_assoc, arith, length-append}
+use Rattle.std.proofs.Common.{◌≡◌, ℕ, zero, suc, ◌+◌, ◌-◌, ◌<◌, ◌≤◌, Bool, true, false, cond, nat_eq, nat_lt, List, [], ◌∷◌, ◌++◌, map, take, length, get_or, refl, ap, ap₂, sym, ◌∙◌, subst, append-nil, append_assoc, arith, length-append, zero-add, suc-add}
 use Rattle.std.specs.Cmp.{nat_eq_equiv}
 use Rattle.std.proofs.lemmas.Bool.{lt-ltb}
 use Rattle.std.proofs.lemmas.List.{get_or_append_left, take_more, take_all, length-take-le}
@@ -17,6 +17,7 @@ use Rattle.refutations.specs.Listing.{place_of, cited, renamed, goal_at, listed,
 use Rattle.refutation_laws.proofs.ListingSteps.{grown_stays, lines_stay, entries_end}
 use Rattle.refutation_laws.proofs.Listed as N
 use Rattle.js_refute.proofs.Citing.{mentions_listed}
+use Rattle.std.proofs.Math.Numerals.{suc-eq-add-one}
 
 module _ (extend : ℕ → List ℕ) where
   abbrev pub grown : ℕ → List ℕ
@@ -32,17 +33,13 @@ module _ (extend : ℕ → List ℕ) where
 
   -- a list that grows keeps its beginning
   grow_on : (k i : ℕ) → (X : List ℕ) × (grown (k + i) ≡ grown i ++ X)
-  grow_on zero i = ([], ap grown (plus i) ∙ sym (append-nil (grown i))) where
-    plus : (i : ℕ) → 0 + i ≡ i
-    plus i = omega arith
+  grow_on zero i = ([], ap grown (zero-add i) ∙ sym (append-nil (grown i)))
   grow_on (suc k) i =
       let (X, p) = grow_on k i in
       let (Y, q) = grow_one (k + i) in (
         X ++ Y,
-        ap grown (plus k i) ∙ q ∙ ap (λ z. z ++ Y) p ∙ append_assoc (grown i) X Y,
-      ) where
-        plus : (k i : ℕ) → suc k + i ≡ suc (k + i)
-        plus k i = omega arith
+        ap grown (suc-add k i) ∙ q ∙ ap (λ z. z ++ Y) p ∙ append_assoc (grown i) X Y,
+      )
 
   grow_to : (i n : ℕ) → i ≤ n → (X : List ℕ) × (grown n ≡ grown i ++ X)
   grow_to i n l =
@@ -131,13 +128,10 @@ module _ (goals : List (List Signed)) (lines : List Signed → List Line) where
           ≡ entries goals lines (place_of whole) 0 (take i whole) ++ L.Entry i ∷ map (renamed (place_of whole)) own
       taken =
           ap (entries goals lines (place_of whole) 0)
-          (ap (λ n. take n whole) (plus i) ∙ take_more whole i 0 long ∙ ap (λ z. take i whole ++ z ∷ []) same)
+          (ap (λ n. take n whole) (suc-eq-add-one i) ∙ take_more whole i 0 long ∙ ap (λ z. take i whole ++ z ∷ []) same)
           ∙ entries_end goals lines (place_of whole) 0 (take i whole) k
           ∙ ap (λ n. entries goals lines (place_of whole) 0 (take i whole)
           ++ L.Entry n ∷ map (renamed (place_of whole)) own) counted where
-            plus : (n : ℕ) → suc n ≡ n + 1
-            plus n = omega arith
-
             counted : 0 + length (take i whole) ≡ i
             counted = let e = length-take-le i whole (omega (arith, long)) in omega (arith, e)
 
@@ -148,11 +142,9 @@ module _ (goals : List (List Signed)) (lines : List Signed → List Line) where
         → more ≡ text ++ lines_text (L.Entry i ∷ map (renamed (place_of next)) (lines g))
         → IsListing (i + 1) next more
     goes_on i now next text more g h l m at e f =
-        subst (λ n. IsListing n next more) (plus i)
+        subst (λ n. IsListing n next more) (suc-eq-add-one i)
         (one_more i now next text more h l m (e ∙ ap (λ z. mention_all nat_eq now (cited (lines z))) (sym at))
-        (f ∙ ap (λ z. text ++ lines_text (L.Entry i ∷ map (renamed (place_of next)) (lines z))) (sym at))) where
-          plus : (n : ℕ) → suc n ≡ n + 1
-          plus n = omega arith
+        (f ∙ ap (λ z. text ++ lines_text (L.Entry i ∷ map (renamed (place_of next)) (lines z))) (sym at)))
 
     -- all that is listed was gone through
     pub record IsWhole (now written : List ℕ) : Type 0 where

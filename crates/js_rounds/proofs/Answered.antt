@@ -57,7 +57,7 @@ known_low [] g e = cc
 known_low (o ∷ os) zero e = omega arith
 known_low (o ∷ os) (suc g) e = let l = known_low os g e in omega (arith, l)
 
--- how often a number is in a list
+-- a number is in two lists joined as often as in both together
 pub times-append : (g : ℕ) (xs ys : List ℕ) → times g (xs ++ ys) ≡ times g xs + times g ys
 times-append g [] ys = omega arith
 times-append g (x ∷ xs) ys = let l = times-append g xs ys in omega (arith, l)

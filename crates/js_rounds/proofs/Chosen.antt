@@ -24,14 +24,7 @@ use Rattle.js_rounds.specs.State.{AreRounds, answer_to, contents_at}
 use Rattle.js_rounds.specs.declared.rounds.Rounds.{Rounds}
 use Rattle.js_rounds.specs.declared.runs.Run.{Run}
 use Rattle.js_rounds.proofs.Using.{chosen_same, contents_same}
-
-kind_itself : (t : Kind) → same_kind t t ≡ true
-kind_itself K.Null = refl
-kind_itself K.Boolean = refl
-kind_itself K.Number = refl
-kind_itself K.Text = refl
-kind_itself K.Array = refl
-kind_itself K.Object = refl
+use Rattle.position_laws.proofs.SameKind.{same_kind-refl}
 
 pub if_ok : {A E : Type 0} {P Q : A → Type 0} (r : Result A E) → ((x : A) → P x → Q x) → IfOk r P → IfOk r Q
 if_ok (Ok x) f h = f x h
@@ -88,7 +81,7 @@ module _ (X : List Signed → Expansion) (takes : List Signed → Bool)
       (subst (λ z. (same_kind z.kind number.alternative.kind && nat_eq z.branch number.alternative.branch) ≡ true)
       (sym number.is)
       (and_from (same_kind number.alternative.kind number.alternative.kind)
-      (nat_eq number.alternative.branch number.alternative.branch) (kind_itself number.alternative.kind)
+      (nat_eq number.alternative.branch number.alternative.branch) (same_kind-refl number.alternative.kind)
       (eq-eqb number.alternative.branch number.alternative.branch refl)))
 
   pub text : a.shape ≡ Text → 0 < capacity (cell_at (cells g a.kind a.branch) 0)

@@ -1,14 +1,13 @@
 -- Members in the order of their names: there is one such list.
-use Rattle.std.proofs.Common.{◌≡◌, ℕ, zero, suc, ◌+◌, ◌<◌, ◌⊎◌, inl, inr, List, [], ◌∷◌, map, length, get_or, Bool, true, false, not, ◌||◌, cond, nat_eq, Ordering, Less, Equal, Greater, nat_cmp, refl, ap, ap₂, sym, ◌∙◌, subst, arith, true≢false, eqb-true, eq-eqb}
+use Rattle.std.proofs.Common.{◌≡◌, ℕ, zero, suc, ◌+◌, ◌<◌, ◌⊎◌, inl, inr, List, [], ◌∷◌, map, length, get_or, Bool, true, false, not, ◌||◌, cond, Ordering, Less, Equal, Greater, nat_cmp, refl, ap, ap₂, sym, ◌∙◌, subst, arith, true≢false, suc-add}
 use Rattle.std.specs.Ordering.{is_lt}
 use Rattle.std.specs.Cmp.{IsStrictWeakOrder}
-use Rattle.std.proofs.lemmas.Bool.{and_parts, and_from, cases_order, not-true}
+use Rattle.std.proofs.lemmas.Bool.{and_parts, and_from, cases_order, not-true, false_from_ne_true}
 use Rattle.documents.specs.Tests.{every, some, same_word, comes_before}
 use Rattle.documents.proofs.NameOrder.{comes_before-same, comes_before-trans, smaller_first, same_first}
 use Rattle.alternatives.specs.Slots.{are_different}
 use Rattle.shared_documents.specs.Part.{is_before, members_rise}
 use Rattle.search.specs.Witness.{put, sorted}
-use Rattle.search_laws.proofs.Names.{same_word_flip}
 use Rattle.list_laws.specs.In.{IsIn}
 use Rattle.list_laws.proofs.Lists.{every_at, in_map, from_map}
 use Rattle.std.specs.List.{AllByRecursion, Contains, IsDistinct}
@@ -17,22 +16,9 @@ use Rattle.std.specs.Cmp.Lexicographic.{slice_cmp}
 use Rattle.std.proofs.lemmas.List.Sorted.{Contains-permutation, IsPermutation-sym}
 use Rattle.std.proofs.lemmas.Map.Keys.{IsDistinct-IsPermutation}
 use Rattle.js_doc.proofs.WordOrder.{comes_before-chars, comes_after-chars, same_text}
-use Rattle.list_laws.proofs.Tests.{none_at}
+use Rattle.list_laws.proofs.Tests.{none_at, same_word-refl, same_word_comm}
 
 -- names
-
-same_word_is : (v w : List ℕ) → same_word v w ≡ true → v ≡ w
-same_word_is [] [] e = refl
-same_word_is [] (d ∷ w) e = cc
-same_word_is (c ∷ v) [] e = cc
-same_word_is (c ∷ v) (d ∷ w) e =
-    let (a, b) = and_parts (nat_eq c d) (same_word v w) e in
-    ap₂ (λ x xs. x ∷ xs) (eqb-true c d a) (same_word_is v w b)
-
-same_word_itself : (v : List ℕ) → same_word v v ≡ true
-same_word_itself [] = refl
-same_word_itself (c ∷ v) =
-    and_from (nat_eq c c) (same_word v v) (eq-eqb c c refl) (same_word_itself v)
 
 -- of two names one comes first, or they are the same
 data Order (v w : List ℕ) : Type 0 where
@@ -58,14 +44,10 @@ apart v w h k = true≢false (sym (comes_before-trans v w v h k) ∙ comes_befor
 -- what the sort wants of the order
 pub names_ranked : {A : Type 0} (name : A → List ℕ) → IsStrictWeakOrder (λ x y. comes_before (name x) (name y))
 names_ranked name = record {
-  one_way = λ x y h. one (comes_before (name y) (name x)) (apart (name x) (name y) h);
-  chain = λ x y z h k. one (comes_before (name x) (name z)) (λ l. go (name x) (name y) (name z) h k l
+  one_way = λ x y h. false_from_ne_true (comes_before (name y) (name x)) (apart (name x) (name y) h);
+  chain = λ x y z h k. false_from_ne_true (comes_before (name x) (name z)) (λ l. go (name x) (name y) (name z) h k l
       (order (name x) (name y)) (order (name y) (name z)));
 } where
-  one : (b : Bool) → (b ≡ true → ⊥) → b ≡ false
-  one true h = absurd (h refl)
-  one false h = refl
-
   go : (x y z : List ℕ) → comes_before x y ≡ false → comes_before y z ≡ false → comes_before x z ≡ true
       → Order x y → Order y z → ⊥
   go x y z h k l (first e) o = true≢false (sym e ∙ h)
@@ -207,7 +189,7 @@ put_rises k i (x ∷ ms) h e =
       go true q o a more = and_from (comes_before k x.0) (members_rise (x ∷ ms)) q e
       go false q (first l) a more = absurd (true≢false (sym l ∙ q))
       go false q (same l) a more =
-          absurd (true≢false (sym (ap (λ v. same_word k v) (sym l) ∙ same_word_itself k) ∙ h x (inl refl)))
+          absurd (true≢false (sym (ap (λ v. same_word k v) (sym l) ∙ same_word-refl k) ∙ h x (inl refl)))
       go false q (last l) a more =
           and_from (is_before x.0 (put k i ms)) (members_rise (put k i ms)) (is_before_put x.0 k i ms l a) more
 
@@ -270,17 +252,15 @@ module _ {A : Type 0} (name : A → List ℕ) (part : A → ℕ) where
           → comes_before (name x) (name y) ≡ true
       go (first l) e k = l
       go (same l) e k =
-          absurd (true≢false (sym (ap (λ v. same_word (name x) v) (sym l) ∙ same_word_itself (name x)) ∙ e))
+          absurd (true≢false (sym (ap (λ v. same_word (name x) v) (sym l) ∙ same_word-refl (name x)) ∙ e))
       go (last l) e k = absurd (true≢false (sym l ∙ k))
 
       next : (k : ℕ) (e : A)
           → comes_before (name (get_or (x ∷ y ∷ ys) (suc k + 1) e)) (name (get_or (x ∷ y ∷ ys) (suc k) e)) ≡ false
           → comes_before (name (get_or (y ∷ ys) (k + 1) e)) (name (get_or (y ∷ ys) k e)) ≡ false
       next k e q =
-          subst (λ z. comes_before (name (get_or (x ∷ y ∷ ys) z e)) (name (get_or (y ∷ ys) k e)) ≡ false) (plus k)
-          q where
-            plus : (k : ℕ) → suc k + 1 ≡ suc (k + 1)
-            plus k = omega arith
+          subst (λ z. comes_before (name (get_or (x ∷ y ∷ ys) z e)) (name (get_or (y ∷ ys) k e)) ≡ false) (suc-add k 1)
+          q
 
   contains_in : (xs : List A) (x : A) → Contains xs x → IsIn x xs
   contains_in [] x (k, l, e) = absurd (omega (arith, l))
@@ -302,7 +282,7 @@ module _ {A : Type 0} (name : A → List ℕ) (part : A → ℕ) where
       → IsSortedBy (λ x y. comes_before (name x) (name y)) ys
       → are_different same_word (map (λ m. m.0) (map View xs)) ≡ true → members_rise (map View ys) ≡ true
   sort_rises xs ys p h d =
-      rising ys (IsDistinct-IsPermutation (λ x y. same_word (name x) (name y)) (λ x y. same_word_flip (name x)
+      rising ys (IsDistinct-IsPermutation (λ x y. same_word (name x) (name y)) (λ x y. same_word_comm (name x)
       (name y)) xs ys p
       (distinct xs d)) (λ k e l. h k e (omega arith) l)
 
@@ -318,10 +298,6 @@ module _ {A : Type 0} (name : A → List ℕ) (part : A → ℕ) where
 pub compare_is : (a b v w : List ℕ) (o : Ordering) → IsUtf8 a → IsUtf8 b → chars a ≡ v → chars b ≡ w
     → o ≡ slice_cmp nat_cmp a b → is_lt o ≡ comes_before v w
 compare_is a b v w o u k e f c = go (slice_cmp nat_cmp a b) refl ∙ ap₂ comes_before e f where
-  one : (t : Bool) → (t ≡ true → ⊥) → false ≡ t
-  one true h = absurd (h refl)
-  one false h = refl
-
   go : (p : Ordering) → slice_cmp nat_cmp a b ≡ p → is_lt o ≡ comes_before (chars a) (chars b)
   go Less q = ap is_lt (c ∙ q) ∙ sym (comes_before-chars a b u k q)
   go Equal q =
@@ -329,4 +305,6 @@ compare_is a b v w o u k e f c = go (slice_cmp nat_cmp a b) refl ∙ ap₂ comes
       ∙ sym (ap (λ z. comes_before (chars z) (chars b)) (same_text a b q) ∙ comes_before-same (chars b))
   go Greater q =
       ap is_lt (c ∙ q)
-      ∙ one (comes_before (chars a) (chars b)) (λ h. apart (chars a) (chars b) h (comes_after-chars a b u k q))
+      ∙ sym
+      (false_from_ne_true (comes_before (chars a) (chars b))
+      (λ h. apart (chars a) (chars b) h (comes_after-chars a b u k q)))

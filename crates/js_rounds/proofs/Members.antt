@@ -1,5 +1,5 @@
 -- Elements and members of runs.
-use Rattle.std.proofs.Common.{◌≡◌, ℕ, zero, suc, ◌+◌, ◌≤◌, ◌<◌, List, [], ◌∷◌, ◌++◌, map, length, drop, get_or, Result, Ok, Err, IfOk, refl, ap, ap₂, sym, ◌∙◌, arith}
+use Rattle.std.proofs.Common.{◌≡◌, ℕ, zero, suc, ◌+◌, ◌≤◌, ◌<◌, List, [], ◌∷◌, ◌++◌, map, length, drop, get_or, Result, Ok, Err, IfOk, refl, ap, ap₂, sym, ◌∙◌, arith, add-zero, add-one}
 use Rattle.std.proofs.lemmas.List.{append-nil, append_assoc, map-append, drop_all}
 use Rattle.std.specs.Prelude.{chars}
 use Rattle.std.proofs.lemmas.Str.{chars-nil}
@@ -12,22 +12,15 @@ use Rattle.js_rounds.specs.Spread.{spread}
 use Rattle.js_rounds.specs.Slots.{slot_after}
 use Rattle.js_rounds.specs.declared.runs.Run.{Run}
 use Rattle.js_rounds.proofs.SpreadLemmas.{next_left}
+use Rattle.list_laws.proofs.Numbers.{suc_add-add_suc}
 
 after_next : (s : Slot) (n : ℕ) → slot_after (next_slot s) n ≡ slot_after s (suc n)
-after_next (Index i) n = ap Index (plus i n) where
-  plus : (i n : ℕ) → suc i + n ≡ i + suc n
-  plus i n = omega arith
-after_next (Name c k) n = ap (Name c) (plus k n) where
-  plus : (i n : ℕ) → suc i + n ≡ i + suc n
-  plus i n = omega arith
+after_next (Index i) n = ap Index (suc_add-add_suc i n)
+after_next (Name c k) n = ap (Name c) (suc_add-add_suc k n)
 
 after_none : (s : Slot) → slot_after s 0 ≡ s
-after_none (Index i) = ap Index (plus i) where
-  plus : (i : ℕ) → i + 0 ≡ i
-  plus i = omega arith
-after_none (Name c k) = ap (Name c) (plus k) where
-  plus : (i : ℕ) → i + 0 ≡ i
-  plus i = omega arith
+after_none (Index i) = ap Index (add-zero i)
+after_none (Name c k) = ap (Name c) (add-zero k)
 
 abbrev placed : Slot → ℕ → NumberedPlaced
 placed s g = record { slot = s; goal = g }
@@ -35,10 +28,7 @@ placed s g = record { slot = s; goal = g }
 -- a run with one more document
 pub repeated_more : (s : Slot) (n g : ℕ)
     → repeated s (n + 1) g ≡ repeated s n g ++ record { slot = slot_after s n; goal = g } ∷ []
-repeated_more s n g = ap (λ z. repeated s z g) (one n) ∙ go s n where
-  one : (n : ℕ) → n + 1 ≡ suc n
-  one n = omega arith
-
+repeated_more s n g = ap (λ z. repeated s z g) (add-one n) ∙ go s n where
   go : (s : Slot) (n : ℕ) → repeated s (suc n) g ≡ repeated s n g ++ record { slot = slot_after s n; goal = g } ∷ []
   go s zero = ap (λ z. placed z g ∷ []) (sym (after_none s))
   go s (suc n) =

@@ -1,5 +1,5 @@
 -- How many words of a cell are needed.
-use Rattle.std.proofs.Common.{◌≡◌, ◌≢◌, ℕ, zero, suc, ◌+◌, ◌≤◌, ◌<◌, ◌⊎◌, inl, inr, max, List, [], ◌∷◌, ◌++◌, map, Bool, true, false, ◌&&◌, cond, nat_eq, nat_le, nat_lt, length, take, drop, get_or, set, replicate, refl, ap, ap₂, sym, ◌∙◌, subst, arith, get_or-set_same, get_or-set_other, eqb-true, eq-eqb}
+use Rattle.std.proofs.Common.{◌≡◌, ◌≢◌, ℕ, zero, suc, ◌+◌, ◌≤◌, ◌<◌, ◌⊎◌, inl, inr, max, List, [], ◌∷◌, ◌++◌, map, Bool, true, false, cond, nat_eq, nat_le, nat_lt, length, take, drop, get_or, set, replicate, refl, ap, ap₂, sym, ◌∙◌, subst, arith, get_or-set_same, get_or-set_other, eqb-true, eq-eqb}
 use Rattle.std.proofs.lemmas.Bool.{and_parts, leb-true}
 use Rattle.std.proofs.lemmas.Bool.Decides.{eqb_tells}
 use Rattle.std.proofs.lemmas.List.{take_all, drop_all}
@@ -18,6 +18,7 @@ use Rattle.js_rounds.specs.Slots.{wanted, wanted_by}
 use Rattle.js_rounds.specs.declared.runs.Run.{Run}
 use Rattle.js_rounds.proofs.SpreadLemmas.{next_left}
 use Rattle.js_rounds.proofs.Using.{get_take}
+use Rattle.list_laws.proofs.Every.{every-parts}
 
 zeros : (k c : ℕ) → get_or {A = ℕ} (replicate k 0) c 0 ≡ 0
 zeros zero c = refl
@@ -131,20 +132,12 @@ module _ (cells : List (List (List ℕ))) where
       let l = room_all n d (suc j) g b in
       omega (arith, l)
 
-  every_split : {A : Type 0} (p : A → Bool) (xs ys : List A) → every p (xs ++ ys) ≡ true
-      → (every p xs ≡ true) × (every p ys ≡ true)
-  every_split p [] ys e = (refl, e)
-  every_split p (x ∷ xs) ys e =
-      let (a, b) = and_parts (p x) (every p (xs ++ ys)) e in
-      let (c, d) = every_split p xs ys b in
-      (ap₂ (λ u v. u && v) a c, d)
-
   -- no more words of a cell are needed than it has
   pub wanted_room : (runs : List Run) (c : ℕ) → every (λ p. has_room cells p.slot 1) (spread runs) ≡ true
       → wanted_by runs c ≤ capacity (cell_at cells c)
   wanted_room [] c e = omega arith
   wanted_room (r ∷ rs) c e =
-      let (a, b) = every_split (λ p. has_room cells p.slot 1) (repeated (slot_view r.slot) r.count r.goal) (spread
+      let (a, b) = every-parts (λ p. has_room cells p.slot 1) (repeated (slot_view r.slot) r.count r.goal) (spread
       rs) e in
       let l = by (slot_view r.slot) r.count a in
       let m = wanted_room rs c b in

@@ -1,6 +1,6 @@
 -- Round after round, until one adds no goal.
 use Rattle.std.proofs.Common.{◌≡◌, ℕ, zero, suc, ◌+◌, ◌-◌, ◌≤◌, ◌<◌, ◌⊎◌, inl, inr, List, [], ◌∷◌, ◌++◌, filter, length, take, drop, get_or, Bool, true, false, not, ◌&&◌, ◌||◌, cond, nat_lt, Option, Some, None, option_map, is_some, refl, ap, ap₂, sym, ◌∙◌, arith, length-append}
-use Rattle.std.proofs.lemmas.Bool.{and_parts, cases_lt, lt-ltb}
+use Rattle.std.proofs.lemmas.Bool.{and_parts, cases_lt, lt-ltb, false_from_ne_true}
 use Rattle.std.proofs.lemmas.List.{append-nil}
 use Rattle.std.proofs.lemmas.List.Sorted.{length_permutation}
 use Rattle.documents.specs.Tests.{some}
@@ -22,14 +22,11 @@ use Rattle.js_rounds.specs.Waking.{Waking, AreSame}
 use Rattle.js_rounds.specs.declared.rounds.Rounds.{Rounds}
 use Rattle.js_rounds.proofs.Answered.{answered_most, length_take, times-append, in_times, times_in, distinct_times, times-permutation}
 use Rattle.js_rounds.proofs.Rising.{sorted_is}
+use Rattle.list_laws.proofs.Options.{is_some-suc}
 
 place_some : {A : Type 0} (p : A → Bool) (xs : List A) → is_some (first_place p xs) ≡ some p xs
 place_some p [] = refl
-place_some p (x ∷ xs) = go (p x) (shift (first_place p xs) ∙ place_some p xs) where
-  shift : (o : Option ℕ) → is_some (option_map suc o) ≡ is_some o
-  shift None = refl
-  shift (Some n) = refl
-
+place_some p (x ∷ xs) = go (p x) (is_some-suc (first_place p xs) ∙ place_some p xs) where
   go : (b : Bool) → is_some (option_map suc (first_place p xs)) ≡ some p xs
       → is_some (cond b (Some 0) (option_map suc (first_place p xs))) ≡ (b || some p xs)
   go true e = refl
@@ -99,10 +96,6 @@ module _ (expansion : List Signed → Expansion) (f : Found) where
       is_one true l = refl
       is_one false l = absurd (omega (arith, l))
 
-      not_true : (b : Bool) → (b ≡ true → ⊥) → b ≡ false
-      not_true true h = absurd (h refl)
-      not_true false h = refl
-
       from_part : (g : ℕ) → IsIn g sorted.part → (is_added expansion f r g ≡ true) × (g < length f.goals)
       from_part g i =
           let l = in_times g sorted.part i in
@@ -110,7 +103,7 @@ module _ (expansion : List Signed → Expansion) (f : Found) where
           let a = all_noted g in
           let now = is_one (round expansion f (suc r) g) (omega (arith, l, p, a)) in
           let one = ap (λ b. cond {A = ℕ} b 1 0) now in
-          let before = not_true (round expansion f r g)
+          let before = false_from_ne_true (round expansion f r g)
           (λ t. let k = in_times g (in_order expansion f r) (order_has expansion f r g t) in
           omega (arith, k, l, p, a, one)) in
           (ap₂ (λ x y. x && not y) now before, added_low expansion f (suc r) g now)

@@ -1,6 +1,6 @@
 -- The goals of a round are taken one after another.
-use Rattle.std.proofs.Common.{◌≡◌, ℕ, zero, suc, ◌+◌, ◌≤◌, ◌<◌, ◌⊎◌, inl, inr, List, [], ◌∷◌, ◌++◌, map, length, take, drop, drop-cons, get_or, Bool, true, false, ◌||◌, cond, nat_eq, nat_lt, Option, Some, None, is_some, eqb-true, eq-eqb, refl, ap, ap₂, sym, ◌∙◌, subst, arith}
-use Rattle.std.proofs.lemmas.Bool.{cases_lt, or_cases, or_left, or_right}
+use Rattle.std.proofs.Common.{◌≡◌, ℕ, zero, suc, ◌+◌, ◌≤◌, ◌<◌, ◌⊎◌, inl, inr, List, [], ◌∷◌, ◌++◌, map, length, take, drop, drop-cons, get_or, Bool, true, false, ◌||◌, cond, nat_eq, nat_lt, Option, Some, None, is_some, eqb-true, eq-eqb, refl, ap, ap₂, sym, ◌∙◌, subst, arith, suc-add}
+use Rattle.std.proofs.lemmas.Bool.{cases_lt, or_cases, or_left, or_right, false_from_ne_true}
 use Rattle.std.proofs.lemmas.Option.{slice_get_past}
 use Rattle.std.proofs.lemmas.List.FromFn.{length-map-range_with_len}
 use Rattle.std.specs.List.{range_with_len}
@@ -27,11 +27,7 @@ use Rattle.js_rounds.specs.Waking.{Keeps, IsTaken, firsts, among}
 use Rattle.js_rounds.specs.declared.rounds.Rounds.{Rounds}
 use Rattle.js_rounds.proofs.Answered.{times-append, in_times, times_in, known_low}
 use Rattle.js_rounds.proofs.Members.{none_there}
-
-same_test : (a b : Bool) → (a ≡ true → b ≡ true) → (b ≡ true → a ≡ true) → a ≡ b
-same_test true b f g = sym (f refl)
-same_test false true f g = g refl
-same_test false false f g = refl
+use Rattle.list_laws.proofs.Booleans.{same_test}
 
 among_in : (xs : List ℕ) (g : ℕ) → among xs g ≡ true → IsIn g xs
 among_in xs g e =
@@ -70,10 +66,7 @@ take_next : (xs : List ℕ) (i d : ℕ) → i < length xs → take (i + 1) xs �
 take_next [] i d l = absurd (omega (arith, l))
 take_next (x ∷ xs) zero d l = refl
 take_next (x ∷ xs) (suc i) d l =
-    ap (λ n. take n (x ∷ xs)) (plus i) ∙ ap (λ ys. x ∷ ys) (take_next xs i d (omega (arith, l)))
-  where
-    plus : (i : ℕ) → suc i + 1 ≡ suc (i + 1)
-    plus i = omega arith
+    ap (λ n. take n (x ∷ xs)) (suc-add i 1) ∙ ap (λ ys. x ∷ ys) (take_next xs i d (omega (arith, l)))
 
 take_split : (xs : List ℕ) (i n : ℕ) → i ≤ n → (ys : List ℕ) × (take n xs ≡ take i xs ++ ys)
 take_split xs zero n l = (take n xs, refl)
@@ -90,10 +83,6 @@ at_most_one false = omega arith
 some_one : (b : Bool) → 0 < cond {A = ℕ} b 1 0 → b ≡ true
 some_one true l = refl
 some_one false l = absurd (omega (arith, l))
-
-not_true : (b : Bool) → (b ≡ true → ⊥) → b ≡ false
-not_true true h = absurd (h refl)
-not_true false h = refl
 
 module _ (e : Exploration) (s : Rounds) (roomy : IsRoomy (length e.found.goals) s) (place : ℕ)
     (taken : IsTaken e place s)
@@ -126,7 +115,7 @@ module _ (e : Exploration) (s : Rounds) (roomy : IsRoomy (length e.found.goals) 
         omega (arith, k, roomy.known)
 
     not_taken : among Before m ≡ false
-    not_taken = not_true (among Before m) (λ t.
+    not_taken = false_from_ne_true (among Before m) (λ t.
         let l = in_times m Before (among_in Before m t) in
         let (k, z) = counted_once in
         omega (arith, l, z))

@@ -19,6 +19,7 @@ use Rattle.js_explore.specs.Exploration.{Exploration, Explores, alternatives_at}
 use Rattle.js_rounds.specs.Seen.{is_by, seen}
 use Rattle.js_rounds.specs.State.{AreRounds, answer_to, contents_seen, contents_at}
 use Rattle.js_rounds.specs.declared.rounds.Rounds.{Rounds}
+use Rattle.std.proofs.Math.Bool.{or-false}
 
 or_apart : (a b c : Bool) → ((a || b) || c) ≡ (a || (c || b))
 or_apart true b c = refl
@@ -110,13 +111,10 @@ module _ (expansion : List Signed → Expansion) (f : Found) where
     pub begun : (k : ℕ) (flags : List Bool) (list : List ℕ) → length Order ≤ k → list ≡ []
         → ((m : ℕ) → m < length f.goals → get_or flags m false ≡ nat_eq n m) → Back k flags list
     begun k flags list l e h = record {
-      marks = λ m low. h m low ∙ sym (or_false (nat_eq n m))
+      marks = λ m low. h m low ∙ sym (or-false (nat_eq n m))
           ∙ sym (ap (λ z. marked expansion f n reached z m) (drop_all k Order l));
       found = ap reverse e ∙ sym (ap (filter (uses expansion f (length f.goals) n)) (drop_all k Order l));
-    } where
-      or_false : (b : Bool) → (b || false) ≡ b
-      or_false true = refl
-      or_false false = refl
+    }
 
     drop_next : (j : ℕ) → j < length Order → drop j Order ≡ get_or Order j 0 ∷ drop (suc j) Order
     drop_next j l = drop-cons Order j 0 l
@@ -168,9 +166,3 @@ pub written : {A : Type 0} (n : ℕ) (next items : List A) → length next ≡ l
 written n next items e k =
     ap (λ z. take n (next ++ z)) (drop_all (length next) items (omega (arith, e)))
     ∙ ap (take n) (append-nil next) ∙ take_all n next (omega (arith, e, k))
-
--- what stands at a place of a list is there whatever default is given
-pub get_any : {A : Type 0} (xs : List A) (i : ℕ) (d e : A) → i < length xs → get_or xs i d ≡ get_or xs i e
-get_any [] i d e l = absurd (omega (arith, l))
-get_any (x ∷ xs) zero d e l = refl
-get_any (x ∷ xs) (suc i) d e l = get_any xs i d e (omega (arith, l))

@@ -1,6 +1,6 @@
 -- The used goals of a goal that has an answer: each has one, there are no more than goals, and one at least.
 use Rattle.std.proofs.Common.{◌≡◌, ℕ, ◌+◌, ◌≤◌, ◌<◌, List, [], ◌∷◌, length, map, get_or, true, is_some, ap, sym, ◌∙◌, subst, arith}
-use Rattle.std.proofs.lemmas.List.{take_all}
+use Rattle.std.proofs.lemmas.List.{take_all, get_or_default}
 use Rattle.std.proofs.lemmas.List.FromFn.{length-range_with_len}
 use Rattle.std.specs.List.{range_with_len}
 use Rattle.documents.specs.Kind.{Kind}
@@ -21,7 +21,6 @@ use Rattle.search_laws.proofs.Answers.{added_low}
 use Rattle.search_laws.proofs.Parts.{in_used, used_own, parts_stand, place_last}
 use Rattle.search_laws.proofs.Building.{Made, used_distinct}
 use Rattle.search_laws.proofs.Marking.{in_at}
-use Rattle.js_rounds.proofs.Using.{get_any}
 
 module _ (words : List Signed → Kind → ℕ → ℕ → ℕ → List ℕ) (X : List Signed → Expansion) (f : Found) (n : ℕ)
     (reached : round X f (length f.goals) n ≡ true) where
@@ -78,7 +77,7 @@ module _ (words : List Signed → Kind → ℕ → ℕ → ℕ → List ℕ) (X 
   pub turn : (i o : ℕ) → i < length goals → o ≡ get_or goals i o → Turn i o
   turn i o l e =
       let low : i < length (used_goals X f n) = omega (arith, l, ap length used) in
-      let at : o ≡ get_or (used_goals X f n) i 0 = e ∙ get_any goals i o 0 l ∙ ap (λ z. get_or z i 0) used in
+      let at : o ≡ get_or (used_goals X f n) i 0 = e ∙ get_or_default goals i o 0 l ∙ ap (λ z. get_or z i 0) used in
       let inside : IsIn o (used_goals X f n) =
       subst (λ z. IsIn z (used_goals X f n)) (sym at) (in_at (used_goals X f n) i 0 low) in
       let few = used_few words X f n is_reached in

@@ -1,5 +1,5 @@
 -- A round on the way: what wakes an alternative, and what doesn't.
-use Rattle.std.proofs.Common.{◌≡◌, ◌≢◌, ℕ, zero, suc, ◌+◌, ◌≤◌, ◌<◌, ◌⊎◌, inl, inr, min, List, [], ◌∷◌, ◌++◌, length, take, get_or, slice_get, set, Bool, true, false, not, ◌&&◌, cond, nat_eq, nat_lt, Option, Some, None, is_some, get_or-set_same, get_or-set_other, refl, ap, ap₂, sym, ◌∙◌, subst, arith, length-append}
+use Rattle.std.proofs.Common.{◌≡◌, ◌≢◌, ℕ, zero, suc, ◌+◌, ◌≤◌, ◌<◌, ◌⊎◌, inl, inr, min, List, [], ◌∷◌, ◌++◌, length, take, get_or, slice_get, set, Bool, true, false, not, ◌&&◌, cond, nat_eq, nat_lt, Option, Some, None, is_some, get_or-set_same, get_or-set_other, refl, ap, ap₂, sym, ◌∙◌, subst, arith, length-append, add-one}
 use Rattle.std.proofs.lemmas.Bool.{lt-ltb, le-ltb, cases_lt}
 use Rattle.std.proofs.lemmas.Bool.Decides.{eqb_tells}
 use Rattle.std.proofs.lemmas.List.{append-nil, append_assoc, take-append-le}
@@ -91,13 +91,10 @@ module _ (expansion : List Signed → Expansion) (f : Found) (r : ℕ) where
     go (Some b) =
         x.last ∙ ap (λ l. cond (nat_lt 0 (length l)) (suc r) (last_within expansion f r)) (sym (append-nil x.woken))
     go None =
-        plus r
+        add-one r
         ∙ sym (ap (λ b. cond b (suc r) (last_within expansion f r))
         (lt-ltb 0 (length (x.woken ++ h ∷ [])) (some x.woken)))
       where
-        plus : (r : ℕ) → r + 1 ≡ suc r
-        plus r = omega arith
-
         some : (xs : List ℕ) → 0 < length (xs ++ h ∷ [])
         some [] = omega arith
         some (y ∷ ys) = omega arith

@@ -6,16 +6,15 @@ use Rattle.std.proofs.lemmas.Grind.{get_or_default_zero}
 use Rattle.list_laws.proofs.Lists.{in_get}
 use Rattle.word_states.specs.Atom.{Atom}
 use Rattle.word_states.specs.Classes.{class_firsts}
-use Rattle.word_states.specs.WordState.{have_same_state}
-use Rattle.word_states.specs.Rows.{AreRows, longer_by_one}
+use Rattle.word_states.specs.Rows.{AreRows}
 use Rattle.word_laws.proofs.Mentions as M
-use Rattle.word_laws.proofs.States.{same_laws}
 use Rattle.cell_laws.specs.FirstWords.{Before, IsOrdered}
 use Rattle.cell_laws.proofs.Characters.{rank}
 use Rattle.finder_laws.proofs.RowOrder.{rows_ordered}
 use Rattle.js_row_words.specs.declared.row_steps.Step.{Step}
 use Rattle.js_row_words.specs.Steps.{no_step, IsStep, AreSteps}
 use Rattle.js_row_lines.proofs.Adding.{number_more, take_whole}
+use Rattle.word_laws.proofs.RowLaws.{row_zero}
 
 ordered_at : {A : Type 0} (R : A → A → Type 0) (xs : List A) (d : A) (i j : ℕ) → IsOrdered R xs → i < j
     → j < length xs
@@ -59,17 +58,11 @@ module _ (atoms : List Atom) (L : List (List ℕ)) (rows : AreRows atoms L) wher
           ]
     ]
 
-  row_zero : get_or L 0 [] ≡ []
-  row_zero =
-      let (X, e) = M.mentions_grow (have_same_state atoms) (same_laws atoms) ([] ∷ [])
-      (longer_by_one (class_firsts atoms) L) in
-      ap (λ z. get_or z 0 []) (rows ∙ e)
-
   length_at : (i : ℕ) → i < length L → get_or (map length L) i 0 ≡ length (get_or L i [])
   length_at i l = get_or-map length L i [] 0 l
 
   first_at : 0 < length L → get_or (map length L) 0 0 ≡ 0
-  first_at l = length_at 0 l ∙ ap length row_zero
+  first_at l = length_at 0 l ∙ ap length (row_zero atoms L rows)
 
   pub length_first : (new : List ℕ) → new ≡ 0 ∷ [] → 0 < length L → AreLengths L new 1
   length_first new e l = record {

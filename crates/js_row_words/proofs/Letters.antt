@@ -9,13 +9,12 @@ use Rattle.std.proofs.lemmas.Str.{chars-encodes}
 use Rattle.patterns.specs.CharSet.{has, is_scalar, comes_no_later}
 use Rattle.word_states.specs.Atom.{Atom}
 use Rattle.word_states.specs.Classes.{are_alike, dividers, class_firsts, class_count, is_in_class}
-use Rattle.word_states.specs.WordState.{have_same_state}
-use Rattle.word_states.specs.Rows.{AreRows, longer_by_one}
+use Rattle.word_states.specs.Rows.{AreRows}
 use Rattle.word_laws.proofs.Mentions as M
-use Rattle.word_laws.proofs.States.{same_laws}
 use Rattle.word_laws.proofs.Classes.{alike_laws, firsts_scalar}
 use Rattle.word_laws.proofs.ClassLaws.{firsts_come_first}
 use Rattle.word_laws.proofs.Firsts.{Before, before_or_same}
+use Rattle.word_laws.proofs.RowLaws.{row_zero}
 
 both_ways : (c d : ℕ) → comes_no_later c d ≡ true → comes_no_later d c ≡ true → c ≡ d
 both_ways c d e f = go (before_or_same c d e) (before_or_same d c f) where
@@ -81,13 +80,7 @@ none_left [] e = refl
 none_left (x ∷ xs) e = absurd (omega (arith, e))
 
 module _ (atoms : List Atom) (L : List (List ℕ)) (rows : AreRows atoms L) where
-  pub row_zero : get_or L 0 [] ≡ []
-  row_zero =
-      let (X, e) = M.mentions_grow (have_same_state atoms) (same_laws atoms) ([] ∷ [])
-      (longer_by_one (class_firsts atoms) L) in
-      ap (λ z. get_or z 0 []) (rows ∙ e)
-
   -- at row 0 the letters are all
   pub all_letters : (at : ℕ) (letters w : List ℕ) → at ≡ 0 → get_or L at [] ++ letters ≡ w → letters ≡ w
   all_letters at letters w e h =
-      ap (λ z. z ++ letters) (sym row_zero ∙ ap (λ z. get_or L z []) (sym e)) ∙ h
+      ap (λ z. z ++ letters) (sym (row_zero atoms L rows) ∙ ap (λ z. get_or L z []) (sym e)) ∙ h

@@ -4,11 +4,11 @@ use Rattle.std.specs.List.{list_all}
 use Rattle.std.proofs.lemmas.Bool.{true≢false}
 use Rattle.patterns.specs.CharSet.{is_scalar}
 use Rattle.list_laws.specs.In.{IsIn}
-use Rattle.list_laws.proofs.Lists.{in_get}
+use Rattle.list_laws.proofs.Lists.{in_get, in_at}
 use Rattle.word_states.specs.Atom.{Atom}
 use Rattle.word_states.specs.Classes.{characters}
 use Rattle.word_states.specs.Rows.{AreRows, row_of}
-use Rattle.word_laws.proofs.RowLaws.{rows_words, row_below}
+use Rattle.word_laws.proofs.RowLaws.{rows_words, row_below, row_zero}
 use Rattle.cells.specs.WordsInOrder.{shorter}
 use Rattle.cell_laws.specs.FirstWords.{Before, IsOrdered}
 use Rattle.cell_laws.proofs.Rows.{target_in, leads_on, first_row}
@@ -17,14 +17,8 @@ use Rattle.cell_laws.proofs.Characters as C
 use Rattle.finders.specs.WordsFound.{far}
 use Rattle.finder_laws.proofs.RowOrder.{NoLater, no_later, rows_ordered, word_row}
 use Rattle.js_row_words.specs.RowWords.{is_marked, words_from}
-use Rattle.js_row_words.proofs.Letters.{row_zero}
 use Rattle.js_row_words.proofs.Listing.{shared, mark_is}
-
--- where a member of a list stands
-in_at : {A : Type 0} (L : List A) (x d : A) → IsIn x L → (k : ℕ) × (k < length L) × (x ≡ get_or L k d)
-in_at [] x d i = absurd i
-in_at (y ∷ L) x d (inl e) = (0, omega arith, e)
-in_at (y ∷ L) x d (inr i) = let (k, l, e) = in_at L x d i in (suc k, omega (arith, l), e)
+use Rattle.list_laws.proofs.Numbers.{three_ways}
 
 ordered_at : {A : Type 0} (R : A → A → Type 0) (xs : List A) (d : A) (i j : ℕ) → IsOrdered R xs → i < j
     → j < length xs
@@ -66,12 +60,9 @@ module _ (atoms : List Atom) (L : List (List ℕ)) (rows : AreRows atoms L) (mar
 
   module _ (i : ℕ) (within : i < length L) (mark : get_or marks i false ≡ true)
       (none : (j : ℕ) → j < i → get_or marks j false ≡ false) where
-    order : (i j : ℕ) → (i < j) ⊎ ((i ≡ j) ⊎ (j < i))
-    order i j = grind arith
-
     -- the first marked row comes no later than any marked row
     between : (j : ℕ) → j < length L → get_or marks j false ≡ true → NoLater (get_or L i []) (get_or L j [])
-    between j m c = go (order i j) where
+    between j m c = go (three_ways i j) where
       go : (i < j) ⊎ ((i ≡ j) ⊎ (j < i)) → NoLater (get_or L i []) (get_or L j [])
       go (inl o) = inr (ordered_at (Before C.rank) L [] i j (rows_ordered atoms L rows) o m)
       go (inr (inl q)) = inl (ap (λ z. get_or L z []) q)

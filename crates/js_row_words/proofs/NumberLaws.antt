@@ -14,6 +14,7 @@ use Rattle.js_row_words.specs.declared.runs.Run.{Run}
 use Rattle.js_row_words.specs.Runs.{IsRun, letters_in}
 use Rattle.js_row_words.specs.Counts.{to_row, AreNumbers}
 use Rattle.js_row_words.proofs.ChoiceLaws.{same}
+use Rattle.list_laws.proofs.Numbers.{min_twice}
 
 sum_range : (f : ℕ → ℕ) (each : ℕ) (rest : List ℕ) (a n : ℕ) → ((c : ℕ) → a ≤ c → c < a + n → f c ≡ each)
     → sum_over f (range_with_len a n ++ rest) ≡ each * n + sum_over f rest
@@ -70,8 +71,6 @@ cut_longer letters to in_cell rows bound m closed numbers longer a b = record {
   size = b.size;
   cut = λ r l. b.cut r l
       ∙ sum_cut bound (λ c. get_or numbers (to r c) 0) (λ c. count_of letters to in_cell m (to r c)) letters
-      (λ c i. ap (min bound) (a.cut (to r c) (closed r c l i)) ∙ twice bound (count_of letters to in_cell m (to r c)));
+      (λ c i. ap (min bound) (a.cut (to r c) (closed r c l i))
+      ∙ min_twice bound (count_of letters to in_cell m (to r c)));
 }
-  where
-    twice : (b x : ℕ) → min b (min b x) ≡ min b x
-    twice b x = grind arith

@@ -1,7 +1,7 @@
 -- Labels that are raised: widths, what is required of a label, a label more, a row more, a pass more.
-use Rattle.std.proofs.Common.{◌≡◌, ℕ, suc, ◌+◌, ◌-◌, ◌*◌, ◌≤◌, ◌<◌, ◌⊎◌, inl, inr, min, List, [], ◌∷◌, ◌++◌, length, get_or, set, Bool, true, false, cond, refl, ap, ap₂, sym, ◌∙◌, subst, arith}
+use Rattle.std.proofs.Common.{◌≡◌, ℕ, ◌+◌, ◌-◌, ◌*◌, ◌≤◌, ◌<◌, ◌⊎◌, inl, inr, min, List, [], ◌∷◌, ◌++◌, length, get_or, set, Bool, true, false, cond, refl, ap, ap₂, sym, ◌∙◌, subst, arith}
 use Rattle.std.specs.List.{sum}
-use Rattle.std.proofs.Math.Nat.{mul-le-mul}
+use Rattle.std.proofs.Math.Nat.{mul-le-mul, sub_self}
 use Rattle.std.proofs.lemmas.List.{get_or-set_same, get_or-set_other, get_or_append_left, get_or-append_right}
 use Rattle.std.proofs.lemmas.List.Sums.{sum_by-set, sum_by-le}
 use Rattle.std.proofs.lemmas.List.Elements.{All-from_get_or}
@@ -13,6 +13,7 @@ use Rattle.cell_laws.specs.Counting.{sum_to}
 use Rattle.cell_laws.proofs.Rows.{target_in}
 use Rattle.cell_laws.proofs.Widths.{width_is, count_same}
 use Rattle.js_row_words.specs.Labels.{width_of, in_marks, label_of, AreCut, IsSettled, HaveWords}
+use Rattle.std.proofs.Math.Numerals.{suc-eq-add-one}
 
 -- one width more is that of the class's set
 pub width_next : (atoms : List Atom) (widths : List ℕ) (k w : ℕ) (set : List (ℕ × ℕ)) → k < class_count atoms
@@ -21,14 +22,12 @@ pub width_next : (atoms : List Atom) (widths : List ℕ) (k w : ℕ) (set : List
     → (j : ℕ) → j < k + 1 → get_or (widths ++ w ∷ []) j 0 ≡ width_of atoms j
 width_next atoms widths k w set l is e n all j m = elim (cases_eq j k) [
   | inl q ↦ subst (λ z. get_or (widths ++ w ∷ []) z 0 ≡ width_of atoms z) (sym q)
-      (get_or-append_right widths (w ∷ []) k k 0 n (omega arith) ∙ ap (λ z. get_or (w ∷ []) z 0) (none k)
+      (get_or-append_right widths (w ∷ []) k k 0 n (omega arith) ∙ ap (λ z. get_or (w ∷ []) z 0) (sub_self k)
       ∙ e ∙ count_same (has set) (is_in_class atoms k) is 0x110000 ∙ sym (width_is atoms k l))
   | inr d ↦
       let i : j < k = omega (arith, m, d) in
       get_or_append_left widths (w ∷ []) 0 j (omega (arith, i, n)) ∙ all j i
-] where
-  none : (n : ℕ) → n - n ≡ 0
-  none n = omega arith
+]
 
 -- a product of two numbers of 32 bits, and as little as a label more, is a number of 64 bits
 pub product_fits : (a w l : ℕ) → a ≤ 65537 → w < 4294967296 → l < 4294967296 → a + w * l < 18446744073709551616
@@ -55,13 +54,10 @@ module _ (atoms : List Atom) (L : List (List ℕ)) (marks : List Bool) where
       → width ≡ width_of atoms n → label ≡ label_of labels (target_in atoms L row n)
       → min (asked + width * label) 65537 ≡ min 65537 (asked_by_first labels row (n + 1))
   asked_next labels row n asked width label e w l =
-      subst (λ z. min (asked + width * label) 65537 ≡ min 65537 (asked_by_first labels row z)) (one_more n)
+      subst (λ z. min (asked + width * label) 65537 ≡ min 65537 (asked_by_first labels row z)) (suc-eq-add-one n)
       (cut (cond (in_marks atoms L marks row) 1 0)
       (sum_to n (λ k. width_of atoms k * label_of labels (target_in atoms L row k))) asked (width * label)
       (width_of atoms n * label_of labels (target_in atoms L row n)) e (ap₂ (λ a b. a * b) w l)) where
-        one_more : (n : ℕ) → suc n ≡ n + 1
-        one_more n = omega arith
-
         cut : (m s a x y : ℕ) → a ≡ min 65537 (m + s) → x ≡ y → min (a + x) 65537 ≡ min 65537 (m + (y + s))
         cut m s a x y e f = grind (arith, e, f)
 

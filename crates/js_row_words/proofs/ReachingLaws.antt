@@ -12,6 +12,7 @@ use Rattle.js_row_words.specs.Edges.{edge_target, edge_count, last_edge, AreSour
 use Rattle.js_row_words.specs.Reaching.{IsListed, AreListed, GoesOn, AllLead, AreReached}
 use Rattle.js_row_words.proofs.EdgeLaws.{last_leads, last_after, last_within, edge_row, sources_closed}
 use Rattle.js_row_words.proofs.LabelLaws.{lead_back, lead_here, mark_is}
+use Rattle.std.proofs.Math.Nat.{sub_self}
 
 -- what a list of flags is after one of them is set
 flag_set : (seen : List Bool) (row r : ℕ) → row < length seen → get_or (set seen row true) r false ≡ true
@@ -61,7 +62,7 @@ listed_more seen list row a l e = record {
   members = λ i m. elim (cases_eq i (length list)) [
     | inl q ↦ subst (λ z. get_or (set seen row true) (get_or (list ++ row ∷ []) z 0) false ≡ true) (sym q)
         (subst (λ z. get_or (set seen row true) z false ≡ true) (sym (get_or-append_right list (row ∷ [])
-        (length list) (length list) 0 refl (omega arith) ∙ ap (λ z. get_or (row ∷ []) z 0) (none (length list))))
+        (length list) (length list) 0 refl (omega arith) ∙ ap (λ z. get_or (row ∷ []) z 0) (sub_self (length list))))
         (get_or-set_same seen row true false l))
     | inr d ↦
         let s = length-append list (row ∷ []) in
@@ -70,15 +71,12 @@ listed_more seen list row a l e = record {
         (flag_kept seen row (get_or list i 0) l (a.members i j))
   ];
 } where
-  none : (n : ℕ) → n - n ≡ 0
-  none n = omega arith
-
   at : (r : ℕ) → (r ≡ row) ⊎ (get_or seen r false ≡ true) → IsListed (list ++ row ∷ []) r
   at r (inl q) = (
     length list,
     (let s = length-append list (row ∷ []) in omega (arith, s)),
     get_or-append_right list (row ∷ []) (length list) (length list) 0 refl (omega arith)
-        ∙ ap (λ z. get_or (row ∷ []) z 0) (none (length list))
+        ∙ ap (λ z. get_or (row ∷ []) z 0) (sub_self (length list))
         ∙ sym q,
   )
   at r (inr h) =

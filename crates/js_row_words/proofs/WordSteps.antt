@@ -1,9 +1,7 @@
 -- A word that is found letter by letter, by the numbers of each length.
-use Rattle.std.proofs.Common.{◌≡◌, ℕ, zero, suc, ◌+◌, ◌-◌, ◌<◌, ◌≤◌, inl, inr, List, [], ◌∷◌, ◌++◌, true, map, get_or, length, take, Some, None, nat_lt, cond, refl, ap, ap₂, sym, ◌∙◌, append_assoc, append-nil, arith}
-use Rattle.std.specs.List.{list_all, range_with_len}
-use Rattle.std.proofs.lemmas.Bool.{and_parts, and_from}
+use Rattle.std.proofs.Common.{◌≡◌, ℕ, zero, suc, ◌+◌, ◌-◌, ◌<◌, ◌≤◌, inl, inr, List, [], ◌∷◌, ◌++◌, map, get_or, length, take, Some, None, nat_lt, cond, refl, ap, ap₂, sym, ◌∙◌, append_assoc, append-nil, arith}
+use Rattle.std.specs.List.{range_with_len}
 use Rattle.std.proofs.lemmas.List.{map-append, take_more}
-use Rattle.patterns.specs.CharSet.{is_scalar}
 use Rattle.list_laws.specs.In.{IsIn}
 use Rattle.word_states.specs.Atom.{Atom}
 use Rattle.word_states.specs.Classes.{characters}
@@ -44,13 +42,6 @@ module _ (atoms : List Atom) (L : List (List ℕ)) (table : List (List ℕ)) whe
   pub word_all : (letters w : List ℕ) (left row k : ℕ) → left ≡ 0 → letters ++ rest left row k ≡ w → letters ≡ w
   word_all letters w left row k l e =
       sym (append-nil letters) ∙ ap (λ z. letters ++ rest z row k) (sym l) ∙ e
-
-pub scalar_more : (letters : List ℕ) (c : ℕ) → list_all is_scalar letters ≡ true → is_scalar c ≡ true
-    → list_all is_scalar (letters ++ c ∷ []) ≡ true
-scalar_more [] c e s = and_from (is_scalar c) true s refl
-scalar_more (x ∷ letters) c e s =
-    let (a, b) = and_parts (is_scalar x) (list_all is_scalar letters) e in
-    and_from (is_scalar x) (list_all is_scalar (letters ++ c ∷ [])) a (scalar_more letters c b s)
 
 -- one more word
 pub map_range : {A : Type 0} (f : ℕ → A) (n : ℕ)

@@ -1,6 +1,5 @@
 -- What is said by the numbers of atoms is what a formula says.
-use Rattle.std.proofs.Common.{◌≡◌, ℕ, ◌+◌, ◌⊎◌, inl, inr, Bool, true, false, ◌&&◌, ◌||◌, not, nat_eq, nat_lt, List, [], ◌∷◌, ◌++◌, map, length, get_or, refl, ap, ap₂, sym, ◌∙◌, subst, arith}
-use Rattle.std.specs.Cmp.Lexicographic.{pointwise}
+use Rattle.std.proofs.Common.{◌≡◌, ℕ, ◌+◌, ◌⊎◌, inl, inr, Bool, true, false, ◌&&◌, ◌||◌, not, nat_lt, List, [], ◌∷◌, ◌++◌, map, length, get_or, refl, ap, ap₂, sym, ◌∙◌, subst, arith}
 use Rattle.std.proofs.lemmas.Bool.{and_parts, ltb-true}
 use Rattle.std.specs.declared.vec.Vec.{Vec}
 use Rattle.std.specs.declared.alloc.Global.{Global}
@@ -21,7 +20,7 @@ use Rattle.positions.specs.NameFormula.{name_meets}
 use Rattle.name_truths.specs.NameTruth.{atoms, AreTrue}
 use Rattle.name_truths.specs.NameAtoms.{set_atoms, formula_atoms}
 use Rattle.name_laws.specs.Plans.{Plan, IsPlan, SameMentions, atoms_of}
-use Rattle.name_laws.proofs.NameLaws.{holds_by_truths}
+use Rattle.name_laws.proofs.NameLaws.{holds_by_truths, pointwise-same_word}
 use Rattle.word_laws.proofs.Mentions as M
 use Rattle.word_laws.proofs.States.{state_decides}
 use Rattle.word_laws.proofs.StateSteps.{state_truth}
@@ -38,27 +37,11 @@ use Rattle.js_said.specs.declared.said.Said.TheVariants as S
 use Rattle.js_said.specs.AtomNumbers.{atom_at, is_true_at, are_below, AreNumbers, Takes}
 use Rattle.js_said.specs.Saying.{tells, IsPlanned, IsSaid}
 use Rattle.js_said.proofs.Taking.{taken_all, numbers_more, below_more, at_more}
+use Rattle.position_laws.proofs.Lists.{some-map, some-append}
+use Rattle.list_laws.proofs.Tests.{some-alike, same_word_comm}
+use Rattle.std.proofs.Math.Bool.{or-false}
 
 -- tests of lists
-
-some_map : {A B : Type 0} (p : B → Bool) (f : A → B) (xs : List A) → some p (map f xs) ≡ some (λ x. p (f x)) xs
-some_map p f [] = refl
-some_map p f (x ∷ xs) = ap (λ b. p (f x) || b) (some_map p f xs)
-
-some_append : {A : Type 0} (p : A → Bool) (xs ys : List A) → some p (xs ++ ys) ≡ (some p xs || some p ys)
-some_append p [] ys = refl
-some_append p (x ∷ xs) ys = ap (λ b. p x || b) (some_append p xs ys) ∙ assoc (p x) (some p xs) (some p ys) where
-  assoc : (a b c : Bool) → (a || (b || c)) ≡ ((a || b) || c)
-  assoc true b c = refl
-  assoc false b c = refl
-
-some_same : {A : Type 0} (p q : A → Bool) (xs : List A) → ((x : A) → p x ≡ q x) → some p xs ≡ some q xs
-some_same p q [] h = refl
-some_same p q (x ∷ xs) h = ap₂ (λ a b. a || b) (h x) (some_same p q xs h)
-
-alone : (b : Bool) → (b || false) ≡ b
-alone true = refl
-alone false = refl
 
 neither : (a b : Bool) → not (a || b) ≡ (not a && not b)
 neither true b = refl
@@ -66,47 +49,33 @@ neither false b = refl
 
 -- one name is an atom
 
-swapped : (m n : ℕ) → nat_eq m n ≡ nat_eq n m
-swapped m n = grind arith
-
-listed : (w n : List ℕ) → pointwise nat_eq w n ≡ same_word n w
-listed [] [] = refl
-listed [] (d ∷ n) = refl
-listed (c ∷ w) [] = refl
-listed (c ∷ w) (d ∷ n) = ap₂ (λ a b. a && b) (swapped c d) (listed w n)
-
-pointed : (w n : List ℕ) → pointwise nat_eq w n ≡ same_word w n
-pointed [] [] = refl
-pointed [] (d ∷ n) = refl
-pointed (c ∷ w) [] = refl
-pointed (c ∷ w) (d ∷ n) = ap (λ b. nat_eq c d && b) (pointed w n)
-
 -- by the numbers of atoms
 
 some_numbers : (A : List Atom) (ks : List ℕ) (xs : List Atom) (w : List ℕ) → AreNumbers A ks xs
     → some (is_true_at A w) ks ≡ some (λ a. is_true a w) xs
 some_numbers A ks xs w n =
-    sym (some_map (λ a. is_true a w) (atom_at A) ks) ∙ ap (some (λ a. is_true a w)) n.atoms
+    sym (some-map (λ a. is_true a w) (atom_at A) ks) ∙ ap (some (λ a. is_true a w)) n.atoms
 
 one_in : (n w : List ℕ) → some (λ a. is_true a w) (W.Words (n ∷ []) ∷ []) ≡ same_word n w
-one_in n w = alone (is_true (W.Words (n ∷ [])) w) ∙ alone (W.same_word w n) ∙ listed w n
+one_in n w =
+    or-false (is_true (W.Words (n ∷ [])) w) ∙ or-false (W.same_word w n) ∙ pointwise-same_word w n ∙ same_word_comm w n
 
 some_name : (ns : List (List ℕ)) (w : List ℕ)
     → some (λ a. is_true a w) (map (λ n. W.Words (n ∷ [])) ns) ≡ some (same_word w) ns
 some_name ns w =
-    some_map (λ a. is_true a w) (λ n. W.Words (n ∷ [])) ns
-    ∙ some_same (λ n. is_true (W.Words (n ∷ [])) w) (same_word w) ns
-    (λ n. alone (W.same_word w n) ∙ pointed w n)
+    some-map (λ a. is_true a w) (λ n. W.Words (n ∷ [])) ns
+    ∙ some-alike (λ n. is_true (W.Words (n ∷ [])) w) (same_word w) ns
+    (λ n. or-false (W.same_word w n) ∙ pointwise-same_word w n)
 
 some_pattern : (rs : List P.Pattern) (w : List ℕ)
     → some (λ a. is_true a w) (map (λ r. W.Match r.tree) rs) ≡ some (λ r. matches r w) rs
-some_pattern rs w = some_map (λ a. is_true a w) (λ r. W.Match r.tree) rs
+some_pattern rs w = some-map (λ a. is_true a w) (λ r. W.Match r.tree) rs
 
 others_in : (ns : List (List ℕ)) (rs : List P.Pattern) (w : List ℕ)
     → not (some (λ a. is_true a w) (set_atoms (Others ns rs))) ≡ in_set (Others ns rs) w
 others_in ns rs w =
     ap not
-    (some_append (λ a. is_true a w) (map (λ n. W.Words (n ∷ [])) ns) (map (λ r. W.Match r.tree) rs)
+    (some-append (λ a. is_true a w) (map (λ n. W.Words (n ∷ [])) ns) (map (λ r. W.Match r.tree) rs)
     ∙ ap₂ (λ a b. a || b) (some_name ns w) (some_pattern rs w))
     ∙ neither (some (same_word w) ns) (some (λ r. matches r w) rs)
 
@@ -154,7 +123,7 @@ module _ (T : List Position) (A B : List Atom) (ks ls : List ℕ) (none : ks ≡
   by_matching : (r : P.Pattern) → Takes A B ks ls (set_atoms (Matching r)) → AnySays T B ls (F.In (Matching r))
   by_matching r t =
       let m = taken_all A B ks ls (W.Match r.tree ∷ []) none t in
-      (m.below, λ w. some_numbers B ls (W.Match r.tree ∷ []) w m ∙ alone (matches r w))
+      (m.below, λ w. some_numbers B ls (W.Match r.tree ∷ []) w m ∙ or-false (matches r w))
 
   by_others : (ns : List (List ℕ)) (rs : List P.Pattern) → Takes A B ks ls (set_atoms (Others ns rs))
       → NoneSays T B ls (F.In (Others ns rs))

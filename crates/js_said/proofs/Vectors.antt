@@ -5,46 +5,28 @@ use Rattle.std.specs.Cmp.{IsEquivalence}
 use Rattle.std.specs.Cmp.Lexicographic.{pointwise}
 use Rattle.std.specs.List.{list_any, position_or_len}
 use Rattle.std.proofs.Math.Seq.{take-suc}
-use Rattle.std.proofs.lemmas.Bool.{and_parts}
 use Rattle.std.proofs.lemmas.List.{map-append, length-map, length-take-le}
 use Rattle.list_laws.specs.In.{IsIn}
 use Rattle.list_laws.proofs.Lists.{in_map}
-use Rattle.list_laws.proofs.Tests.{beq-true}
 use Rattle.word_states.specs.Mention.{mention, mention_all}
 use Rattle.word_laws.proofs.Mentions as M
 use Rattle.cells.specs.Cells.{same_vector, place}
+use Rattle.cell_laws.proofs.CellsOfRows.{same_vector-true, same_vector-refl}
+use Rattle.list_laws.proofs.Booleans.{beq_comm}
 
 -- the test of vectors
-
-same_true : (u v : List Bool) → same_vector u v ≡ true → u ≡ v
-same_true [] [] e = refl
-same_true [] (b ∷ v) e = cc
-same_true (a ∷ u) [] e = cc
-same_true (a ∷ u) (b ∷ v) e =
-    let (h, k) = and_parts (beq a b) (same_vector u v) e in ap₂ (λ x xs. x ∷ xs) (beq-true a b h) (same_true u v k)
-
-same_self : (u : List Bool) → same_vector u u ≡ true
-same_self [] = refl
-same_self (true ∷ u) = same_self u
-same_self (false ∷ u) = same_self u
-
-swapped : (a b : Bool) → beq a b ≡ beq b a
-swapped true true = refl
-swapped true false = refl
-swapped false true = refl
-swapped false false = refl
 
 same_symm : (u v : List Bool) → same_vector u v ≡ same_vector v u
 same_symm [] [] = refl
 same_symm [] (b ∷ v) = refl
 same_symm (a ∷ u) [] = refl
-same_symm (a ∷ u) (b ∷ v) = ap₂ (λ x y. x && y) (swapped a b) (same_symm u v)
+same_symm (a ∷ u) (b ∷ v) = ap₂ (λ x y. x && y) (beq_comm a b) (same_symm u v)
 
 pub same_laws : IsEquivalence same_vector
 same_laws = record {
-  refl = same_self;
+  refl = same_vector-refl;
   symm = same_symm;
-  congr = λ u v w e. ap (λ z. same_vector z w) (same_true u v e);
+  congr = λ u v w e. ap (λ z. same_vector z w) (same_vector-true u v e);
 }
 
 pub same-pointwise : (u v : List Bool) → pointwise beq u v ≡ same_vector u v
@@ -67,7 +49,7 @@ place_left v (u ∷ L) X h = go (same_vector v u) h (place_left v L X) where
 
 place_end : (v : List Bool) (L : List (List Bool)) → list_any (same_vector v) L ≡ false
     → place v (L ++ v ∷ []) ≡ place v L
-place_end v [] h = ap (λ b. cond b 0 1) (same_self v)
+place_end v [] h = ap (λ b. cond b 0 1) (same_vector-refl v)
 place_end v (u ∷ L) h = go (same_vector v u) h (place_end v L) where
   go : (b : Bool) → (b || list_any (same_vector v) L) ≡ false
       → (list_any (same_vector v) L ≡ false → place v (L ++ v ∷ []) ≡ place v L)
@@ -159,7 +141,7 @@ grouped_end f rows w v L N cs ds e m d g = record {
       ap (λ z. map (λ u. place (f u) z) rows) (m ∙ p)
       ∙ places_stay f rows L X (λ u i.
       subst (λ z. list_any (same_vector (f u)) z ≡ true) (sym g.vectors)
-      (M.mentions_have same_vector same_laws [] (map f rows) (f u) (f u) (in_map f u rows i) (same_self (f u))))
+      (M.mentions_have same_vector same_laws [] (map f rows) (f u) (f u) (in_map f u rows i) (same_vector-refl (f u))))
 
 module _ {V : Type 0} (items : V → List Bool) (f : List ℕ → List Bool) (rows : List (List ℕ)) (i : ℕ) where
   pub grouped_few : (ks : List V) (cs : List ℕ) → i ≤ length rows → AreGrouped f (take i rows) (map items ks) cs

@@ -20,14 +20,7 @@ use Rattle.js_keywords.specs.Names.{keyword_name}
 use Rattle.js_keywords.specs.Words.{shape_by}
 use Rattle.js_keywords.specs.Reading.{rules}
 use Rattle.js_schema.specs.Faultless.{is_faultless, is_natural, is_pattern, is_pattern_word, names_are_patterns, are_patterns}
-
-none_from : {A : Type 0} (o : Option A) → is_none o ≡ true → o ≡ None
-none_from None h = refl
-none_from (Some a) h = absurd (true≢false (sym h))
-
-none_of_mapped : {A B : Type 0} (f : A → B) (o : Option A) → option_map f o ≡ None → o ≡ None
-none_of_mapped f None h = refl
-none_of_mapped f (Some a) h = absurd (none-some (f a) (sym h))
+use Rattle.list_laws.proofs.Options.{is_none-None, option_map-None}
 
 -- ---- numbers
 
@@ -65,7 +58,7 @@ mutual
       (unwhole_places-none (p ++ k ∷ []) v both.0) (places_in_members-none p ms both.1)
 
 value_whole : (q : Pointer) (v : Json) → value_fault rules q v ≡ None → unwhole_places v ≡ []
-value_whole q v h = unwhole_places-none q v (none_of_mapped _ (first_not_whole q v) h)
+value_whole q v h = unwhole_places-none q v (option_map-None _ (first_not_whole q v) h)
 
 values_whole : (k : List ℕ) (q : Pointer) (v : Json) → values_fault rules k q v ≡ None → unwhole_places v ≡ []
 values_whole k q (array vs) h = value_whole q (array vs) h
@@ -78,7 +71,7 @@ none_test o h = ap is_none h
 
 word_pattern : (k : List ℕ) (q : Pointer) (v : Json) → pattern_word_fault rules k q v ≡ None
     → is_pattern_word v ≡ true
-word_pattern k q (string w) h = none_test (pattern_fault rules w) (none_of_mapped _ (pattern_fault rules w) h)
+word_pattern k q (string w) h = none_test (pattern_fault rules w) (option_map-None _ (pattern_fault rules w) h)
 word_pattern k q _ h = absurd (none-some _ (sym h))
 
 names_patterns : (q : Pointer) (ms : Members) → names_fault rules q ms ≡ None → names_are_patterns ms ≡ true
@@ -86,7 +79,7 @@ names_patterns q no_members h = refl
 names_patterns q (member w v ms) h =
     let both = neither _ (names_fault rules q ms) h in
     and_from (is_pattern w) (names_are_patterns ms)
-    (none_test (pattern_fault rules w) (none_of_mapped _ (pattern_fault rules w) both.0))
+    (none_test (pattern_fault rules w) (option_map-None _ (pattern_fault rules w) both.0))
     (names_patterns q ms both.1)
 
 map_patterns : (k : List ℕ) (q : Pointer) (v : Json) → pattern_map_fault rules k q v ≡ None → are_patterns v ≡ true
@@ -107,8 +100,8 @@ module _ (p : Pointer) (ms : Members) (plain : is_none (lookup (codes "$ref") ms
     (faultless : is_faultless p ms ≡ true) where
   object_faultless : fault_at rules null (p, object ms) ≡ None
   object_faultless =
-      ap (λ r. object_fault rules null r p ms) (none_from (lookup (codes "$ref") ms) plain)
-      ∙ none_from (members_fault rules null ms p ms) faultless
+      ap (λ r. object_fault rules null r p ms) (is_none-None (lookup (codes "$ref") ms) plain)
+      ∙ is_none-None (members_fault rules null ms p ms) faultless
 
   keyword_faultless : (k : Keyword) (shape : Shape) (v : Json) → shape_by k ≡ Some shape → (shape ≡ S.Schema → ⊥)
       → lookup (keyword_name k) ms ≡ Some v
@@ -119,7 +112,7 @@ module _ (p : Pointer) (ms : Members) (plain : is_none (lookup (codes "$ref") ms
       ∙ ap (λ b. cond b (id_fault rules null p v)
       (shape_fault rules null (read_shape ms (keyword_name k)) (keyword_name k) p v)) (sym shaped.not_id)
       ∙ member_faultless rules null ms p (keyword_name k) v object_faultless
-      (none_from (lookup (codes "$ref") ms) plain) h
+      (is_none-None (lookup (codes "$ref") ms) plain) h
 
   natural_by : (k : Keyword) (v : Json) (o : Option Shape) → shape_by k ≡ o → is_natural o ≡ true
       → lookup (keyword_name k) ms ≡ Some v → natural v < 2 ^ 64

@@ -1,13 +1,13 @@
 -- The leaf of a branch at strings, and what it means.
 use Rattle.std.proofs.Common.{◌≡◌, ℕ, ◌<◌, Bool, true, false, ◌&&◌, if◌then◌else◌, nat_eq, map, List, [], ◌∷◌, take, length, Option, Some, None, is_some, option_map, Result, Ok, Err, IfOk, refl, ap, sym, ◌∙◌, arith}
-use Rattle.std.proofs.lemmas.Bool.{and_parts, and_from, le-leb, ltb-true, true≢false}
+use Rattle.std.proofs.lemmas.Bool.{and_parts, and_from, le-leb, true≢false}
 use Rattle.documents.specs.Tests.{every}
 use Rattle.documents.specs.Tests as D
 use Rattle.documents.specs.Kind as K
 use Rattle.documents.specs.Document.{string}
 use Rattle.positions.specs.Position.{Position, is_table}
 use Rattle.position_laws.proofs.Tables.{is_table-IsTable}
-use Rattle.goals.specs.Signed.{Signed, position_of, meets}
+use Rattle.goals.specs.Signed.{Signed, meets}
 use Rattle.goal_laws.specs.Saturated.{IsSaturated}
 use Rattle.alternatives.specs.Alternative as A
 use Rattle.alternatives.specs.Limit.{LimitKind}
@@ -16,6 +16,7 @@ use Rattle.finders.specs.Strings.{strings_of}
 use Rattle.finder_laws.proofs.Strings.{scalars_same, found_word, none_wanted, none_meets}
 use Rattle.finder_laws.proofs.Wanted.{wanted_meets}
 use Rattle.js_algebra.specs.View.{is_in_table, are_in_table}
+use Rattle.js_algebra.proofs.Inside.{is_in_table-some}
 
 pub mapped_some : {A B : Type 0} (f : A → B) (o : Option A) → is_some (option_map f o) ≡ is_some o
 mapped_some f None = refl
@@ -24,17 +25,14 @@ mapped_some f (Some x) = refl
 abbrev pub alternatives : ℕ → Bool → List A.Alternative
 alternatives k b = if b then scalar K.Text k A.Text ∷ [] else []
 
--- a set with a member in the table has a table with places
-some_place : (T : List Position) (x : Signed) → is_in_table T x ≡ true → 0 < length T
-some_place T x h = let l = ltb-true (position_of x) (length T) h in omega (arith, l)
-
 none_at_all : (T : List Position) (ranks : List ℕ) → is_table T ranks ≡ true → (S : List Signed)
     → are_in_table T S ≡ true → strings_of T S ≡ Ok None → (w : List ℕ) → every D.is_scalar w ≡ true
     → meets T S (string w) ≡ true → ⊥
 none_at_all T ranks table [] h e w s m =
     none_wanted T [] e w (sym (scalars_same w) ∙ s) (le-leb 0 (length w) (omega arith)) refl
 none_at_all T ranks table (x ∷ S) h e w s m =
-    none_meets T (is_table-IsTable T ranks table (some_place T x (and_parts (is_in_table T x) (are_in_table T S) h).0))
+    none_meets T
+    (is_table-IsTable T ranks table (is_in_table-some T x (and_parts (is_in_table T x) (are_in_table T S) h).0))
     (x ∷ S) e w (sym (scalars_same w) ∙ s) m
 
 pub found_meets : (T : List Position) (ranks : List ℕ) → is_table T ranks ≡ true → (S : List Signed)
@@ -46,7 +44,7 @@ found_meets T ranks table (x ∷ S) h w e =
     let (s, t, l) = found_word T (x ∷ S) w e in (
       scalars_same w ∙ s,
       λ full. wanted_meets T
-          (is_table-IsTable T ranks table (some_place T x (and_parts (is_in_table T x) (are_in_table T S) h).0))
+          (is_table-IsTable T ranks table (is_in_table-some T x (and_parts (is_in_table T x) (are_in_table T S) h).0))
           (x ∷ S) w full t l,
     )
 

@@ -17,10 +17,10 @@ use Rattle.goal_laws.proofs.Branches.{meets-branches, branches-are, branches-fla
 use Rattle.goal_laws.proofs.Steps.{Told, EachChoice, steps-induction}
 use Rattle.js_algebra.specs.View.{are_in_table}
 use Rattle.js_algebra.specs.declared.node.JsonKind.{JsonKind}
-use Rattle.js_algebra.proofs.Sets.{rising-add_all}
 use Rattle.js_tableau.specs.Branches.{AreNumbered, AreBranches}
 use Rattle.js_tableau.specs.declared.branch_list.Branch.{Branch}
 use Rattle.js_tableau.proofs.Unfolded.{some_or_none}
+use Rattle.goal_laws.proofs.Signs.{is_rising-add_all}
 
 -- a table with a position
 
@@ -36,7 +36,7 @@ module _ (T : List Position) (ok : IsTable T) (t : Kind) where
   rises-up S (Rule x cs) told h r =
       subst (AllByRecursion (λ B. is_rising B ≡ true)) (sym (branches-flat_map (λ C. steps T t (add_all C S)) cs))
       (all-flat_map _ (λ C. branches (steps T t (add_all C S))) cs
-      (all-weaker _ _ cs (λ C k. k (rising-add_all C S r)) h))
+      (all-weaker _ _ cs (λ C k. k (is_rising-add_all C S r)) h))
 
   all_rise : (S : List Signed) → Rises S (steps T t S)
   all_rise S = steps-induction T ok t Rises rises-up S

@@ -5,10 +5,10 @@ use Rattle.goals.specs.Signed as G
 use Rattle.goals.specs.Signed.{Plus, Minus, has, same_signed, add, add_all, is_rising}
 use Rattle.js_algebra.specs.View.{signed_view}
 use Rattle.js_algebra.specs.declared.signed.Signed.{Signed}
-use Rattle.js_algebra.proofs.Sets.{some-add}
 use Rattle.js_algebra.specs.SignedSets.{with_member}
 use Rattle.js_algebra.proofs.Grown.{has-append, has-with_member, has-take}
 use Rattle.js_tableau.specs.Walks.{Covers}
+use Rattle.goal_laws.proofs.Signs.{some-add}
 
 -- members stay covered where one more is added and waits
 pub covers-add : (x : G.Signed) (xs ws ys : List G.Signed) → Covers xs ws ys → Covers (with_member x xs) (add x ws) ys

@@ -1,19 +1,12 @@
 -- One and two of a list, found one after another.
 use Rattle.std.proofs.Common.{◌≡◌, ℕ, zero, suc, ◌+◌, ◌<◌, drop, length, get_or, arith, Bool, true, false, ◌&&◌, ◌||◌, List, [], ◌∷◌, map, refl, ap, ap₂, sym, ◌∙◌}
-use Rattle.std.proofs.Math.Bool.{and_assoc, or_assoc}
+use Rattle.std.proofs.Math.Bool.{and_assoc, or_assoc, and-or_distrib_right}
 use Rattle.documents.specs.Tests.{every, some}
 use Rattle.goals.specs.Signed.{Signed, Plus, Minus, has}
 use Rattle.goals.specs.Choices.{one_plus, two_plus}
 use Rattle.js_algebra.specs.View.{places}
 use Rattle.js_algebra.specs.declared.node.Pos.{Pos}
 use Rattle.goal_laws.proofs.OneLaws.{one_plus-some, two_plus-some}
-
-join : (a b m : Bool) → ((a && m) || (b && m)) ≡ ((a || b) && m)
-join true true true = refl
-join true true false = refl
-join true false true = refl
-join true false false = refl
-join false b m = refl
 
 split : (a b m : Bool) → (a && (b || m)) ≡ ((a && b) || (a && m))
 split true b m = refl
@@ -39,7 +32,7 @@ module _ (S : List Signed) where
       ∙ sym (or_assoc (one && (out && rest)) (none && (now && rest)) (none && (out && later)))
       ∙ ap₂ (λ a b. a || b)
       (ap₂ (λ a b. a || b) (sym (and_assoc one out rest)) (sym (and_assoc none now rest))
-      ∙ join (one && out) (none && now) rest)
+      ∙ sym (and-or_distrib_right (one && out) (none && now) rest))
       (sym (and_assoc none out later))
 
   -- one more position of those of which two are to hold

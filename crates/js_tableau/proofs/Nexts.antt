@@ -4,13 +4,13 @@ use Rattle.std.proofs.lemmas.Bool.{true≢false, or_cases, or_left, or_right, an
 use Rattle.documents.specs.Tests.{every, some}
 use Rattle.documents.specs.Kind.{Kind}
 use Rattle.positions.specs.Position.{Position}
-use Rattle.goal_laws.proofs.Signs.{every-has, has-every, opposite-opposite}
+use Rattle.goal_laws.proofs.Signs.{every-has, has-every, opposite-opposite, same_signed-true, same_signed-itself, is_rising-add_all}
 use Rattle.goals.specs.Signed.{Signed, Plus, Minus, has, same_signed, comes_before, opposite, position_of, is_rising}
 use Rattle.goals.specs.Choices.{choices, is_wrong}
 use Rattle.goals.specs.Tree.{Step, Clash, Wrong, Rule, Saturated, first, step_at, has_choice, choice_list, next}
 use Rattle.js_algebra.specs.Order.{order_of}
-use Rattle.js_algebra.proofs.Orders.{same_eq, same-true, same-itself}
-use Rattle.js_algebra.proofs.Sets.{has_after, rising-add_all}
+use Rattle.js_algebra.proofs.Orders.{same_eq}
+use Rattle.js_algebra.proofs.Sets.{has_after}
 use Rattle.js_algebra.specs.SignedSets.{set_of}
 use Rattle.js_tableau.specs.Least.{better, least_from}
 use Rattle.js_tableau.specs.Walks.{IsLeast, is_clash, is_clean}
@@ -27,10 +27,10 @@ better-least p done o x h = go (p x) refl o h where
   old y i = has-append y x done ∙ or_right (same_signed y x) (has y done) i
 
   new : has x (done ++ x ∷ []) ≡ true
-  new = has-append x x done ∙ or_left (same_signed x x) (has x done) (same-itself x)
+  new = has-append x x done ∙ or_left (same_signed x x) (has x done) (same_signed-itself x)
 
   at : (y : Signed) (b : Bool) → p x ≡ b → same_signed y x ≡ true → p y ≡ b
-  at y b e s = ap p (same-true y x s) ∙ e
+  at y b e s = ap p (same_signed-true y x s) ∙ e
 
   less : (z : Signed) (b : Bool) → nat_le (order_of z) (order_of x) ≡ b → p x ≡ true → IsLeast p done (Some z)
       → IsLeast p (done ++ x ∷ []) (cond b (Some z) (Some x))
@@ -91,7 +91,7 @@ first-least p (y ∷ S) o e h =
     go (p y) refl a o h (λ k. first-least p S o b k)
   where
     here : has y (y ∷ S) ≡ true
-    here = or_left (same_signed y y) (has y S) (same-itself y)
+    here = or_left (same_signed y y) (has y S) (same_signed-itself y)
 
     there : (z : Signed) → has z S ≡ true → has z (y ∷ S) ≡ true
     there z i = or_right (same_signed z y) (has z S) i
@@ -101,12 +101,13 @@ first-least p (y ∷ S) o e h =
         → cond b (Some y) (first p S) ≡ o
     go true k a None h more = absurd (true≢false (sym k ∙ h y here))
     go true k a (Some x) h more =
-        ⊎_elim (λ s. ap Some (sym (same-true x y s))) (λ i. absurd (omega (arith, h.2 y here k, has_after x y S a i)))
+        ⊎_elim (λ s. ap Some (sym (same_signed-true x y s)))
+        (λ i. absurd (omega (arith, h.2 y here k, has_after x y S a i)))
         (or_cases (same_signed x y) (has x S) h.0)
     go false k a None h more = more (λ z i. h z (there z i))
     go false k a (Some x) h more =
         more (
-          ⊎_elim (λ s. absurd (true≢false (sym h.1 ∙ ap p (same-true x y s) ∙ k))) (λ i. i)
+          ⊎_elim (λ s. absurd (true≢false (sym h.1 ∙ ap p (same_signed-true x y s) ∙ k))) (λ i. i)
               (or_cases (same_signed x y) (has x S) h.0),
           h.1,
           λ z i q. h.2 z (there z i) q,
@@ -152,7 +153,7 @@ has-drop (suc k) (x ∷ xs) y h = or_right (same_signed y x) (has y xs) (has-dro
 
 module _ (P : List Position) (t : Kind) (xs : List Signed) (from : ℕ) (clean : is_clean P t (take from xs) ≡ true) where
   rises : is_rising (set_of xs) ≡ true
-  rises = rising-add_all xs [] refl
+  rises = is_rising-add_all xs [] refl
 
   old_clean : (y : Signed) → has y (take from xs) ≡ true → (has (opposite y) (take from xs) ≡ false)
       × (is_wrong P t y ≡ false)

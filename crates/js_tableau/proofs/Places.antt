@@ -1,11 +1,10 @@
 -- Lists of positions, and their places.
-use Rattle.std.proofs.Common.{◌≡◌, ℕ, zero, suc, ◌-◌, ◌<◌, ◌≤◌, List, [], ◌∷◌, ◌++◌, map, take, length, reverse, get_or, nat_lt, Bool, true, false, not, refl, ap, sym, ◌∙◌, arith}
-use Rattle.std.proofs.lemmas.Bool.{and_parts, ltb-true, lt-ltb}
+use Rattle.std.proofs.Common.{◌≡◌, ℕ, zero, suc, ◌-◌, ◌<◌, List, [], ◌∷◌, ◌++◌, map, take, length, reverse, get_or, nat_lt, Bool, true, refl, ap, ◌∙◌, arith}
+use Rattle.std.proofs.lemmas.Bool.{and_parts, ltb-true}
 use Rattle.documents.specs.Tests.{every}
 use Rattle.js_algebra.specs.declared.node.Pos.{Pos}
 use Rattle.js_algebra.specs.View.{places}
-use Rattle.js_tableau.proofs.Remaining.{reverse-push}
-use Rattle.position_laws.proofs.Lists.{every-weaker}
+use Rattle.std.proofs.lemmas.List.{reverse-append}
 
 places-push : (w : List Pos) (p : Pos) → places (w ++ p ∷ []) ≡ places w ++ p.0 ∷ []
 places-push [] p = refl
@@ -13,7 +12,8 @@ places-push (x ∷ w) p = ap (λ xs. x.0 ∷ xs) (places-push w p)
 
 -- the last one comes first
 pub reverse_places-push : (w v : List Pos) (p : Pos) → v ≡ w ++ p ∷ [] → reverse (places v) ≡ p.0 ∷ reverse (places w)
-reverse_places-push w v p e = ap (λ xs. reverse (places xs)) e ∙ ap reverse (places-push w p) ∙ reverse-push (places w) p.0
+reverse_places-push w v p e =
+    ap (λ xs. reverse (places xs)) e ∙ ap reverse (places-push w p) ∙ reverse-append (places w) (p.0 ∷ [])
 
 -- what gives none is empty
 pub none-left : (w v : List Pos) (n : ℕ) → w ≡ v ++ [] → v ≡ take (n - 1) w → n ≡ 0 → reverse (places w) ≡ []
@@ -42,13 +42,3 @@ every-at f p (x ∷ xs) (suc i) d h l =
 pub inside-at : {A : Type 0} (f : A → ℕ) (n : ℕ) (xs : List A) (i : ℕ) (d : A)
     → every (λ q. nat_lt q n) (map f xs) ≡ true → i < length xs → f (get_or xs i d) < n
 inside-at f n xs i d h l = ltb-true (f (get_or xs i d)) n (every-at f (λ q. nat_lt q n) xs i d h l)
-
--- in a room as large as the table
-pub inside-room : (n m : ℕ) (qs : List ℕ) → n ≤ m → every (λ q. nat_lt q n) qs ≡ true
-    → every (λ q. nat_lt q m) qs ≡ true
-inside-room n m qs l h =
-    every-weaker (λ q. nat_lt q n) (λ q. nat_lt q m) qs (λ q k. lt-ltb q m (omega (arith, ltb-true q n k, l))) h
-
-pub is-false : (b : Bool) → not b ≡ true → b ≡ false
-is-false true h = sym h
-is-false false h = refl

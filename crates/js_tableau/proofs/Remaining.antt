@@ -1,12 +1,12 @@
 -- The sets that are still to be visited, as choices of rules share the members of the walk.
 use Rattle.std.proofs.Common.{◌≡◌, ℕ, zero, suc, ◌+◌, ◌<◌, ◌≤◌, ⊎_elim, true, ◌||◌, List, [], ◌∷◌, ◌++◌, map, flat_map, take, drop, length, get_or, reverse, Option, Some, None, refl, arith, ap, ap₂, sym, ◌∙◌, subst, drop-cons}
 use Rattle.std.proofs.lemmas.Bool.{and_parts, and_from, or_left, or_right, or_cases, ltb-true}
-use Rattle.std.proofs.lemmas.List.{reverse-append, length-reverse}
+use Rattle.std.proofs.lemmas.List.{length-reverse, length-take-le}
 use Rattle.std.proofs.lemmas.List.Concat.{flat_map-append}
 use Rattle.documents.specs.Tests.{every, some}
 use Rattle.documents.specs.Kind.{Kind}
 use Rattle.positions.specs.Position.{Position, is_table}
-use Rattle.goal_laws.proofs.Signs.{has-every, add_all-itself}
+use Rattle.goal_laws.proofs.Signs.{has-every, add_all-itself, same_signed-true}
 use Rattle.goals.specs.Signed as G
 use Rattle.goals.specs.Signed.{add_all, has, same_signed, position_of, is_rising}
 use Rattle.goals.specs.Choices.{choices}
@@ -14,7 +14,6 @@ use Rattle.goals.specs.Tree as T
 use Rattle.goals.specs.Tree.{steps, ends, next, choice_list, has_choice}
 use Rattle.js_algebra.specs.View.{signed_view, is_in_table, are_in_table}
 use Rattle.js_algebra.specs.declared.signed.Signed.{Signed}
-use Rattle.js_algebra.proofs.Orders.{same-true}
 use Rattle.js_algebra.specs.SignedSets.{set_of, with_members}
 use Rattle.js_tableau.specs.Walks.{is_clean, are_settled, are_settled_but, step_view, Follows, Extends}
 use Rattle.js_tableau.specs.Branches.{most_ends}
@@ -26,15 +25,12 @@ use Rattle.js_algebra.proofs.Grown.{take-with_members, length-with_members, set-
 use Rattle.std.proofs.lemmas.List.{take_all}
 use Rattle.js_tableau.proofs.Unfolded.{ends-append, next_sets, steps-set, sets-ends, next-ends}
 use Rattle.js_tableau.proofs.Counting.{counts, leaves}
+use Rattle.list_laws.proofs.Lists.{reverse-last}
 
 take-take : {A : Type 0} (k : ℕ) (xs : List A) → take k (take k xs) ≡ take k xs
 take-take zero xs = refl
 take-take (suc k) [] = refl
 take-take (suc k) (x ∷ xs) = ap (λ ys. x ∷ ys) (take-take k xs)
-
--- what is pushed last comes first in reverse
-pub reverse-push : {A : Type 0} (xs : List A) (x : A) → reverse (xs ++ x ∷ []) ≡ x ∷ reverse xs
-reverse-push xs x = reverse-append xs (x ∷ [])
 
 module _ (P : List Position) (t : Kind) where
   abbrev choices_of : Signed → List (List G.Signed)
@@ -133,7 +129,7 @@ module _ (P : List Position) (t : Kind) where
       (λ z m. has-with_members z (get_or (choices_of x) i []) xs
       ∙ or_right (has z (get_or (choices_of x) i [])) (has z xs) m) (choices P t y) h)
       (λ s. subst (λ z. has_choice (with_members (get_or (choices_of x) i []) xs) (choices P t z) ≡ true)
-      (sym (same-true y (signed_view x) s)) (chosen xs (choices P t (signed_view x)) i l))
+      (sym (same_signed-true y (signed_view x) s)) (chosen xs (choices P t (signed_view x)) i l))
       (or_cases (has_choice xs (choices P t y)) (same_signed y (signed_view x)) a))
       (settles_choice xs x i ys l b)
 
@@ -265,7 +261,7 @@ module _ (P : List Position) (t : Kind) where
   module _ (xs : List G.Signed) (ys : List Signed) (es old : List Pending) (e : Pending) (popped : old ≡ es ++ e ∷ [])
       (fine : AreFine P t xs ys (reverse old)) where
     turned : reverse old ≡ e ∷ reverse es
-    turned = ap reverse popped ∙ reverse-push es e
+    turned = reverse-last es old e popped
 
     pub both_fine : IsFine P t xs ys e × AreFine P t (take e.members xs) (take e.settled ys) (reverse es)
     both_fine = subst (λ fs. AreFine P t xs ys fs) turned fine
@@ -274,11 +270,7 @@ module _ (P : List Position) (t : Kind) where
     now = with_members (choice_of P t e) (take e.members xs)
 
     length-first : length (take e.members xs) ≡ e.members
-    length-first = short e.members xs both_fine.0.members_in where
-      short : (k : ℕ) (zs : List G.Signed) → k ≤ length zs → length (take k zs) ≡ k
-      short zero zs l = refl
-      short (suc k) [] l = absurd (omega (arith, l))
-      short (suc k) (z ∷ zs) l = ap suc (short k zs (omega (arith, l)))
+    length-first = length-take-le e.members xs both_fine.0.members_in
 
     pub next_fine : AreFine P t now (take e.settled ys) (reverse es)
     next_fine =

@@ -8,7 +8,8 @@ use Rattle.goals.specs.Signed.{has, same_signed, comes_before, is_rising}
 use Rattle.js_algebra.specs.Order.{order_of}
 use Rattle.js_algebra.specs.View.{signed_view}
 use Rattle.js_algebra.specs.declared.signed.Signed.{Signed}
-use Rattle.js_algebra.proofs.Orders.{before_lt, same_eq, same-true, same-itself}
+use Rattle.js_algebra.proofs.Orders.{before_lt, same_eq}
+use Rattle.goal_laws.proofs.Signs.{same_signed-true, same_signed-itself}
 
 abbrev pub number : Signed → ℕ
 number y = order_of (signed_view y)
@@ -26,7 +27,7 @@ pub has_at : (xs : List Signed) (i : ℕ) (x : Signed) → i < length xs → x �
     → has (signed_view x) (map signed_view xs) ≡ true
 has_at [] i x l e = absurd (omega (arith, l))
 has_at (y ∷ xs) zero x l e = or_left _ (has (signed_view x) (map signed_view xs))
-    (subst (λ w. same_signed (signed_view x) (signed_view w) ≡ true) e (same-itself (signed_view x)))
+    (subst (λ w. same_signed (signed_view x) (signed_view w) ≡ true) e (same_signed-itself (signed_view x)))
 has_at (y ∷ xs) (suc i) x l e = or_right (same_signed (signed_view x) (signed_view y)) _
     (has_at xs i x (omega (arith, l)) e)
 
@@ -99,11 +100,12 @@ module _ (x : Signed) (xs : List Signed) (i : ℕ) (rising : is_rising (map sign
         (λ u. let same : i ≡ j = omega (arith, k, u) in
         let q : y ≡ w = e ∙ same_place xs i y w l ∙ ap (λ n. get_or xs n w) same ∙ sym a in
         subst (λ v. same_signed (signed_view v) (signed_view x) ≡ true) (sym q)
-        (subst (λ z. same_signed (signed_view w) z ≡ true) (sym (same-true _ _ s)) (same-itself (signed_view w))))
+        (subst (λ z. same_signed (signed_view w) z ≡ true) (sym (same_signed-true _ _ s))
+        (same_signed-itself (signed_view w))))
         (cases_lt i j))
         (cases_lt j i)
 
     go : (b : Bool) → same_signed (signed_view y) (signed_view x) ≡ b → b ≡ has (signed_view x) (map signed_view xs)
-    go true s = sym (subst (λ z. has z (map signed_view xs) ≡ true) (same-true _ _ s) (has_at xs i y l e))
+    go true s = sym (subst (λ z. has z (map signed_view xs) ≡ true) (same_signed-true _ _ s) (has_at xs i y l e))
     go false s = sym (false_from_ne_true _ (λ h.
         let (j, w, m, a, t) = stands (signed_view x) xs h in true≢false (sym (elsewhere j w m a t) ∙ s)))

@@ -5,14 +5,14 @@ use Rattle.documents.specs.Tests.{every}
 use Rattle.documents.specs.Kind.{Kind}
 use Rattle.positions.specs.Position.{Position}
 use Rattle.position_laws.proofs.Lists.{every-append}
-use Rattle.goal_laws.proofs.Signs.{every-has}
+use Rattle.goal_laws.proofs.Signs.{every-has, same_signed-itself}
 use Rattle.goals.specs.Signed as G
 use Rattle.goals.specs.Signed.{has, same_signed, comes_before}
 use Rattle.goals.specs.Choices.{choices}
 use Rattle.goals.specs.Tree.{has_choice}
 use Rattle.js_algebra.specs.View.{signed_view, is_in_table, are_in_table}
 use Rattle.js_algebra.specs.declared.signed.Signed.{Signed}
-use Rattle.js_algebra.proofs.Orders.{same_eq, same-itself}
+use Rattle.js_algebra.proofs.Orders.{same_eq}
 use Rattle.js_algebra.proofs.Sets.{has_after}
 use Rattle.js_tableau.specs.Walks.{Covers, are_settled, are_settled_but, IsLeast}
 
@@ -65,7 +65,8 @@ module _ (P : List Position) (t : Kind) (xs ws : List G.Signed) (ys : List Signe
       (every-append (λ y. has_choice xs (choices P t y) || same_signed y (signed_view x)) (map signed_view ys)
       (signed_view x ∷ [])
       ∙ and_from _ _ (weaker (map signed_view ys) settled)
-      (and_from _ _ (or_right (has_choice xs (choices P t (signed_view x))) _ (same-itself (signed_view x))) refl))
+      (and_from _ _
+      (or_right (has_choice xs (choices P t (signed_view x))) _ (same_signed-itself (signed_view x))) refl))
     where
       weaker : (us : List G.Signed) → are_settled P t xs us ≡ true → are_settled_but P t xs (signed_view x) us ≡ true
       weaker [] h = refl

@@ -84,14 +84,3 @@ pub member-written : (old name named value new : List ℕ) → named ≡ old ++ 
 member-written old name named value new first second =
     second ∙ ap (λ ys. ys ++ value) first ∙ append_assoc (old ++ name) (58 ∷ []) value
     ∙ append_assoc old name (58 ∷ value)
-
--- lists that are mapped twice
-pub map-twice : {A B C : Type 0} (f : B → C) (g : A → B) (xs : List A) → map (λ x. f (g x)) xs ≡ map f (map g xs)
-map-twice f g [] = refl
-map-twice f g (x ∷ xs) = ap (λ ys. f (g x) ∷ ys) (map-twice f g xs)
-
--- the element at a place within a list, whatever stands for a missing one
-pub item-same : {A : Type 0} (xs : List A) (i : ℕ) (d e : A) → i < length xs → get_or xs i d ≡ get_or xs i e
-item-same [] i d e l = absurd (omega (arith, l))
-item-same (x ∷ xs) zero d e l = refl
-item-same (x ∷ xs) (suc i) d e l = item-same xs i d e (omega (arith, l))

@@ -6,7 +6,7 @@ use Rattle.document_texts.specs.Scalars.{joined}
 use Rattle.document_text_laws.specs.Reader.{behind_comma, ends_list}
 use Rattle.document_text_laws.proofs.PartLaws.{Writes, Closes, more, ends-more, list-next, more-next}
 use Rattle.js_text.specs.Reads.{Reads}
-use Rattle.js_text.proofs.ScanLemmas.{some-same, none-some}
+use Rattle.std.proofs.lemmas.Option.{none-some, same_Some}
 
 -- the elements that are still to come, where these were read
 pub record Left {A : Type 0} (write : A → List ℕ) (good : A → Bool) (close : ℕ) (done xs : List A)
@@ -72,7 +72,7 @@ module _ {A : Type 0} (write : A → List ℕ) (good : A → Bool) (first close 
       step (y ∷ ys) same fine t =
           let both = and_parts (good y) (every good ys) fine in
           let tail = more write good first close w c ys rest in
-          let pair = some-same {A = A × List ℕ} (x, after) (y, tail)
+          let pair = same_Some {A = A × List ℕ} (x, after) (y, tail)
           (read y tail both.0 (ends-more write good first close w c ys rest) (cut ∙ comes y ys rest left t)) in
           record {
             others = ys;

@@ -1,11 +1,12 @@
 -- What is measured of a part is what is measured of the document for which it stands.
-use Rattle.std.proofs.Common.{◌≡◌, ℕ, suc, ◌+◌, ◌-◌, List, [], ◌∷◌, length, map, flat_map, min, max, Bool, true, false, ◌&&◌, refl, sym, ap, ◌∙◌, arith, length-append, add-one}
+use Rattle.std.proofs.Common.{◌≡◌, ℕ, suc, ◌+◌, ◌-◌, List, [], ◌∷◌, length, map, flat_map, min, max, Bool, true, ◌&&◌, refl, sym, ap, ◌∙◌, arith, length-append, add-one}
 use Rattle.documents.specs.Document as D
 use Rattle.documents.specs.Document.{Document, depth, items_depth, members_depth, items_of, members_of}
 use Rattle.document_texts.specs.Measured.{Measured, measured, has_short_numbers, items_are_short, members_are_short}
 use Rattle.document_texts.specs.Scalars.{string_text, joined, enclosed}
 use Rattle.document_texts.specs.DocumentText.{document_text, item_texts, member_texts}
 use Rattle.js_text.specs.Summed.{added, summed, closed, container_measure}
+use Rattle.std.proofs.Math.Bool.{and_assoc, and-true}
 
 sum_cut : (a x l c : ℕ) → min (min (min a c + x) c + min l c) c ≡ min (a + (x + l)) c
 sum_cut a x l c = omega arith
@@ -37,14 +38,6 @@ abbrev shorts : List (ℕ × Document) → Bool
 shorts [] = true
 shorts (z ∷ zs) = has_short_numbers z.1 && shorts zs
 
-and_assoc : (p q r : Bool) → ((p && q) && r) ≡ (p && (q && r))
-and_assoc true q r = refl
-and_assoc false q r = refl
-
-and_true : (p : Bool) → (p && true) ≡ p
-and_true true = refl
-and_true false = refl
-
 same_cut : (a b d e : ℕ) (p q : Bool) → a ≡ b → d ≡ e → p ≡ q → cut a d p ≡ cut b e q
 same_cut a b d e p q x y z = rw (x, y, z) refl
 
@@ -59,7 +52,7 @@ added-cut a b p z =
 
 summed-cut : (a b : ℕ) (p : Bool) (zs : List (ℕ × Document))
     → summed (cut a b p) (map entry zs) ≡ cut (a + total zs) (max b (depths zs)) (p && shorts zs)
-summed-cut a b p [] = same_cut a (a + 0) b (max b 0) p (p && true) (omega arith) (omega arith) (sym (and_true p))
+summed-cut a b p [] = same_cut a (a + 0) b (max b 0) p (p && true) (omega arith) (omega arith) (sym (and-true p))
 summed-cut a b p (z ∷ zs) =
     ap (λ s. summed s (map entry zs)) (added-cut a b p z)
     ∙ summed-cut (a + (z.0 + length (document_text z.1))) (max b (depth z.1)) (p && has_short_numbers z.1) zs

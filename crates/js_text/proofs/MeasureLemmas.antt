@@ -8,9 +8,9 @@ use Rattle.js_doc.specs.declared.parts.PartId.{PartId}
 use Rattle.js_doc.specs.declared.parts.PartMember.{PartMember}
 use Rattle.document_texts.specs.Measured.{Measured}
 use Rattle.js_text.specs.Kept.{measure_at}
-use Rattle.js_text.proofs.ListLemmas.{map-twice}
 use Rattle.js_text.specs.Summed.{measure_view, added, summed, no_elements, closed, container_measure, ids_measure, members_measure, name_length}
 use Rattle.js_text.specs.declared.measures.Measure.{Measure}
+use Rattle.std.proofs.lemmas.Simd.{map-map}
 
 abbrev pub id_entry : List Measured → PartId → ℕ × Measured
 id_entry ms id = (0, measure_at ms id.0)
@@ -77,9 +77,9 @@ module _ {A : Type 0} (entry : A → ℕ × Measured) where
 -- the entries of a list are those of the numbers, and of the members, that it stands for
 pub ids-entries-of : (kept : List Measured) (ids : List PartId)
     → container_measure (map (id_entry kept) ids) ≡ ids_measure (measure_at kept) (map number_of ids)
-ids-entries-of kept ids = ap container_measure (map-twice (λ i. (0, measure_at kept i)) number_of ids)
+ids-entries-of kept ids = ap container_measure (sym (map-map (λ i. (0, measure_at kept i)) number_of ids))
 
 pub members-entries-of : (kept : List Measured) (members : List PartMember)
     → container_measure (map (member_entry kept) members) ≡ members_measure (measure_at kept) (map member_view members)
 members-entries-of kept members =
-    ap container_measure (map-twice (λ m. (name_length m.0, measure_at kept m.1)) member_view members)
+    ap container_measure (sym (map-map (λ m. (name_length m.0, measure_at kept m.1)) member_view members))

@@ -5,18 +5,13 @@ use Rattle.std.proofs.Math.Seq.{take-append_seam}
 use Rattle.document_texts.specs.Scalars.{string_text}
 use Rattle.document_text_laws.proofs.StringLaws.{read_on-string}
 use Rattle.document_text_laws.specs.Reader.{read_on, plain}
+use Rattle.std.proofs.lemmas.Option.{same_Some}
 
 -- a slice behind its first byte
 pub behind-first : {A : Type 0} (text : List A) (x : A) (ys : List A) → text ≡ x ∷ ys
     → take (length text - 1) (drop 1 text) ≡ ys
 behind-first text x ys e =
     ap (λ t. take (length t - 1) (drop 1 t)) e ∙ take_all (length (x ∷ ys) - 1) ys (omega arith)
-
-pub none-some : {A : Type 0} (a : A) → None ≡ Some a → ⊥
-none-some a e = cc
-
-pub some-same : {A : Type 0} (a b : A) → Some a ≡ Some b → a ≡ b
-some-same a b e = cc
 
 -- what is found, and what comes behind
 abbrev pub Found : Type 0
@@ -34,7 +29,7 @@ pub found-word : (text s rest bytes left : List ℕ) → text ≡ string_text s 
     → (bytes ≡ encode_utf8_all s) × (left ≡ rest)
 found-word text s rest bytes left is read =
     let pair : ◌≡◌ {A = Found} (bytes, left) (encode_utf8_all s, rest) =
-    some-same (bytes, left) (encode_utf8_all s, rest)
+    same_Some (bytes, left) (encode_utf8_all s, rest)
     (read ∙ ap (read_on plain []) (behind-first text 34 _ is) ∙ read_on-string s rest) in
     (ap (λ z. z.0) pair, ap (λ z. z.1) pair)
 

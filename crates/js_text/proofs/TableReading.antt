@@ -1,13 +1,11 @@
 -- Lines that are read, written again and compared.
-use Rattle.std.proofs.Common.{◌≡◌, ℕ, ◌-◌, ◌<◌, ◌≤◌, List, [], ◌∷◌, ◌++◌, length, take, drop, true, false, nat_lt, nat_le, Option, Some, None, Result, Ok, Err, codes, bytes_eq, refl, sym, ap, ◌∙◌, subst, arith, append_assoc}
+use Rattle.std.proofs.Common.{◌≡◌, ℕ, ◌-◌, ◌<◌, ◌≤◌, List, [], ◌∷◌, ◌++◌, length, take, drop, true, false, Option, Some, None, Result, Ok, Err, codes, bytes_eq, refl, sym, ap, ◌∙◌, subst, arith, append_assoc}
 use Rattle.std.specs.Fmt.{decimal}
-use Rattle.std.specs.List.{find}
 use Rattle.std.specs.Result.{IsErrAnd}
 use Rattle.std.proofs.lemmas.Bool.{and_parts, true≢false}
 use Rattle.std.proofs.lemmas.List.{take_all, length-drop}
 use Rattle.std.proofs.lemmas.Slice.Eq.{bytes_eq-Decides}
 use Rattle.std.proofs.Math.Seq.{drop-append_seam}
-use Rattle.documents.specs.Tests.{every}
 use Rattle.shared_documents.specs.Part.{Part, names_below, names_rise, named, first_forward}
 use Rattle.shared_documents.proofs.Laws.{below-none_forward}
 use Rattle.document_texts.specs.PartsText.{part_text, line_text, count_text}
@@ -18,7 +16,8 @@ use Rattle.document_text_laws.proofs.PartLaws.{same-count, same-line}
 use Rattle.js_text.specs.declared.table_reader.PartsLineFault.{PartsLineFault}
 use Rattle.js_text.specs.declared.table_reader.PartsLineFault.TheVariants as F
 use Rattle.js_text.specs.Reads.{is_fine, Matches, ReadsCount, ReadsLine, ReadsPart, IsTaken, IsNoLine}
-use Rattle.js_text.proofs.ScanLemmas.{some-same, none-some}
+use Rattle.std.proofs.lemmas.Option.{none-some, same_Some}
+use Rattle.list_laws.proofs.Tests.{find-none_below}
 
 pub same-bytes : (a b : List ℕ) → bytes_eq a b ≡ true → a ≡ b
 same-bytes a b h = (bytes_eq-Decides a b).0 h
@@ -78,7 +77,7 @@ pub line-matches : (text line : List ℕ) (place : ℕ) (part : Part) (r : Optio
     → is_fine part ≡ true → ReadsPart (drop (length text) line) (Some part)
     → Matches (text ++ part_text part ++ 10 ∷ []) line part r → ReadsLine place line r
 line-matches text line place part None t fine reads h = λ p told rises is.
-    let same = some-same part p (reads p told rises (line-behind text line place p t is)) in
+    let same = same_Some part p (reads p told rises (line-behind text line place p t is)) in
     h (whole-line text place part t ∙ ap (line_text place) same ∙ sym is)
 line-matches text line place part (Some q) t fine reads h =
     (ap is_fine h.0 ∙ fine, sym h.1 ∙ whole-line text place part t ∙ ap (line_text place) (sym h.0))
@@ -90,14 +89,8 @@ line-none text line place p t reads told rises is =
 
 -- ---- a part that names none that is still to come
 
-find-none : (n : ℕ) (is : List ℕ) → every (λ i. nat_lt i n) is ≡ true → find (λ i. nat_le n i) is ≡ None
-find-none n [] h = refl
-find-none n (i ∷ is) h =
-    let both = and_parts (nat_lt i n) (every (λ j. nat_lt j n) is) h in
-    grind (arith, both.0, find-none n is both.1)
-
 pub forward-none : (n : ℕ) (p : Part) → names_below n p ≡ true → first_forward n p ≡ None
-forward-none n p h = find-none n (named p) h
+forward-none n p h = find-none_below n (named p) h
 
 pub taken-line : (old new : List Part) (p : Part) (line : List ℕ) → is_fine p ≡ true → line ≡ line_text (length old) p
     → first_forward (length old) p ≡ None → new ≡ old ++ p ∷ [] → IsTaken old new line

@@ -5,6 +5,7 @@ use Rattle.std.specs.List.{list_any, filter_map}
 use Rattle.documents.specs.Tests.{some}
 use Rattle.normal_forms.specs.KeywordNodes.{once_among, once}
 use Rattle.js_values.specs.Distinct.{add_once, add_all}
+use Rattle.std.proofs.Math.Bool.{or_assoc}
 
 or-end : (a b d : Bool) → a ≡ d → (a || (b || false)) ≡ (b || d)
 or-end true true d e = refl
@@ -14,10 +15,7 @@ or-end false false d e = e
 
 some-end : {A : Type 0} (p : A → Bool) (ks : List A) (x : A) → some p (ks ++ x ∷ []) ≡ (some p ks || (p x || false))
 some-end p [] x = refl
-some-end p (k ∷ ks) x = ap (λ b. p k || b) (some-end p ks x) ∙ or-assoc (p k) (some p ks) (p x || false) where
-  or-assoc : (a b c : Bool) → (a || (b || c)) ≡ ((a || b) || c)
-  or-assoc true b c = refl
-  or-assoc false b c = refl
+some-end p (k ∷ ks) x = ap (λ b. p k || b) (some-end p ks x) ∙ sym (or_assoc (p k) (some p ks) (p x || false))
 
 add_all-among : {A : Type 0} (same : A → A → Bool) (ks done xs : List A)
     → ((y : A) → some (same y) ks ≡ some (same y) done)

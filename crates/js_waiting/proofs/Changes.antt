@@ -1,7 +1,8 @@
 -- A changed element, and lists that are made by number.
-use Rattle.std.proofs.Common.{◌≡◌, ◌≢◌, ℕ, zero, suc, ◌+◌, ◌<◌, List, [], ◌∷◌, map, length, set, get_or, slice_get, true, Some, option_map, is_some, refl, ap, ap₂, sym, ◌∙◌, subst, arith}
+use Rattle.std.proofs.Common.{◌≡◌, ◌≢◌, ℕ, zero, suc, ◌+◌, ◌<◌, List, [], ◌∷◌, map, length, set, get_or, slice_get, true, Some, option_map, is_some, refl, ap, ap₂, sym, ◌∙◌, subst, arith, add-zero}
 use Rattle.js_waiting.specs.Counts.{change}
 use Rattle.js_waiting.specs.Marked.{map_from}
+use Rattle.list_laws.proofs.Numbers.{suc_add-add_suc}
 
 pub change_set : {A : Type 0} (f : A → A) (n : ℕ) (xs : List A) (d : A) → n < length xs
     → change f n xs ≡ set xs n (f (get_or xs n d))
@@ -57,38 +58,22 @@ pub map_from_same : {A B : Type 0} (f g : ℕ → A → B) (k : ℕ) (xs : List 
     → ((i : ℕ) (x : A) → slice_get xs i ≡ Some x → f (k + i) x ≡ g (k + i) x) → map_from f k xs ≡ map_from g k xs
 map_from_same f g k [] h = refl
 map_from_same f g k (x ∷ xs) h =
-    ap₂ (λ y ys. y ∷ ys) (subst (λ z. f z x ≡ g z x) (plus k) (h 0 x refl))
-    (map_from_same f g (suc k) xs (λ i y e. subst (λ z. f z y ≡ g z y) (more k i) (h (suc i) y e)))
-  where
-    plus : (k : ℕ) → k + 0 ≡ k
-    plus k = omega arith
-
-    more : (k i : ℕ) → k + suc i ≡ suc k + i
-    more k i = omega arith
+    ap₂ (λ y ys. y ∷ ys) (subst (λ z. f z x ≡ g z x) (add-zero k) (h 0 x refl))
+    (map_from_same f g (suc k) xs (λ i y e. subst (λ z. f z y ≡ g z y) (sym (suc_add-add_suc k i)) (h (suc i) y e)))
 
 pub get-map_from : {A B : Type 0} (f : ℕ → A → B) (k i : ℕ) (xs : List A)
     → slice_get (map_from f k xs) i ≡ option_map (f (k + i)) (slice_get xs i)
 get-map_from f k i [] = refl
-get-map_from f k zero (x ∷ xs) = ap (λ z. Some (f z x)) (plus k) where
-  plus : (k : ℕ) → k ≡ k + 0
-  plus k = omega arith
+get-map_from f k zero (x ∷ xs) = ap (λ z. Some (f z x)) (sym (add-zero k))
 get-map_from f k (suc i) (x ∷ xs) =
-    get-map_from f (suc k) i xs ∙ ap (λ z. option_map (f z) (slice_get xs i)) (more k i)
-  where
-    more : (k i : ℕ) → suc k + i ≡ k + suc i
-    more k i = omega arith
+    get-map_from f (suc k) i xs ∙ ap (λ z. option_map (f z) (slice_get xs i)) (suc_add-add_suc k i)
 
 pub get_or-map_from : {A B : Type 0} (f : ℕ → A → B) (k i : ℕ) (xs : List A) (d : A) (e : B)
     → ((j : ℕ) → f j d ≡ e) → get_or (map_from f k xs) i e ≡ f (k + i) (get_or xs i d)
 get_or-map_from f k i [] d e h = sym (h (k + i))
-get_or-map_from f k zero (x ∷ xs) d e h = ap (λ z. f z x) (plus k) where
-  plus : (k : ℕ) → k ≡ k + 0
-  plus k = omega arith
+get_or-map_from f k zero (x ∷ xs) d e h = ap (λ z. f z x) (sym (add-zero k))
 get_or-map_from f k (suc i) (x ∷ xs) d e h =
-    get_or-map_from f (suc k) i xs d e h ∙ ap (λ z. f z (get_or xs i d)) (more k i)
-  where
-    more : (k i : ℕ) → suc k + i ≡ k + suc i
-    more k i = omega arith
+    get_or-map_from f (suc k) i xs d e h ∙ ap (λ z. f z (get_or xs i d)) (suc_add-add_suc k i)
 
 pub map_from-constant : {A B : Type 0} (f : A → B) (k : ℕ) (xs : List A) → map_from (λ i x. f x) k xs ≡ map f xs
 map_from-constant f k [] = refl

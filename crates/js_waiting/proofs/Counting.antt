@@ -1,6 +1,6 @@
 -- One more place is counted: what is left of members, of room and of places.
-use Rattle.std.proofs.Common.{◌≡◌, ◌≢◌, ℕ, zero, suc, ◌+◌, ◌-◌, ◌≤◌, ◌<◌, ◌⊎◌, inl, inr, List, [], ◌∷◌, ◌++◌, map, length, drop, set, get_or, slice_get, get_or-set_same, Bool, true, false, not, ◌&&◌, ◌||◌, cond, nat_le, nat_eq, Option, Some, None, is_some, refl, ap, ap₂, sym, ◌∙◌, arith}
-use Rattle.std.proofs.lemmas.Bool.{le-leb, lt-leb, cases_lt}
+use Rattle.std.proofs.Common.{◌≡◌, ◌≢◌, ℕ, zero, suc, ◌+◌, ◌-◌, ◌≤◌, ◌<◌, ◌⊎◌, inl, inr, List, [], ◌∷◌, ◌++◌, map, length, drop, set, get_or, slice_get, get_or-set_same, Bool, true, false, not, ◌&&◌, ◌||◌, cond, nat_le, nat_eq, Option, Some, None, is_some, refl, ap, ap₂, sym, ◌∙◌, arith, zero-add}
+use Rattle.std.proofs.lemmas.Bool.{le-leb, lt-leb, cases_lt, not-true}
 use Rattle.std.proofs.lemmas.Bool.Decides.{eqb_tells}
 use Rattle.std.specs.List.{range_with_len}
 use Rattle.documents.specs.Tests.{every}
@@ -90,16 +90,10 @@ left_none (q ∷ qs) = go q.is_member q.counted (left_none qs) where
   go : (m c : Bool) → nat_eq (members_left qs) 0 ≡ every (λ q. q.counted || not q.is_member) qs
       → nat_eq (cond (m && not c) 1 0 + members_left qs) 0
       ≡ ((c || not m) && every (λ q. q.counted || not q.is_member) qs)
-  go true true e = ap (λ z. nat_eq z 0) (zero_plus (members_left qs)) ∙ e where
-    zero_plus : (n : ℕ) → 0 + n ≡ n
-    zero_plus n = omega arith
+  go true true e = ap (λ z. nat_eq z 0) (zero-add (members_left qs)) ∙ e
   go true false e = above (1 + members_left qs) (omega arith)
-  go false true e = ap (λ z. nat_eq z 0) (zero_plus (members_left qs)) ∙ e where
-    zero_plus : (n : ℕ) → 0 + n ≡ n
-    zero_plus n = omega arith
-  go false false e = ap (λ z. nat_eq z 0) (zero_plus (members_left qs)) ∙ e where
-    zero_plus : (n : ℕ) → 0 + n ≡ n
-    zero_plus n = omega arith
+  go false true e = ap (λ z. nat_eq z 0) (zero-add (members_left qs)) ∙ e
+  go false false e = ap (λ z. nat_eq z 0) (zero-add (members_left qs)) ∙ e
 
 pub missing_none : (n r : ℕ) → nat_eq (n - r) 0 ≡ nat_le n r
 missing_none n r = go (cases_lt r n) where
@@ -159,10 +153,7 @@ not_none d h = go (eqb_tells d 0) where
 
 pub waits_get : (o : Option Place) → waits o ≡ true → (q : Place) × (o ≡ Some q) × (q.counted ≡ false)
 waits_get None e = cc
-waits_get (Some q) e = (q, refl, no q.counted e) where
-  no : (b : Bool) → not b ≡ true → b ≡ false
-  no true e = cc
-  no false e = refl
+waits_get (Some q) e = (q, refl, not-true q.counted e)
 
 -- an alternative whose place waits is there
 pub waits_some : (o : Option Counts) (p : ℕ) → waits (place_in p o) ≡ true → is_some o ≡ true

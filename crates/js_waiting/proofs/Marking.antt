@@ -1,5 +1,5 @@
 -- States in which places are counted exactly where a test says so.
-use Rattle.std.proofs.Common.{◌≡◌, ◌≢◌, ℕ, zero, suc, ◌+◌, ◌<◌, ◌⊎◌, inl, inr, List, [], ◌∷◌, ◌++◌, map, length, take, get_or, slice_get, Bool, true, false, not, ◌&&◌, ◌||◌, nat_eq, Option, Some, None, option_map, is_some, refl, ap, ap₂, sym, ◌∙◌, subst, arith, eqb-true, eq-eqb, drop, drop-cons}
+use Rattle.std.proofs.Common.{◌≡◌, ◌≢◌, ℕ, zero, suc, ◌+◌, ◌<◌, ◌⊎◌, inl, inr, List, [], ◌∷◌, ◌++◌, map, length, take, get_or, slice_get, Bool, true, false, not, ◌&&◌, ◌||◌, nat_eq, Option, Some, None, option_map, is_some, refl, ap, ap₂, sym, ◌∙◌, subst, arith, eqb-true, eq-eqb, drop, drop-cons, zero-add, add-zero, suc-add}
 use Rattle.std.proofs.lemmas.Bool.{and_parts}
 use Rattle.std.proofs.lemmas.Bool.Decides.{eqb_tells}
 use Rattle.std.proofs.lemmas.List.{drop_all}
@@ -19,20 +19,17 @@ use Rattle.js_waiting.specs.declared.mention.Mention.{Mention}
 use Rattle.js_waiting.proofs.Changes.{change_map, map_from_same, get-map_from, get_or-map_from, map_from-constant, get_low, get_or_get}
 use Rattle.js_waiting.proofs.Ready.{first_ready}
 use Rattle.js_waiting.proofs.Mentioning.{Names, right, listed, once}
+use Rattle.list_laws.proofs.Numbers.{nat_eq-refl, suc_add-add_suc}
+use Rattle.list_laws.proofs.Booleans.{same_test, or_left_comm}
+use Rattle.std.proofs.Math.Bool.{or_assoc}
+use Rattle.std.proofs.lemmas.Option.{same_Some}
+use Rattle.std.proofs.Math.Numerals.{suc-eq-add-one}
 
 differ : (m n : ℕ) → m ≢ n → nat_eq m n ≡ false
 differ m n h = go (eqb_tells m n) where
   go : ((nat_eq m n ≡ true) × (m ≡ n)) ⊎ ((nat_eq m n ≡ false) × (m ≢ n)) → nat_eq m n ≡ false
   go (inl (t, e)) = absurd (h e)
   go (inr (t, e)) = t
-
-same : (n : ℕ) → nat_eq n n ≡ true
-same n = eq-eqb n n refl
-
-is_true_is : (a b : Bool) → (a ≡ true → b ≡ true) → (b ≡ true → a ≡ true) → a ≡ b
-is_true_is true b f g = sym (f refl)
-is_true_is false true f g = g refl
-is_true_is false false f g = refl
 
 -- one more place
 module _ (bit : ℕ → ℕ → ℕ → Bool) (h a p : ℕ) where
@@ -45,16 +42,16 @@ module _ (bit : ℕ → ℕ → ℕ → Bool) (h a p : ℕ) where
 
   other_alternative : (b q : ℕ) → b ≢ a → More h b q ≡ bit h b q
   other_alternative b q e =
-      ap₂ (λ s t. (s && (t && nat_eq p q)) || bit h b q) (same h) (differ a b (λ k. e (sym k)))
+      ap₂ (λ s t. (s && (t && nat_eq p q)) || bit h b q) (nat_eq-refl h) (differ a b (λ k. e (sym k)))
 
   other_place : (q : ℕ) → q ≢ p → More h a q ≡ bit h a q
   other_place q e =
-      ap₂ (λ s t. (s && t) || bit h a q) (same h)
-      (ap₂ (λ s t. s && t) (same a) (differ p q (λ k. e (sym k))))
+      ap₂ (λ s t. (s && t) || bit h a q) (nat_eq-refl h)
+      (ap₂ (λ s t. s && t) (nat_eq-refl a) (differ p q (λ k. e (sym k))))
 
   here : More h a p ≡ true
   here =
-      ap₂ (λ s t. (s && t) || bit h a p) (same h) (ap₂ (λ s t. s && t) (same a) (same p))
+      ap₂ (λ s t. (s && t) || bit h a p) (nat_eq-refl h) (ap₂ (λ s t. s && t) (nat_eq-refl a) (nat_eq-refl p))
 
   in_places : (qs : List Place)
       → change (with_counted true) p (map_from (λ q x. with_counted (bit h a q) x) 0 qs)
@@ -62,27 +59,18 @@ module _ (bit : ℕ → ℕ → ℕ → Bool) (h a p : ℕ) where
   in_places qs =
       change_map (with_counted true) (λ q x. with_counted (bit h a q) x) (λ q x. with_counted (More h a q) x) p
       (λ x. ap (λ b. with_counted b x) (sym here)) (λ q x e. ap (λ b. with_counted b x) (sym (other_place q e))) 0 p qs
-      (none_plus p)
-    where
-      none_plus : (p : ℕ) → p ≡ 0 + p
-      none_plus p = omega arith
+      (sym (zero-add p))
 
   in_alternatives : (cs : List Counts) → change (count_in p) a (mark_all (bit h) cs) ≡ mark_all (More h) cs
   in_alternatives cs =
       change_map (count_in p) (λ b c. mark_counts (bit h b) c) (λ b c. mark_counts (More h b) c) a
       (λ c. ap (with_places c) (in_places c.places))
-      (λ b c e. ap (λ t. mark_counts t c) (λ i q. sym (other_alternative b q e) i)) 0 a cs (none_plus a)
-    where
-      none_plus : (p : ℕ) → p ≡ 0 + p
-      none_plus p = omega arith
+      (λ b c e. ap (λ t. mark_counts t c) (λ i q. sym (other_alternative b q e) i)) 0 a cs (sym (zero-add a))
 
   pub count_marked : (w : List (List Counts)) → count_at h a p (marked bit w) ≡ marked More w
   count_marked w =
       change_map (change (count_in p) a) (λ g cs. mark_all (bit g) cs) (λ g cs. mark_all (More g) cs) h
-      in_alternatives (λ g cs e. ap (λ t. mark_all t cs) (λ i b q. sym (other_goal g b q e) i)) 0 h w (none_plus h)
-    where
-      none_plus : (p : ℕ) → p ≡ 0 + p
-      none_plus p = omega arith
+      in_alternatives (λ g cs e. ap (λ t. mark_all t cs) (λ i b q. sym (other_goal g b q e) i)) 0 h w (sym (zero-add h))
 
 -- the places of one alternative, where the test is that of goals
 module _ (has : ℕ → Bool) where
@@ -93,34 +81,19 @@ module _ (has : ℕ → Bool) where
   places_by bit k [] [] h = refl
   places_by bit k [] (f ∷ fs) h =
       ap₂ (λ b qs. record { is_member = false; room = f.room; counted = b } ∷ qs)
-      (ap bit (plus_none k) ∙ h 0 f.goal refl)
-      (places_by bit (suc k) [] fs (λ i g e. ap bit (plus k i) ∙ h (suc i) g e))
-    where
-      plus_none : (k : ℕ) → k ≡ k + 0
-      plus_none k = omega arith
-
-      plus : (k i : ℕ) → suc k + i ≡ k + suc i
-      plus k i = omega arith
+      (ap bit (sym (add-zero k)) ∙ h 0 f.goal refl)
+      (places_by bit (suc k) [] fs (λ i g e. ap bit (suc_add-add_suc k i) ∙ h (suc i) g e))
   places_by bit k (m ∷ ms) fs h =
       ap₂ (λ b qs. record { is_member = true; room = 0; counted = b } ∷ qs)
-      (ap bit (plus_none k) ∙ h 0 m.goal refl)
-      (places_by bit (suc k) ms fs (λ i g e. ap bit (plus k i) ∙ h (suc i) g e))
-    where
-      plus_none : (k : ℕ) → k ≡ k + 0
-      plus_none k = omega arith
-
-      plus : (k i : ℕ) → suc k + i ≡ k + suc i
-      plus k i = omega arith
+      (ap bit (sym (add-zero k)) ∙ h 0 m.goal refl)
+      (places_by bit (suc k) ms fs (λ i g e. ap bit (suc_add-add_suc k i) ∙ h (suc i) g e))
 
   counts_are : (bit : ℕ → Bool) (x : Numbered)
       → ((p g : ℕ) → slice_get (named_goals x) p ≡ Some g → bit p ≡ has g)
       → mark_counts bit (counts_of x) ≡ counts_by has x
   counts_are bit x h =
       ap (with_places (counts_of x))
-      (places_by bit 0 x.members x.fillers (λ i g e. ap bit (none_plus i) ∙ h i g e))
-    where
-      none_plus : (k : ℕ) → 0 + k ≡ k
-      none_plus k = omega arith
+      (places_by bit 0 x.members x.fillers (λ i g e. ap bit (zero-add i) ∙ h i g e))
 
 map_from-map : {A B C : Type 0} (f : ℕ → B → C) (g : A → B) (k : ℕ) (xs : List A)
     → map_from f k (map g xs) ≡ map_from (λ i x. f i (g x)) k xs
@@ -130,11 +103,8 @@ map_from-map f g k (x ∷ xs) = ap (λ ys. f k (g x) ∷ ys) (map_from-map f g (
 range_at : (n i x : ℕ) → slice_get (range_with_len 0 n) i ≡ Some x → (x ≡ i) × (i < n)
 range_at n i x e =
     let l : i < n = below (get_low (range_with_len 0 n) i x e) in
-    (sym (get_or_get (range_with_len 0 n) i x 0 e) ∙ get_or-range_with_len 0 n i 0 l ∙ plus i, l)
+    (sym (get_or_get (range_with_len 0 n) i x 0 e) ∙ get_or-range_with_len 0 n i 0 l ∙ zero-add i, l)
   where
-    plus : (i : ℕ) → 0 + i ≡ i
-    plus i = omega arith
-
     below : i < length (range_with_len 0 n) → i < n
     below l = omega (arith, l, length-range_with_len 0 n)
 
@@ -153,16 +123,13 @@ module _ (e : Exploration) where
       (λ h n. map (counts_by has) (alternatives_at e n)) 0 (range_with_len 0 Size) one
       ∙ map_from-constant (λ n. map (counts_by has) (alternatives_at e n)) 0 (range_with_len 0 Size)
     where
-      none_plus : (k : ℕ) → 0 + k ≡ k
-      none_plus k = omega arith
-
       of_goal : (h : ℕ) → h < Size
           → mark_all (bit h) (map counts_of (alternatives_at e h)) ≡ map (counts_by has) (alternatives_at e h)
       of_goal h l =
           map_from-map (λ a c. mark_counts (bit h a) c) counts_of 0 (alternatives_at e h)
           ∙ map_from_same (λ a x. mark_counts (bit h a) (counts_of x)) (λ a x. counts_by has x) 0 (alternatives_at e h)
           (λ a x k. counts_are has (bit h (0 + a)) x
-          (λ p g n. ap (λ z. bit h z p) (none_plus a)
+          (λ p g n. ap (λ z. bit h z p) (zero-add a)
           ∙ agree h a p g l (ap (λ o. slice_get (goals_in o) p) k ∙ n)))
           ∙ map_from-constant (counts_by has) 0 (alternatives_at e h)
 
@@ -170,7 +137,7 @@ module _ (e : Exploration) where
           → mark_all (bit (0 + i)) (map counts_of (alternatives_at e n)) ≡ map (counts_by has) (alternatives_at e n)
       one i n k =
           let (s, l) = range_at Size i n k in
-          ap₂ (λ z m. mark_all (bit z) (map counts_of (alternatives_at e m))) (none_plus i) s
+          ap₂ (λ z m. mark_all (bit z) (map counts_of (alternatives_at e m))) (zero-add i) s
           ∙ of_goal i l
           ∙ ap (λ m. map (counts_by has) (alternatives_at e m)) (sym s)
 
@@ -195,11 +162,8 @@ module _ (e : Exploration) where
   first_is has h l =
       ap (λ w. first_place is_ready (get_or w h [])) (state_is (by_goal has e) has (by_agrees has))
       ∙ ap (first_place is_ready)
-      (get_or-map-range_with_len (λ n. map (counts_by has) (alternatives_at e n)) 0 Size h h [] l (none_plus h))
+      (get_or-map-range_with_len (λ n. map (counts_by has) (alternatives_at e n)) 0 Size h h [] l (zero-add h))
       ∙ first_ready has (alternatives_at e h)
-    where
-      none_plus : (k : ℕ) → 0 + k ≡ k
-      none_plus k = omega arith
 
 -- a goal is taken
 is_at_is : (h a p : ℕ) (u : Mention) → is_at h a p u ≡ true → u ≡ mention h a p
@@ -209,24 +173,16 @@ is_at_is h a p u e =
     ap₂ (λ f q. f q) (ap₂ mention (eqb-true u.goal h x) (eqb-true u.alternative a y)) (eqb-true u.place p z)
 
 is_at_self : (h a p : ℕ) → is_at h a p (mention h a p) ≡ true
-is_at_self h a p = ap₂ (λ s t. s && t) (same h) (ap₂ (λ s t. s && t) (same a) (same p))
+is_at_self h a p = ap₂ (λ s t. s && t) (nat_eq-refl h) (ap₂ (λ s t. s && t) (nat_eq-refl a) (nat_eq-refl p))
 
 take_next : {A : Type 0} (p : A → Bool) (xs : List A) (i : ℕ) (d : A) → i < length xs
     → some p (take (i + 1) xs) ≡ (p (get_or xs i d) || some p (take i xs))
 take_next p [] i d l = absurd (omega (arith, l))
 take_next p (x ∷ xs) zero d l = refl
 take_next p (x ∷ xs) (suc i) d l =
-    ap (λ n. some p (take n (x ∷ xs))) (plus i)
+    ap (λ n. some p (take n (x ∷ xs))) (suc-add i 1)
     ∙ ap (λ b. p x || b) (take_next p xs i d (omega (arith, l)))
-    ∙ swap (p x) (p (get_or xs i d)) (some p (take i xs))
-  where
-    plus : (i : ℕ) → suc i + 1 ≡ suc (i + 1)
-    plus i = omega arith
-
-    swap : (a b c : Bool) → (a || (b || c)) ≡ (b || (a || c))
-    swap true true c = refl
-    swap true false c = refl
-    swap false b c = refl
+    ∙ or_left_comm (p x) (p (get_or xs i d)) (some p (take i xs))
 
 take_own : {A : Type 0} (xs : List A) (i : ℕ) (d : A) → Distinct xs → i < length xs
     → IsIn (get_or xs i d) (take i xs) → ⊥
@@ -263,13 +219,9 @@ module _ (e : Exploration) (has : ℕ → Bool) (m : ℕ) where
       count_marked (while_taken has e m i) u.goal u.alternative u.place (uncounted e)
       ∙ ap (λ b. marked b (uncounted e)) (λ j h a p. more h a p j)
     where
-      assoc : (a b c : Bool) → (a || (b || c)) ≡ ((a || b) || c)
-      assoc true b c = refl
-      assoc false b c = refl
-
       more : (h a p : ℕ) → (is_at h a p u || while_taken has e m i h a p) ≡ while_taken has e m (i + 1) h a p
       more h a p =
-          assoc (is_at h a p u) (some (is_at h a p) (take i Us)) (by_goal has e h a p)
+          sym (or_assoc (is_at h a p u) (some (is_at h a p) (take i Us)) (by_goal has e h a p))
           ∙ ap (λ b. b || by_goal has e h a p)
           (ap (λ v. is_at h a p v || some (is_at h a p) (take i Us)) k
           ∙ sym (take_next (is_at h a p) Us i u l))
@@ -289,17 +241,14 @@ module _ (e : Exploration) (has : ℕ → Bool) (m : ℕ) where
 
       found : (h a p g : ℕ) → h < length e.found.goals → goal_at e h a p ≡ Some g
           → some (is_at h a p) Us ≡ nat_eq g m
-      found h a p g l n = is_true_is (some (is_at h a p) Us) (nat_eq g m)
+      found h a p g l n = same_test (some (is_at h a p) Us) (nat_eq g m)
           (λ x.
           let (u, j, y) = some_find (is_at h a p) Us x in
           let s = is_at_is h a p u y in
           let r = right e m (mention h a p) (subst (λ z. IsIn z Us) s j) in
-          eq-eqb g m (some_same (sym n ∙ r.names)))
+          eq-eqb g m (same_Some _ _ (sym n ∙ r.names)))
           (λ x. some_from (is_at h a p) (mention h a p) Us
           (listed e m h a p l (n ∙ ap Some (eqb-true g m x))) (is_at_self h a p))
-        where
-          some_same : {x y : ℕ} → Some x ≡ Some y → x ≡ y
-          some_same e = cc
 
       agree : (h a p g : ℕ) → h < length e.found.goals → goal_at e h a p ≡ Some g
           → while_taken has e m (length Us) h a p ≡ with_goal has m g
@@ -317,9 +266,6 @@ module _ (e : Exploration) (has : ℕ → Bool) (m : ℕ) where
       ap₂ (λ a b. a || b) (not_before i u l k) (ap (passes has) n.names ∙ left) in
       waits_where (while_taken has e m i) u.goal u.alternative u.place m n.low n.names bit
     where
-      none_plus : (k : ℕ) → 0 + k ≡ k
-      none_plus k = omega arith
-
       place_there : (ms : List NumberedPlaced) (fs : List NumberedFiller) (p g : ℕ)
           → slice_get (map (λ x. x.goal) ms ++ map (λ x. x.goal) fs) p ≡ Some g
           → is_some (slice_get (map member_place ms ++ map filler_place fs) p) ≡ true
@@ -339,7 +285,7 @@ module _ (e : Exploration) (has : ℕ → Bool) (m : ℕ) where
           go : (o : Option Place) → is_some o ≡ true
               → waits (option_map (with_counted (bit (0 + p))) o) ≡ true
           go None h = cc
-          go (Some q) h = ap not (ap bit (none_plus p) ∙ b)
+          go (Some q) h = ap not (ap bit (zero-add p) ∙ b)
 
       get-map : {A B : Type 0} (f : A → B) (xs : List A) (i : ℕ)
           → slice_get (map f xs) i ≡ option_map f (slice_get xs i)
@@ -352,12 +298,12 @@ module _ (e : Exploration) (has : ℕ → Bool) (m : ℕ) where
       waits_where bit h a p g l n b =
           ap (λ cs. waits (place_in p (slice_get cs a)))
           (get_or-map_from (λ z cs. mark_all (bit z) cs) 0 h (uncounted e) [] [] (λ j. refl)
-          ∙ ap₂ (λ z cs. mark_all (bit z) cs) (none_plus h)
+          ∙ ap₂ (λ z cs. mark_all (bit z) cs) (zero-add h)
           (get_or-map-range_with_len (λ z. map counts_of (alternatives_at e z)) 0 (length e.found.goals) h h [] l
-          (none_plus h)))
+          (zero-add h)))
           ∙ ap (λ o. waits (place_in p o))
           (get-map_from (λ z c. mark_counts (bit h z) c) 0 a (map counts_of (alternatives_at e h))
-          ∙ ap₂ (λ z o. option_map (mark_counts (bit h z)) o) (none_plus a)
+          ∙ ap₂ (λ z o. option_map (mark_counts (bit h z)) o) (zero-add a)
           (get-map counts_of (alternatives_at e h) a))
           ∙ in_alternative (bit h a) (slice_get (alternatives_at e h) a) p g n b
 
@@ -366,14 +312,15 @@ module _ (e : Exploration) (has : ℕ → Bool) (m : ℕ) where
   State i = marked (while_taken has e m i) (uncounted e)
 
   left_at : (i : ℕ) → i < length Us → (u : Mention) × (u ≡ get_or Us i u) × (drop i Us ≡ u ∷ drop (i + 1) Us)
-  left_at i l =
-      (get_or Us i zeros, any Us i l, drop-cons Us i zeros l ∙ ap (λ n. get_or Us i zeros ∷ drop n Us) (one i))
+  left_at i l = (
+    get_or Us i zeros,
+    any Us i l,
+    drop-cons Us i zeros l
+        ∙ ap (λ n. get_or Us i zeros ∷ drop n Us) (suc-eq-add-one i),
+  )
     where
       zeros : Mention
       zeros = mention 0 0 0
-
-      one : (i : ℕ) → suc i ≡ i + 1
-      one i = omega arith
 
       any : (xs : List Mention) (i : ℕ) → i < length xs → get_or xs i zeros ≡ get_or xs i (get_or xs i zeros)
       any [] i l = absurd (omega (arith, l))
@@ -385,10 +332,7 @@ module _ (e : Exploration) (has : ℕ → Bool) (m : ℕ) where
       ≡ marked (by_goal (with_goal has m) e) (uncounted e)
   all_counted zero i k =
       ap (λ us. count_all us (State i)) (drop_all i Us (omega (arith, k)))
-      ∙ ap State (none_plus i ∙ k) ∙ taken_all
-    where
-      none_plus : (i : ℕ) → i ≡ 0 + i
-      none_plus i = omega arith
+      ∙ ap State (sym (zero-add i) ∙ k) ∙ taken_all
   all_counted (suc n) i k =
       let (u, at, left) = left_at i (omega (arith, k)) in
       ap (λ us. count_all us (State i)) left

@@ -1,5 +1,5 @@
 -- The places that name a goal: each once, and no others.
-use Rattle.std.proofs.Common.{◌≡◌, ◌≢◌, ℕ, zero, suc, ◌+◌, ◌<◌, ◌⊎◌, inl, inr, List, [], ◌∷◌, ◌++◌, map, length, slice_get, Bool, true, false, cond, nat_eq, Some, Result, Ok, Err, OnOk, refl, ap, ap₂, sym, ◌∙◌, subst, arith, eq-eqb}
+use Rattle.std.proofs.Common.{◌≡◌, ◌≢◌, ℕ, zero, suc, ◌+◌, ◌<◌, ◌⊎◌, inl, inr, List, [], ◌∷◌, ◌++◌, length, slice_get, Bool, true, false, cond, nat_eq, Some, Result, Ok, Err, OnOk, refl, ap, ap₂, sym, ◌∙◌, subst, arith, eq-eqb, add-zero, zero-add, map-id}
 use Rattle.std.proofs.lemmas.Bool.Decides.{eqb_tells}
 use Rattle.std.proofs.lemmas.List.{append_assoc, append-nil}
 use Rattle.std.proofs.lemmas.List.FromFn.{map-range_with_len_more}
@@ -13,6 +13,8 @@ use Rattle.list_laws.proofs.Pigeons.{range_distinct}
 use Rattle.js_explore.specs.Exploration.{Exploration, alternatives_at}
 use Rattle.js_waiting.specs.Mentioned.{mention, named_goals, mentions_from, mentions_by, mentions_of, goals_in, goal_at}
 use Rattle.js_waiting.specs.declared.mention.Mention.{Mention}
+use Rattle.list_laws.proofs.Numbers.{suc_add-add_suc}
+use Rattle.std.proofs.lemmas.Option.{same_Some}
 
 pub on_ok : {A E P Q : Type 0} (r : Result A E) → (P → Q) → OnOk r P → OnOk r Q
 on_ok (Ok x) f h = f h
@@ -20,17 +22,12 @@ on_ok (Err e) f h = tt
 
 mentions-append : (m h a p : ℕ) (gs hs : List ℕ)
     → mentions_from m h a p (gs ++ hs) ≡ mentions_from m h a p gs ++ mentions_from m h a (p + length gs) hs
-mentions-append m h a p [] hs = ap (λ z. mentions_from m h a z hs) (plus p) where
-  plus : (p : ℕ) → p ≡ p + 0
-  plus p = omega arith
+mentions-append m h a p [] hs = ap (λ z. mentions_from m h a z hs) (sym (add-zero p))
 mentions-append m h a p (g ∷ gs) hs =
     go (nat_eq g m)
     (mentions-append m h a (suc p) gs hs ∙ ap (λ z. mentions_from m h a (suc p) gs ++ mentions_from m h a z hs)
-    (plus p (length gs)))
+    (suc_add-add_suc p (length gs)))
   where
-    plus : (p n : ℕ) → suc p + n ≡ p + suc n
-    plus p n = omega arith
-
     go : (b : Bool) → mentions_from m h a (suc p) (gs ++ hs)
         ≡ mentions_from m h a (suc p) gs ++ mentions_from m h a (p + suc (length gs)) hs
         → cond b (mention h a p ∷ mentions_from m h a (suc p) (gs ++ hs)) (mentions_from m h a (suc p) (gs ++ hs))
@@ -44,12 +41,9 @@ pub both_added : (m h a n : ℕ) (first next last : List Mention) (gs hs : List 
     → next ≡ first ++ mentions_from m h a 0 gs → last ≡ next ++ mentions_from m h a n hs
     → last ≡ first ++ mentions_from m h a 0 (gs ++ hs)
 both_added m h a n first next last gs hs e x y =
-    y ∙ ap₂ (λ l k. l ++ mentions_from m h a k hs) x (e ∙ plus (length gs))
+    y ∙ ap₂ (λ l k. l ++ mentions_from m h a k hs) x (e ∙ sym (zero-add (length gs)))
     ∙ append_assoc first (mentions_from m h a 0 gs) (mentions_from m h a (0 + length gs) hs)
     ∙ ap (λ l. first ++ l) (sym (mentions-append m h a 0 gs hs))
-  where
-    plus : (n : ℕ) → n ≡ 0 + n
-    plus n = omega arith
 
 -- one more goal
 pub goal_added : (e : Exploration) (m h : ℕ) (first : List Mention)
@@ -60,16 +54,12 @@ goal_added e m h first x xs s =
     ap₂ (λ l ys. l ++ mentions_by m h 0 ys) x s
     ∙ ap (λ l. flat_map Of (range_with_len 0 h) ++ l) (sym (append-nil (Of h)))
     ∙ sym (flat_map-append Of (range_with_len 0 h) (h ∷ []))
-    ∙ ap (flat_map Of) (sym (sym (map_same (range_with_len 0 (h + 1)))
+    ∙ ap (flat_map Of) (sym (sym (map-id (range_with_len 0 (h + 1)))
     ∙ map-range_with_len_more (λ n. n) 0 h h (omega arith)
-    ∙ ap (λ l. l ++ h ∷ []) (map_same (range_with_len 0 h))))
+    ∙ ap (λ l. l ++ h ∷ []) (map-id (range_with_len 0 h))))
   where
     Of : ℕ → List Mention
     Of g = mentions_by m g 0 (alternatives_at e g)
-
-    map_same : (ns : List ℕ) → map (λ n. n) ns ≡ ns
-    map_same [] = refl
-    map_same (n ∷ ns) = ap (λ l. n ∷ l) (map_same ns)
 
 -- of one alternative
 pub record At (m h a : ℕ) (gs : List ℕ) (p : ℕ) (u : Mention) : Type 0 where
@@ -80,19 +70,15 @@ pub record At (m h a : ℕ) (gs : List ℕ) (p : ℕ) (u : Mention) : Type 0 whe
 at_later : (m h a : ℕ) (g : ℕ) (gs : List ℕ) (p : ℕ) (u : Mention) → At m h a gs (suc p) u → At m h a (g ∷ gs) p u
 at_later m h a g gs p u x = record {
   i = suc x.i;
-  is = x.is ∙ ap (mention h a) (plus p x.i);
+  is = x.is ∙ ap (mention h a) (suc_add-add_suc p x.i);
   names = x.names;
-} where
-  plus : (p i : ℕ) → suc p + i ≡ p + suc i
-  plus p i = omega arith
+}
 
 from_place : (m h a p : ℕ) (gs : List ℕ) (u : Mention) → IsIn u (mentions_from m h a p gs) → At m h a gs p u
 from_place m h a p [] u i = absurd i
 from_place m h a p (g ∷ gs) u i = go (eqb_tells g m) (from_place m h a (suc p) gs u) i where
   here : g ≡ m → u ≡ mention h a p → At m h a (g ∷ gs) p u
-  here e s = record { i = 0; is = s ∙ ap (mention h a) (plus p); names = ap Some e } where
-    plus : (p : ℕ) → p ≡ p + 0
-    plus p = omega arith
+  here e s = record { i = 0; is = s ∙ ap (mention h a) (sym (add-zero p)); names = ap Some e }
 
   Rest : List Mention
   Rest = mentions_from m h a (suc p) gs
@@ -114,20 +100,12 @@ to_place m h a p [] i e = cc
 to_place m h a p (g ∷ gs) zero e =
     subst (λ b. IsIn (mention h a (p + 0))
     (cond b (mention h a p ∷ mentions_from m h a (suc p) gs) (mentions_from m h a (suc p) gs)))
-    (sym (eq-eqb g m (some_same e))) (inl (ap (mention h a) (plus p)))
-  where
-    some_same : {x y : ℕ} → Some x ≡ Some y → x ≡ y
-    some_same e = cc
-
-    plus : (p : ℕ) → p + 0 ≡ p
-    plus p = omega arith
+    (sym (eq-eqb g m (same_Some _ _ e))) (inl (ap (mention h a) (add-zero p)))
 to_place m h a p (g ∷ gs) (suc i) e =
     go (nat_eq g m)
-    (subst (λ z. IsIn (mention h a z) (mentions_from m h a (suc p) gs)) (plus p i) (to_place m h a (suc p) gs i e))
+    (subst (λ z. IsIn (mention h a z) (mentions_from m h a (suc p) gs)) (suc_add-add_suc p i)
+    (to_place m h a (suc p) gs i e))
   where
-    plus : (p i : ℕ) → suc p + i ≡ p + suc i
-    plus p i = omega arith
-
     go : (b : Bool) → IsIn (mention h a (p + suc i)) (mentions_from m h a (suc p) gs)
         → IsIn (mention h a (p + suc i))
         (cond b (mention h a p ∷ mentions_from m h a (suc p) gs) (mentions_from m h a (suc p) gs))
@@ -170,15 +148,6 @@ from_alternative m h a (x ∷ xs) u i =
     go (in_append u (mentions_from m h a 0 (named_goals x)) (mentions_by m h (suc a) xs) i)
     (from_alternative m h (suc a) xs u)
   where
-    plus_none : (p : ℕ) → p ≡ p + 0
-    plus_none p = omega arith
-
-    none_plus : (p : ℕ) → p ≡ 0 + p
-    none_plus p = omega arith
-
-    plus : (p i : ℕ) → suc p + i ≡ p + suc i
-    plus p i = omega arith
-
     go : IsIn u (mentions_from m h a 0 (named_goals x)) ⊎ IsIn u (mentions_by m h (suc a) xs)
         → (IsIn u (mentions_by m h (suc a) xs) → By m h xs (suc a) u) → By m h (x ∷ xs) a u
     go (inl j) more =
@@ -186,34 +155,25 @@ from_alternative m h a (x ∷ xs) u i =
         record {
           i = 0;
           goal = ap (λ z. z.goal) y.is;
-          alternative = ap (λ z. z.alternative) y.is ∙ plus_none a;
-          names = ap (slice_get (named_goals x)) (ap (λ z. z.place) y.is ∙ sym (none_plus y.i)) ∙ y.names;
+          alternative = ap (λ z. z.alternative) y.is ∙ sym (add-zero a);
+          names = ap (slice_get (named_goals x)) (ap (λ z. z.place) y.is ∙ zero-add y.i) ∙ y.names;
         }
     go (inr j) more =
         let y = more j in
-        record { i = suc y.i; goal = y.goal; alternative = y.alternative ∙ plus a y.i; names = y.names }
+        record { i = suc y.i; goal = y.goal; alternative = y.alternative ∙ suc_add-add_suc a y.i; names = y.names }
 
 to_alternative : (m h a : ℕ) (xs : List Numbered) (i p : ℕ) → slice_get (goals_in (slice_get xs i)) p ≡ Some m
     → IsIn (mention h (a + i) p) (mentions_by m h a xs)
 to_alternative m h a [] i p e = cc
 to_alternative m h a (x ∷ xs) zero p e =
     in_left (mention h (a + 0) p) (mentions_from m h a 0 (named_goals x)) (mentions_by m h (suc a) xs)
-    (subst (λ z. IsIn (mention h z p) (mentions_from m h a 0 (named_goals x))) (plus_none a)
-    (subst (λ z. IsIn (mention h a z) (mentions_from m h a 0 (named_goals x))) (none_plus p)
+    (subst (λ z. IsIn (mention h z p) (mentions_from m h a 0 (named_goals x))) (sym (add-zero a))
+    (subst (λ z. IsIn (mention h a z) (mentions_from m h a 0 (named_goals x))) (zero-add p)
     (to_place m h a 0 (named_goals x) p e)))
-  where
-    plus_none : (p : ℕ) → p ≡ p + 0
-    plus_none p = omega arith
-
-    none_plus : (p : ℕ) → 0 + p ≡ p
-    none_plus p = omega arith
 to_alternative m h a (x ∷ xs) (suc i) p e =
     in_right (mention h (a + suc i) p) (mentions_from m h a 0 (named_goals x)) (mentions_by m h (suc a) xs)
-    (subst (λ z. IsIn (mention h z p) (mentions_by m h (suc a) xs)) (plus a i)
+    (subst (λ z. IsIn (mention h z p) (mentions_by m h (suc a) xs)) (suc_add-add_suc a i)
     (to_alternative m h (suc a) xs i p e))
-  where
-    plus : (p i : ℕ) → suc p + i ≡ p + suc i
-    plus p i = omega arith
 
 once_alternative : (m h a : ℕ) (xs : List Numbered) → Distinct (mentions_by m h a xs)
 once_alternative m h a [] = tt
@@ -260,10 +220,7 @@ module _ (e : Exploration) (m : ℕ) where
       → IsIn (mention h a p) (mentions_of e m)
   listed h a p l n =
       in_flat_map Of (mention h a p) h (range_with_len 0 (length e.found.goals)) (in_range (length e.found.goals) h l)
-      (subst (λ z. IsIn (mention h z p) (Of h)) (none_plus a) (to_alternative m h 0 (alternatives_at e h) a p n))
-    where
-      none_plus : (a : ℕ) → 0 + a ≡ a
-      none_plus a = omega arith
+      (subst (λ z. IsIn (mention h z p) (Of h)) (zero-add a) (to_alternative m h 0 (alternatives_at e h) a p n))
 
   once_all : (hs : List ℕ) → Distinct hs → Distinct (flat_map Of hs)
   once_all [] d = tt

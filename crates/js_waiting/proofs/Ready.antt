@@ -9,6 +9,7 @@ use Rattle.js_waiting.specs.Marked.{counts_by, member_by, filler_by}
 use Rattle.js_waiting.specs.First.{least_place}
 use Rattle.js_waiting.specs.declared.place.Place.{Place}
 use Rattle.js_waiting.proofs.Changes.{get-change}
+use Rattle.std.proofs.Math.Bool.{or-false}
 
 abbrev Counts_for : Place → Bool
 Counts_for q = q.counted || not q.is_member
@@ -25,10 +26,7 @@ module _ (has : ℕ → Bool) where
   members_ready : (ms : List NumberedPlaced) (fs : List NumberedFiller)
       → every Counts_for (map (member_by has) ms ++ map (filler_by has) fs) ≡ every (λ m. has m.goal) ms
   members_ready [] fs = fillers_ready fs
-  members_ready (m ∷ ms) fs = ap₂ (λ a b. a && b) (or_false (has m.goal)) (members_ready ms fs) where
-    or_false : (b : Bool) → (b || false) ≡ b
-    or_false true = refl
-    or_false false = refl
+  members_ready (m ∷ ms) fs = ap₂ (λ a b. a && b) (or-false (has m.goal)) (members_ready ms fs)
 
   filler_rooms : (fs : List NumberedFiller) → counted_rooms (map (filler_by has) fs) ≡ rooms has fs
   filler_rooms [] = refl

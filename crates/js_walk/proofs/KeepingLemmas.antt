@@ -1,6 +1,6 @@
 -- A walk goes on past a place: what is done and what waits stands where it stood, since pointers keep their numbers.
 use Rattle.std.proofs.Common.{◌≡◌, ℕ, zero, suc, ◌+◌, ◌≤◌, ◌<◌, List, [], ◌∷◌, ◌++◌, map, reverse, length, get_or, Bool, true, false, cond, nat_lt, nat_eq, Option, Some, None, is_some, refl, sym, ap, ap₂, subst, ◌∙◌, arith}
-use Rattle.std.proofs.lemmas.Bool.{ltb-true, and_parts, and_from, lt-ltb}
+use Rattle.std.proofs.lemmas.Bool.{ltb-true, and_parts, and_from, lt-ltb, le-ltb}
 use Rattle.std.proofs.lemmas.List.{map-append, reverse-append, reverse-reverse}
 use Rattle.std.specs.Map.{lookup}
 use Rattle.documents.specs.Tests.{every}
@@ -23,6 +23,7 @@ use Rattle.js_walk.specs.Visiting.{AreWithin, Settles, Settled, Visited}
 use Rattle.js_walk.specs.Walking.{done_places, stack_view, DoneWithin, AllSettled, Kept, Passed}
 use Rattle.js_walk.proofs.PlacesLemmas.{has_place-lookup}
 use Rattle.js_walk.proofs.ChildrenLemmas.{within-grows, views-stay}
+use Rattle.list_laws.proofs.Lists.{map-reverse}
 
 -- Lists.
 
@@ -32,12 +33,6 @@ every-reverse test (x ∷ xs) h =
     let parts = and_parts (test x) (every test xs) h in
     subst (λ ys. every test ys ≡ true) (sym (reverse-append (x ∷ []) xs))
     (every-append test (reverse xs) (x ∷ []) (every-reverse test xs parts.1) (and_from (test x) true parts.0 refl))
-
-map-reverse : {A B : Type 0} (f : A → B) (xs : List A) → map f (reverse xs) ≡ reverse (map f xs)
-map-reverse f [] = refl
-map-reverse f (x ∷ xs) =
-    ap (map f) (reverse-append (x ∷ []) xs) ∙ map-append f (reverse xs) (x ∷ [])
-    ∙ ap (λ ys. ys ++ f x ∷ []) (map-reverse f xs) ∙ sym (reverse-append (f x ∷ []) (map f xs))
 
 -- What is done.
 
@@ -129,13 +124,6 @@ kept-first root ps es before cs p none e empty l = record {
   settled = subst (λ es. AllSettled root ps es) (sym none) tt;
 }
 
-not_more : (m n : ℕ) → n ≤ m → nat_lt m n ≡ false
-not_more m n l = go (nat_lt m n) refl
-  where
-    go : (b : Bool) → nat_lt m n ≡ b → b ≡ false
-    go true e = let more = ltb-true m n e in absurd (omega (arith, l, more))
-    go false e = refl
-
 module _ (root : Json) (ps qs : List P.Pointer) (es : List (ℕ × Done)) (cs : List Place) (p : Place)
     (kept : Kept root ps es cs) (within : p.pointer < length ps) (found : Found)
     (visited : Visited root ps qs (fault_at rules root (place_view ps p)) (children rules root (place_view ps p))
@@ -173,7 +161,7 @@ module _ (root : Json) (ps qs : List P.Pointer) (es : List (ℕ × Done)) (cs : 
         faultless =
             ap₂ or_else visited.faultless
             (ap (λ b. cond b (Some (TooLarge (get_or ps p.pointer []))) None)
-            (not_more 2147483647 (before + weight (place_view ps p)) (omega (arith, weighs, light))));
+            (le-ltb 2147483647 (before + weight (place_view ps p)) (omega (arith, weighs, light))));
         weighs = weighs;
         light = light;
         done =

@@ -1,5 +1,5 @@
 -- Places by the numbers of their pointers: the first with that number is the one that is looked up.
-use Rattle.std.proofs.Common.{◌≡◌, ℕ, zero, ◌≤◌, ◌<◌, suc, ◌+◌, List, [], ◌∷◌, map, length, get_or, Bool, true, false, not, cond, ◌||◌, ◌&&◌, nat_lt, nat_eq, Some, None, is_some, position, slice_get, refl, sym, ap, subst, ◌∙◌, arith}
+use Rattle.std.proofs.Common.{◌≡◌, ℕ, zero, ◌≤◌, ◌<◌, suc, ◌+◌, List, [], ◌∷◌, map, length, get_or, Bool, true, false, not, cond, ◌||◌, ◌&&◌, nat_lt, nat_eq, Some, None, is_some, position, refl, sym, ap, subst, ◌∙◌, arith}
 use Rattle.std.specs.List.{prefix_len, position_or_len}
 use Rattle.std.specs.Map.{keys_of, lookup}
 use Rattle.std.proofs.lemmas.Option.{none-some, same_Some}
@@ -7,7 +7,6 @@ use Rattle.std.proofs.lemmas.Bool.{ltb-true, eqb-true, eq-eqb, and_parts}
 use Rattle.std.proofs.lemmas.Bool.Decides.{same_from_decides}
 use Rattle.std.proofs.lemmas.List.{append-nil}
 use Rattle.documents.specs.Tests.{every}
-use Rattle.list_laws.proofs.Lists.{every_at, in_slice}
 use Rattle.schemas.specs.Places.{Pointer, same_pointer, has_place}
 use Rattle.schemas.specs.Entries.{number_of}
 use Rattle.schema_laws.proofs.Pointers.{same_pointer-refl, same_pointer-eq}
@@ -15,10 +14,6 @@ use Rattle.js_pointers.specs.Table.{AreDistinct, Leads}
 use Rattle.js_pointers.proofs.PositionLemmas.{position_or_len-None, position_or_len-Some}
 use Rattle.js_walk.specs.declared.place.Done.{Done}
 use Rattle.js_walk.specs.PlacesView.{done_view}
-
-pub every-at : {A : Type 0} (test : A → Bool) (xs : List A) (i : ℕ) (x : A) → every test xs ≡ true
-    → slice_get xs i ≡ Some x → test x ≡ true
-every-at test xs i x all h = every_at test x xs all (in_slice x xs i h)
 
 abbrev pub within : List Pointer → List (ℕ × Done) → Bool
 within ps es = every (λ e. nat_lt e.0 (length ps)) es

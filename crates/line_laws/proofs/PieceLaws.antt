@@ -9,6 +9,7 @@ use Rattle.std.proofs.lemmas.Bool.{eqb-true, true≢false, and_parts, and_from, 
 use Rattle.documents.specs.Tests.{every}
 use Rattle.position_laws.proofs.Lists.{every-append}
 use Rattle.certificate_lines.specs.Pieces.{pieces, pieces_on, split_at, split_on, after_word}
+use Rattle.list_laws.proofs.Numbers.{nat_eq-refl}
 
 -- reading on
 
@@ -96,9 +97,6 @@ cut-word b w (c ∷ v) rest h =
     ∙ cut-word b (w ++ c ∷ []) v rest (and_parts (not (nat_eq c b)) (lacks b v) h).1
     ∙ ap (λ u. pieces_on b u rest) (append_assoc w (c ∷ []) v)
 
-same_byte : (b : ℕ) → nat_eq b b ≡ true
-same_byte b = eq-eqb b b refl
-
 pub pieces-of_ended : (b : ℕ) (ps : List (List ℕ)) → every (lacks b) ps ≡ true
     → pieces b (flat_map (λ p. p ++ b ∷ []) ps) ≡ ps ++ [] ∷ []
 pieces-of_ended b [] h = refl
@@ -106,14 +104,14 @@ pieces-of_ended b (p ∷ ps) h =
     let rest : List ℕ = flat_map (λ p. p ++ b ∷ []) ps in
     ap (pieces_on b []) (append_assoc p (b ∷ []) rest)
     ∙ cut-word b [] p (b ∷ rest) (and_parts (lacks b p) (every (lacks b) ps) h).0
-    ∙ cond-true (nat_eq b b) _ _ (same_byte b)
+    ∙ cond-true (nat_eq b b) _ _ (nat_eq-refl b)
     ∙ ap (λ qs. p ∷ qs) (pieces-of_ended b ps (and_parts (lacks b p) (every (lacks b) ps) h).1)
 
 begun_on : (b : ℕ) (w : List ℕ) (ps : List (List ℕ)) → every (lacks b) ps ≡ true
     → pieces_on b w (flat_map (λ p. b ∷ p) ps) ≡ w ∷ ps
 begun_on b w [] h = refl
 begun_on b w (p ∷ ps) h =
-    cond-true (nat_eq b b) _ _ (same_byte b)
+    cond-true (nat_eq b b) _ _ (nat_eq-refl b)
     ∙ ap (λ qs. w ∷ qs) (cut-word b [] p (flat_map (λ p. b ∷ p) ps) (and_parts (lacks b p) (every (lacks b) ps) h).0
     ∙ begun_on b p ps (and_parts (lacks b p) (every (lacks b) ps) h).1)
 
@@ -204,7 +202,7 @@ split_at-text b xs p q e = split_on-text b [] xs p q e
 
 split_on-of : (b : ℕ) (w v rest : List ℕ) → lacks b v ≡ true → split_on b w (v ++ b ∷ rest) ≡ Some (w ++ v, rest)
 split_on-of b w [] rest h =
-    cond-true (nat_eq b b) _ _ (same_byte b) ∙ ap (λ u. Some (u, rest)) (sym (append-nil w))
+    cond-true (nat_eq b b) _ _ (nat_eq-refl b) ∙ ap (λ u. Some (u, rest)) (sym (append-nil w))
 split_on-of b w (c ∷ v) rest h =
     cond-false (nat_eq c b) _ _ (not-true _ (and_parts (not (nat_eq c b)) (lacks b v) h).0)
     ∙ split_on-of b (w ++ c ∷ []) v rest (and_parts (not (nat_eq c b)) (lacks b v) h).1
@@ -258,7 +256,7 @@ pieces-open b v more h =
 
 -- what stands before the first byte is the first piece
 pub pieces-past : (b : ℕ) (v rest : List ℕ) → lacks b v ≡ true → pieces b (v ++ b ∷ rest) ≡ v ∷ pieces b rest
-pieces-past b v rest h = cut-word b [] v (b ∷ rest) h ∙ cond-true (nat_eq b b) _ _ (same_byte b)
+pieces-past b v rest h = cut-word b [] v (b ∷ rest) h ∙ cond-true (nat_eq b b) _ _ (nat_eq-refl b)
 
 -- the bytes before a place, and those from it on
 

@@ -1,3 +1,6 @@
+pub mod Booleans
+pub mod Numbers
+pub mod Options
 pub mod Lists
 pub mod Tests
 pub mod Pigeons

@@ -1,6 +1,7 @@
 -- What is in a list, and in lists that are made of it.
-use Rattle.std.proofs.Common.{◌≡◌, ℕ, zero, suc, ◌<◌, ◌⊎◌, inl, inr, ⊎_elim, Bool, true, false, cond, List, [], ◌∷◌, ◌++◌, map, filter, flat_map, take, get_or, slice_get, length, Some, refl, ap, ap₂, sym, subst, arith}
+use Rattle.std.proofs.Common.{◌≡◌, ℕ, zero, suc, ◌+◌, ◌<◌, ◌⊎◌, inl, inr, ⊎_elim, Bool, true, false, cond, List, [], ◌∷◌, ◌++◌, map, reverse, filter, flat_map, take, get_or, slice_get, length, Some, refl, ap, ap₂, sym, ◌∙◌, subst, arith}
 use Rattle.std.proofs.lemmas.Bool.{and_parts, and_from}
+use Rattle.std.proofs.lemmas.List.{map-append, reverse-append}
 use Rattle.documents.specs.Tests.{every}
 use Rattle.list_laws.specs.In.{IsIn}
 
@@ -74,10 +75,42 @@ in_slice x [] i e = cc
 in_slice x (y ∷ xs) zero e = inl cc
 in_slice x (y ∷ xs) (suc i) e = inr (in_slice x xs i e)
 
+-- where what is in a list stands
+pub in_at : {A : Type 0} (L : List A) (x d : A) → IsIn x L → (k : ℕ) × (k < length L) × (x ≡ get_or L k d)
+in_at [] x d i = absurd i
+in_at (y ∷ L) x d (inl e) = (0, omega arith, e)
+in_at (y ∷ L) x d (inr i) = let (k, l, e) = in_at L x d i in (suc k, omega (arith, l), e)
+
 pub in_get : {A : Type 0} (L : List A) (i : ℕ) (d : A) → i < length L → IsIn (get_or L i d) L
 in_get [] i d l = absurd (omega (arith, l))
 in_get (x ∷ L) zero d l = inl refl
 in_get (x ∷ L) (suc i) d l = inr (in_get L i d (omega (arith, l)))
+
+-- what stands in a joined list
+pub slice_get-append : {A : Type 0} (xs ys : List A) (k : ℕ) → k < length xs → slice_get (xs ++ ys) k ≡ slice_get xs k
+slice_get-append [] ys k l = absurd (omega (arith, l))
+slice_get-append (x ∷ xs) ys zero l = refl
+slice_get-append (x ∷ xs) ys (suc k) l = slice_get-append xs ys k (omega (arith, l))
+
+pub slice_get-append_right : {A : Type 0} (xs ys : List A) (j k : ℕ) → k ≡ length xs + j
+    → slice_get (xs ++ ys) k ≡ slice_get ys j
+slice_get-append_right [] ys j k e = ap (slice_get ys) (omega (arith, e))
+slice_get-append_right (x ∷ xs) ys j zero e = absurd (omega (arith, e))
+slice_get-append_right (x ∷ xs) ys j (suc k) e = slice_get-append_right xs ys j k (omega (arith, e))
+
+pub length-end : {A : Type 0} (xs : List A) (x : A) → length (xs ++ x ∷ []) ≡ suc (length xs)
+length-end [] x = refl
+length-end (y ∷ xs) x = ap suc (length-end xs x)
+
+pub map-reverse : {A B : Type 0} (f : A → B) (xs : List A) → map f (reverse xs) ≡ reverse (map f xs)
+map-reverse f [] = refl
+map-reverse f (x ∷ xs) =
+    ap (map f) (reverse-append (x ∷ []) xs) ∙ map-append f (reverse xs) (x ∷ [])
+    ∙ ap (λ ys. ys ++ f x ∷ []) (map-reverse f xs) ∙ sym (reverse-append (f x ∷ []) (map f xs))
+
+-- what stands last stands first the other way round
+pub reverse-last : {A : Type 0} (xs ys : List A) (x : A) → ys ≡ xs ++ x ∷ [] → reverse ys ≡ x ∷ reverse xs
+reverse-last xs ys x e = ap reverse e ∙ reverse-append xs (x ∷ [])
 
 -- what stands first of those that pass a test; none passes where none is left
 pub filter_head : {A : Type 0} (test : A → Bool) (xs : List A) (y : A) (ys : List A)

@@ -5,7 +5,7 @@ use Rattle.documents.specs.Tests.{every}
 use Rattle.word_states.specs.Atom.{Atom}
 use Rattle.positions.specs.Position.{Position, Same, Not, All, Any, One, position_at, of_parts, names_below}
 use Rattle.name_truths.specs.NameTruth.{asked_of_string, own_atoms, atoms_within, are_known}
-use Rattle.name_laws.proofs.Tests.{every-parts}
+use Rattle.list_laws.proofs.Every.{every-parts}
 
 every-each : (p : Atom → Bool) (f : ℕ → List Atom) (qs : List ℕ) → every p (flat_map f qs) ≡ true
     → every (λ q. every p (f q)) qs ≡ true

@@ -29,13 +29,13 @@ weaker : {A : Type 0} (P Q : A → Type 0) (xs : List A) → ((x : A) → P x �
 weaker P Q [] f h = tt
 weaker P Q (x ∷ xs) f h = (f x h.0, weaker P Q xs f h.1)
 
-pointwise-same_word : (v w : List ℕ) → pointwise nat_eq v w ≡ same_word v w
+pub pointwise-same_word : (v w : List ℕ) → pointwise nat_eq v w ≡ same_word v w
 pointwise-same_word [] [] = refl
 pointwise-same_word [] (y ∷ ys) = refl
 pointwise-same_word (x ∷ xs) [] = refl
 pointwise-same_word (x ∷ xs) (y ∷ ys) = ap (λ b. nat_eq x y && b) (pointwise-same_word xs ys)
 
-listed-same : (w : List ℕ) (ws : List (List ℕ)) → list_any (W.same_word w) ws ≡ some (same_word w) ws
+pub listed-same : (w : List ℕ) (ws : List (List ℕ)) → list_any (W.same_word w) ws ≡ some (same_word w) ws
 listed-same w [] = refl
 listed-same w (v ∷ vs) = ap₂ (λ a b. a || b) (pointwise-same_word w v) (listed-same w vs)
 

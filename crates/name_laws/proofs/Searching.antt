@@ -13,9 +13,10 @@ use Rattle.position_laws.proofs.Tables.{is_table-IsTable, is_table-named, is_tab
 use Rattle.name_truths.specs.NameTruth.{asked_of_string, own_atoms, atoms}
 use Rattle.name_laws.specs.Plans.{has_place, atoms_of}
 use Rattle.name_laws.specs.Searches.{AreReached, lower, Covers, IsSearch}
-use Rattle.name_laws.proofs.Tests.{every-join, every-parts, every-has, all-has, has-all}
+use Rattle.name_laws.proofs.Tests.{every-has, all-has, has-all}
 use Rattle.name_laws.proofs.Mentions.{mention_all-append, mention_all-known, mention_all-mentioned}
 use Rattle.name_laws.proofs.Unfolded.{asked-in_place, atoms-asks}
+use Rattle.list_laws.proofs.Every.{every-parts, every-append}
 
 -- all that are of lesser rank stand in the first of those that are waiting
 lower-append : (ranks : List ℕ) (v : ℕ) (qs waiting : List ℕ)
@@ -101,7 +102,7 @@ module _ (T : List Position) (ranks : List ℕ) (e : is_table T ranks ≡ true) 
     later v c f g h = c f g (go (nat_lt (get_or ranks q 0) (get_or ranks v 0))) where
       go : (b : Bool)
           → every f (flat_map (λ k. atoms T k) (cond b (q ∷ lower ranks v waiting) [])) ≡ true
-      go true = every-join f (atoms T q) (flat_map (λ k. atoms T k) (lower ranks v waiting)) (known f g) h
+      go true = every-append f (atoms T q) (flat_map (λ k. atoms T k) (lower ranks v waiting)) (known f g) h
       go false = refl
 
     fewer : (same : Atom → Atom → Bool) → ((a : Atom) → same a a ≡ true) → (L : List Atom)
@@ -122,8 +123,8 @@ module _ (T : List Position) (ranks : List ℕ) (e : is_table T ranks ≡ true) 
   pub search-anew : (p q : ℕ) (found waiting : List ℕ) → IsSearch T ranks p found (q ∷ waiting)
       → IsSearch T ranks p (found ++ q ∷ []) (asked_of_string (position_at T q) ++ waiting)
   search-anew p q found waiting s = record {
-    within = every-join _ found (q ∷ []) s.within (and_from (nat_lt q (length T)) true inside.0 refl);
-    waiting_within = every-join _ kids waiting (named q) inside.1;
+    within = every-append _ found (q ∷ []) s.within (and_from (nat_lt q (length T)) true inside.0 refl);
+    waiting_within = every-append _ kids waiting (named q) inside.1;
     has_root = λ f g h.
         let (old, this) = every-parts f found (q ∷ []) g in
         let (asked, others) = every-parts f kids waiting h in
@@ -131,7 +132,7 @@ module _ (T : List Position) (ranks : List ℕ) (e : is_table T ranks ≡ true) 
     closed = λ f g h.
         let (old, this) = every-parts f found (q ∷ []) g in
         let (asked, others) = every-parts f kids waiting h in
-        every-join _ found (q ∷ [])
+        every-append _ found (q ∷ [])
         (s.closed f old (and_from (f q) (every f waiting) (and_parts (f q) true this).0 others))
         (and_from (every f kids) true asked refl);
     atoms = λ same equal L. ap (λ xs. mention_all same L xs) moved ∙ s.atoms same equal L;
@@ -173,7 +174,7 @@ module _ (T : List Position) (ranks : List ℕ) (e : is_table T ranks ≡ true) 
         → every f (flat_map (λ k. atoms T k) kids) ≡ true → every f (atoms T q) ≡ true
     all_of f g h =
         let (old, this) = parts f g in
-        ap (λ xs. every f xs) (asks q) ∙ every-join f own (flat_map (λ k. atoms T k) kids) this h
+        ap (λ xs. every f xs) (asks q) ∙ every-append f own (flat_map (λ k. atoms T k) kids) this h
 
     -- what is waiting of lesser rank than v, where it has greater rank than the new one
     asked_first : (f : Atom → Bool) (v : ℕ)
@@ -194,7 +195,7 @@ module _ (T : List Position) (ranks : List ℕ) (e : is_table T ranks ≡ true) 
           let below : get_or ranks q 0 < get_or ranks v 0 = ltb-true _ _ l in
           let (asked, others) =
           asked_first f v (all-weaker _ _ kids (λ k m. omega (arith, m, below)) (falls q)) h in
-          every-join f (atoms T q) (flat_map (λ k. atoms T k) (lower ranks v waiting)) (all_of f g asked) others
+          every-append f (atoms T q) (flat_map (λ k. atoms T k) (lower ranks v waiting)) (all_of f g asked) others
       go false l = refl
 
     itself : Covers T ranks (found ++ q ∷ []) (kids ++ waiting) q

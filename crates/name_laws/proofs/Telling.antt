@@ -14,9 +14,12 @@ use Rattle.positions.specs.Holds.{IsTable}
 use Rattle.name_truths.specs.NameTruth.{asked_of_string, own_atoms, AreTrue, asks_name, name_holds}
 use Rattle.name_laws.specs.Plans.{Plan, IsPlan, is_leaf, has_place, asks_earlier, atoms_of}
 use Rattle.name_laws.specs.Rooms.{truth_at, is_right, leaf_holds}
-use Rattle.name_laws.proofs.Tests.{every-join, every-has}
+use Rattle.name_laws.proofs.Tests.{every-has}
 use Rattle.name_laws.proofs.Unfolded.{asks_name-same, name_holds-asks}
 use Rattle.position_laws.proofs.Lists.{every-weaker}
+use Rattle.list_laws.proofs.Tests.{beq-true}
+use Rattle.list_laws.proofs.Booleans.{eq-beq}
+use Rattle.list_laws.proofs.Every.{every-append}
 
 -- leaves
 
@@ -61,20 +64,10 @@ leaf-told T truth here (q ∷ leaves) (suc k) h l =
 
 -- the room
 
-same_truth : (a b : Bool) → beq a b ≡ true → a ≡ b
-same_truth true true h = refl
-same_truth true false h = sym h
-same_truth false true h = h
-same_truth false false h = refl
-
-truth_same : (a b : Bool) → a ≡ b → beq a b ≡ true
-truth_same true b h = subst (λ c. beq true c ≡ true) h refl
-truth_same false b h = subst (λ c. beq false c ≡ true) h refl
-
 module _ (T : List Position) (truth : Atom → Bool) where
   right-itself : (room : List Bool) (p : ℕ) (b : Bool) → p < length room → b ≡ name_holds T truth p
       → is_right T truth (set room p b) p ≡ true
-  right-itself room p b l e = truth_same _ _ (get_or-set_same room p b false l ∙ e)
+  right-itself room p b l e = eq-beq _ _ (get_or-set_same room p b false l ∙ e)
 
   -- what is right for one position leaves the others right
   right-set : (room : List Bool) (p : ℕ) (b : Bool) (q : ℕ) → p < length room → b ≡ name_holds T truth p
@@ -91,12 +84,12 @@ module _ (T : List Position) (truth : Atom → Bool) where
   pub right-more : (room : List Bool) (qs : List ℕ) (p : ℕ) (b : Bool) → p < length room → b ≡ name_holds T truth p
       → every (is_right T truth room) qs ≡ true → every (is_right T truth (set room p b)) (qs ++ p ∷ []) ≡ true
   right-more room qs p b l e h =
-      every-join _ qs (p ∷ []) (every-weaker _ _ qs (λ q k. right-set room p b q l e k) h)
+      every-append _ qs (p ∷ []) (every-weaker _ _ qs (λ q k. right-set room p b q l e k) h)
       (and_from (is_right T truth (set room p b) p) true (right-itself room p b l e) refl)
 
   pub right-at : (room : List Bool) (qs : List ℕ) (q : ℕ) → every (is_right T truth room) qs ≡ true
       → has_place qs q ≡ true → truth_at room q ≡ name_holds T truth q
-  right-at room qs q h e = same_truth _ _ (every-has (is_right T truth room) qs q h e)
+  right-at room qs q h e = beq-true _ _ (every-has (is_right T truth room) qs q h e)
 
 -- position i asks those that are seen or before it
 earlier-at : (T : List Position) (seen ps : List ℕ) (i : ℕ) → asks_earlier T seen ps ≡ true → i < length ps
@@ -178,7 +171,7 @@ pub root-inside : (T : List Position) (plan : Plan) → IsPlan T plan → plan.r
 root-inside T plan h =
     ltb-true plan.root (length T)
     (every-has (λ q. nat_lt q (length T)) (plan.leaves ++ plan.inner) plan.root
-    (every-join _ plan.leaves plan.inner h.leaves_within h.inner_within) h.has_root)
+    (every-append _ plan.leaves plan.inner h.leaves_within h.inner_within) h.has_root)
 
 pub root-told : (T : List Position) (truth : Atom → Bool) (plan : Plan) (root : ℕ) (leaves inner : List ℕ)
     (truths before after : List Bool) → IsPlan T plan → root ≡ plan.root → leaves ≡ plan.leaves

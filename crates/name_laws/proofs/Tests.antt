@@ -2,22 +2,12 @@
 use Rattle.std.proofs.Common.{◌≡◌, ℕ, List, [], ◌∷◌, ◌++◌, Bool, true, false, ◌&&◌, ◌||◌, not, if◌then◌else◌, nat_eq, inl, inr, eqb-true, refl, ap, sym, ◌∙◌, subst}
 use Rattle.std.specs.List.{AllByRecursion, list_any}
 use Rattle.std.specs.List.Sorted.{IsPermutation}
-use Rattle.std.proofs.lemmas.Bool.{and_parts, and_from, or_cases, or_left, or_right, eq-eqb, true≢false}
+use Rattle.std.proofs.lemmas.Bool.{and_parts, and_from, or_cases, or_left, or_right, true≢false}
 use Rattle.std.proofs.lemmas.List.Sorted.{list_any-IsPermutation}
 use Rattle.documents.specs.Tests.{every, some}
-use Rattle.position_laws.proofs.Lists.{every-append, some-append, every-weaker}
+use Rattle.position_laws.proofs.Lists.{some-append, every-weaker}
 use Rattle.name_laws.specs.Plans.{has_place}
-
-pub same_eq : (q : ℕ) → nat_eq q q ≡ true
-same_eq q = eq-eqb q q refl
-
-pub every-join : {A : Type 0} (p : A → Bool) (xs ys : List A) → every p xs ≡ true → every p ys ≡ true
-    → every p (xs ++ ys) ≡ true
-every-join p xs ys g h = every-append p xs ys ∙ and_from (every p xs) (every p ys) g h
-
-pub every-parts : {A : Type 0} (p : A → Bool) (xs ys : List A) → every p (xs ++ ys) ≡ true
-    → (every p xs ≡ true) × (every p ys ≡ true)
-every-parts p xs ys h = and_parts (every p xs) (every p ys) (sym (every-append p xs ys) ∙ h)
+use Rattle.list_laws.proofs.Numbers.{nat_eq-refl}
 
 pub every-always : {A : Type 0} (p : A → Bool) (xs : List A) → ((x : A) → p x ≡ true) → every p xs ≡ true
 every-always p [] f = refl
@@ -51,7 +41,7 @@ has-right xs ys q h = some-append (nat_eq q) xs ys ∙ or_right (has_place xs q)
 pub has-all : (qs : List ℕ) → every (has_place qs) qs ≡ true
 has-all [] = refl
 has-all (q ∷ qs) =
-    and_from _ _ (or_left (nat_eq q q) (has_place qs q) (same_eq q))
+    and_from _ _ (or_left (nat_eq q q) (has_place qs q) (nat_eq-refl q))
     (every-weaker (has_place qs) (has_place (q ∷ qs)) qs (λ x h. or_right (nat_eq x q) (has_place qs x) h) (has-all qs))
 
 pub some-list_any : {A : Type 0} (p : A → Bool) (xs : List A) → list_any p xs ≡ some p xs

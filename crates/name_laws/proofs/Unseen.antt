@@ -8,7 +8,7 @@ use Rattle.position_laws.proofs.Lists.{some-append}
 use Rattle.name_truths.specs.NameTruth.{asked_of_string}
 use Rattle.name_laws.specs.Plans.{has_place}
 use Rattle.name_laws.specs.Searches.{unseen}
-use Rattle.name_laws.proofs.Tests.{same_eq}
+use Rattle.list_laws.proofs.Numbers.{nat_eq-refl}
 
 -- another place is found where it was
 has-other : (found : List ℕ) (q k : ℕ) → nat_eq k q ≡ false → has_place (found ++ q ∷ []) k ≡ has_place found k
@@ -20,7 +20,7 @@ has-other found q k e = some-append (nat_eq k) found (q ∷ []) ∙ go (has_plac
 has-last : (found : List ℕ) (q : ℕ) → has_place (found ++ q ∷ []) q ≡ true
 has-last found q =
     some-append (nat_eq q) found (q ∷ [])
-    ∙ or_right (has_place found q) (nat_eq q q || false) (ap (λ b. b || false) (same_eq q))
+    ∙ or_right (has_place found q) (nat_eq q q || false) (ap (λ b. b || false) (nat_eq-refl q))
 
 -- those behind the place that was found
 unseen-past : (found : List ℕ) (q k : ℕ) (Ps : List Position) → q < k

@@ -1,6 +1,6 @@
 -- A document meets the groups of an `enum` exactly where it is one of the values.
 use Rattle.std.proofs.Common.{◌≡◌, ℕ, ℤ, List, [], ◌∷◌, ◌++◌, Bool, true, false, ◌&&◌, ◌||◌, not, cond, Option, Some, None, refl, sym, ◌∙◌, filter}
-use Rattle.std.proofs.Math.Bool.{or-false}
+use Rattle.std.proofs.Math.Bool.{or-false, and-or_distrib_right}
 use Rattle.std.proofs.lemmas.Bool.{and_parts, and_from}
 use Rattle.std.proofs.lemmas.Bool.Decides.{Decides-int_eq}
 use Rattle.std.specs.List.{list_any, filter_map}
@@ -11,28 +11,20 @@ use Rattle.documents.specs.Document.{Document, null, boolean, number, string, ar
 use Rattle.documents.specs.Measures.{at_number, at_string, same_document}
 use Rattle.positions.specs.Position.{Position, Any, Types, NumIn, Words}
 use Rattle.position_laws.proofs.Lists.{some-append}
-use Rattle.schema_laws.proofs.Pointers.{same_word-eq}
 use Rattle.normal_forms.specs.Nodes.{Maker, nothing, node, both, above, each}
 use Rattle.normal_forms.specs.Values.{value_node}
 use Rattle.normal_forms.specs.KeywordNodes.{once, is_null, truth_in, number_in, word_in, is_container, one_of_kind, truths, groups}
 use Rattle.normal_laws.specs.Making.{IsMeaning, Makes}
 use Rattle.normal_laws.proofs.MakingLemmas.{makes-nothing, makes-node, makes-both, makes-any, tests_of}
-use Rattle.normal_laws.proofs.ValueNodes.{makes-same, makes-kind, value_makes, kind_test, same_word-swap}
+use Rattle.normal_laws.proofs.ValueNodes.{makes-same, makes-kind, value_makes, kind_test}
 use Rattle.normal_laws.proofs.Repeats.{some-once}
+use Rattle.list_laws.proofs.Booleans.{or_or_comm}
+use Rattle.list_laws.proofs.Tests.{some-alike, same_word_comm, same_word-true}
 
 -- a test of either kind, over a list
 some-either : {A : Type 0} (f g : A → Bool) (xs : List A) → some (λ x. f x || g x) xs ≡ (some f xs || some g xs)
 some-either f g [] = refl
-some-either f g (x ∷ xs) = rw (some-either f g xs) (shuffled (f x) (g x) (some f xs) (some g xs)) where
-  shuffled : (a b x y : Bool) → ((a || b) || (x || y)) ≡ ((a || x) || (b || y))
-  shuffled true b x y = refl
-  shuffled false true true y = refl
-  shuffled false true false y = refl
-  shuffled false false x y = refl
-
-pub some-alike : {A : Type 0} (f g : A → Bool) (xs : List A) → ((x : A) → f x ≡ g x) → some f xs ≡ some g xs
-some-alike f g [] h = refl
-some-alike f g (x ∷ xs) h = rw (h x) (rw (some-alike f g xs h) refl)
+some-either f g (x ∷ xs) = rw (some-either f g xs) (or_or_comm (f x) (g x) (some f xs) (some g xs))
 
 -- the test of a value that may be there
 abbrev passes : {A : Type 0} → (A → Bool) → Option A → Bool
@@ -58,12 +50,7 @@ some-filter q p (x ∷ xs) = by_test (q x) refl (some-filter q p xs) where
 
 some-and : {A : Type 0} (q : A → Bool) (b : Bool) (xs : List A) → some (λ x. q x && b) xs ≡ (some q xs && b)
 some-and q b [] = refl
-some-and q b (x ∷ xs) = rw (some-and q b xs) (shared (q x) (some q xs) b) where
-  shared : (a c b : Bool) → ((a && b) || (c && b)) ≡ ((a || c) && b)
-  shared true c true = refl
-  shared true true false = refl
-  shared true false false = refl
-  shared false c b = refl
+some-and q b (x ∷ xs) = rw (some-and q b xs) (sym (and-or_distrib_right (q x) (some q xs) b))
 
 -- ---- the tests of each group
 abbrev pub null_tests : Bool → List (Document → Bool)
@@ -175,7 +162,7 @@ word_values : (ws : List (List ℕ)) (J : Document) → one_passes (word_tests w
     (string w) J) ws
 word_values [] J = refl
 word_values (w ∷ ws) (string v) =
-    or-false _ ∙ some-alike (same_word v) (λ w. same_word w v) (w ∷ ws) (λ u. same_word-swap v u)
+    or-false _ ∙ some-alike (same_word v) (λ w. same_word w v) (w ∷ ws) (λ u. same_word_comm v u)
 word_values (w ∷ ws) null = sym (never ws)
 word_values (w ∷ ws) (boolean b) = sym (never ws)
 word_values (w ∷ ws) (number n) = sym (never ws)
@@ -217,9 +204,6 @@ value_grouped J (string w) = sym (or-false (same_document (string w) J))
 value_grouped J (array ds) = refl
 value_grouped J (object ms) = refl
 
-int_eq-eq : (x y : ℤ) → int_eq x y ≡ true → x ≡ y
-int_eq-eq x y h = (Decides-int_eq x y).0 h
-
 values_grouped : (ds : List Document) (J : Document) → some (λ d. same_document d J) ds
     ≡ ((some is_null ds && kind_test Null J)
     || (some (of_truth J) ds || (some (of_number J) ds || (some (of_word J) ds || some (of_container J) ds))))
@@ -242,14 +226,14 @@ numbers_of : (ds : List Document) (J : Document)
     → one_passes (number_tests (once int_eq (filter_map number_in ds))) J ≡ some (of_number J) ds
 numbers_of ds J =
     number_values (once int_eq (filter_map number_in ds)) J
-    ∙ some-once int_eq int_eq-eq (λ n. same_document (number n) J) (filter_map number_in ds)
+    ∙ some-once int_eq (λ x y. (Decides-int_eq x y).0) (λ n. same_document (number n) J) (filter_map number_in ds)
     ∙ sym (some-filter_map number_in (λ n. same_document (number n) J) ds)
 
 words_of : (ds : List Document) (J : Document)
     → one_passes (word_tests (once same_word (filter_map word_in ds))) J ≡ some (of_word J) ds
 words_of ds J =
     word_values (once same_word (filter_map word_in ds)) J
-    ∙ some-once same_word same_word-eq (λ w. same_document (string w) J) (filter_map word_in ds)
+    ∙ some-once same_word same_word-true (λ w. same_document (string w) J) (filter_map word_in ds)
     ∙ sym (some-filter_map word_in (λ w. same_document (string w) J) ds)
 
 containers_of : (ds : List Document) (J : Document)

@@ -9,7 +9,6 @@ use Rattle.documents.specs.Document.{Document, null, boolean, number, string, ar
 use Rattle.documents.specs.Measures.{at_array, at_object, meets_in_order, has_name, every_in}
 use Rattle.patterns.specs.Tree.{Tree}
 use Rattle.patterns.specs.Decision.{finds}
-use Rattle.schema_laws.proofs.Pointers.{same_word-eq}
 use Rattle.schemas.specs.Entry.{TypeName, ItemsPart, Each, Listed, Needs, Names, Whole, Keywords}
 use Rattle.schemas.specs.Schema.{if_there}
 use Rattle.draft06.specs.Names.{keys, is_additional, each_asks, where_present}
@@ -24,8 +23,9 @@ use Rattle.normal_forms.specs.KeywordNodes.{kinds_of, once, pattern_of, others_o
 use Rattle.normal_laws.specs.Making.{all_pass, IsMeaning, AreMet, Makes}
 use Rattle.normal_laws.proofs.MakingLemmas.{makes-node, makes-entry, makes-both, makes-above, makes-all, makes-each, tests_of}
 use Rattle.normal_laws.proofs.ValueNodes.{documents_in, values_in, makes-same}
-use Rattle.normal_laws.proofs.EnumNodes.{some-filter, some-alike}
+use Rattle.normal_laws.proofs.EnumNodes.{some-filter}
 use Rattle.normal_laws.proofs.Repeats.{every-once}
+use Rattle.list_laws.proofs.Tests.{some-alike, same_word-true}
 
 -- ---- types
 -- a kind is among those that pass a test exactly where it passes it
@@ -219,7 +219,7 @@ module _ (T : List Position) (holds : ℕ → Document → Bool) (meaning : IsMe
   pub required_pass : (ws : List (List ℕ)) (J : Document) → all_pass (tests_of has_test (once same_word ws)) J
       ≡ at_object (λ ms. every (λ w. has_name w ms) ws) J
   required_pass ws (object ms) =
-      all_names (once same_word ws) ms ∙ every-once same_word same_word-eq (λ w. has_name w (entries ms)) ws
+      all_names (once same_word ws) ms ∙ every-once same_word same_word-true (λ w. has_name w (entries ms)) ws
   required_pass ws null = always-pass has_test (once same_word ws) null (λ w. refl)
   required_pass ws (boolean b) = always-pass has_test (once same_word ws) (boolean b) (λ w. refl)
   required_pass ws (number n) = always-pass has_test (once same_word ws) (number n) (λ w. refl)

@@ -6,7 +6,7 @@ use Rattle.documents.specs.Tests.{every, some, same_word, comes_before, is_scala
 use Rattle.documents.specs.Document.{Document, Members, no_members, member, entries, is_document, are_members}
 use Rattle.documents.specs.Measures.{has_name, every_in, same_document, same_members}
 use Rattle.documents.proofs.NameOrder.{comes_before-same, comes_before-trans}
-use Rattle.schema_laws.proofs.Pointers.{same_word-eq, same_word-refl}
+use Rattle.list_laws.proofs.Tests.{same_word-refl, same_word-true}
 
 abbrev pub Named : Type 0
 Named = List (List ℕ × Document)
@@ -17,14 +17,14 @@ same_word-before v w h = by_test (same_word v w) refl where
   by_test : (b : Bool) → same_word v w ≡ b → b ≡ false
   by_test false e = refl
   by_test true e =
-      absurd (true≢false (sym h ∙ ap (λ x. comes_before x w) (same_word-eq v w e) ∙ comes_before-same w))
+      absurd (true≢false (sym h ∙ ap (λ x. comes_before x w) (same_word-true v w e) ∙ comes_before-same w))
 
 pub same_word-after : (v w : List ℕ) → comes_before w v ≡ true → same_word v w ≡ false
 same_word-after v w h = by_test (same_word v w) refl where
   by_test : (b : Bool) → same_word v w ≡ b → b ≡ false
   by_test false e = refl
   by_test true e =
-      absurd (true≢false (sym h ∙ ap (λ x. comes_before w x) (same_word-eq v w e) ∙ comes_before-same w))
+      absurd (true≢false (sym h ∙ ap (λ x. comes_before w x) (same_word-true v w e) ∙ comes_before-same w))
 
 -- all names of the members come after k
 abbrev pub all_after : List ℕ → Named → Bool

@@ -2,7 +2,7 @@
 use Rattle.std.proofs.Common.{◌≡◌, ℕ, suc, ◌+◌, ◌*◌, ◌^◌, ◌<◌, ◌≤◌, inl, inr, List, [], ◌∷◌, ◌++◌, length, map, get_or, Bool, true, false, ◌&&◌, nat_lt, nat_le, nat_eq, refl, ap, sym, ◌∙◌, subst, arith, add-zero, append_assoc}
 use Rattle.std.proofs.Math.Seq.{get_or-append_seam}
 use Rattle.std.proofs.lemmas.Bool.{and_parts, and_from}
-use Rattle.std.proofs.lemmas.List.{get_or-map, get_or_append_left, length_push}
+use Rattle.std.proofs.lemmas.List.{get_or-map, get_or_append_left, length_push, length-map}
 use Rattle.std.specs.List.{AllByRecursion}
 use Rattle.documents.specs.Tests.{every}
 use Rattle.patterns.specs.Tree.{Tree}
@@ -24,6 +24,8 @@ use Rattle.normal_forms.specs.Nodes.{Nodes, after}
 use Rattle.normal_forms.specs.NormalForm.{form_nodes, entry_position, entry_positions, all_nodes, node_rank, entry_rank, numbered, node_ranks, table_of, ranks_of}
 use Rattle.normal_laws.proofs.Growth.{Grown, MayName}
 use Rattle.normal_laws.proofs.KeywordGrowth.{keywords_grow}
+use Rattle.list_laws.proofs.Every.{every-append}
+use Rattle.position_laws.proofs.Joined.{ranks_fall-append}
 
 -- the ranks stand in the list from n on
 abbrev RanksAt : List ℕ → ℕ → List ℕ → Type 0
@@ -67,25 +69,6 @@ all_tested : {A : Type 0} (P : A → Type 0) (test : A → Bool) (xs : List A) �
     → AllByRecursion P xs → every test xs ≡ true
 all_tested P test [] f h = refl
 all_tested P test (x ∷ xs) f h = and_from (test x) (every test xs) (f x h.0) (all_tested P test xs f h.1)
-
-every-append : {A : Type 0} (p : A → Bool) (xs ys : List A) → every p xs ≡ true → every p ys ≡ true
-    → every p (xs ++ ys) ≡ true
-every-append p [] ys a b = b
-every-append p (x ∷ xs) ys a b =
-    let parts = and_parts (p x) (every p xs) a in
-    and_from (p x) (every p (xs ++ ys)) parts.0 (every-append p xs ys parts.1 b)
-
-fall-append : (ranks : List ℕ) (k : ℕ) (xs ys : List Position) → ranks_fall ranks k xs ≡ true
-    → ranks_fall ranks (k + length xs) ys ≡ true → ranks_fall ranks k (xs ++ ys) ≡ true
-fall-append ranks k [] ys a b =
-    let P : ℕ → Type 0 = λ i. ranks_fall ranks i ys ≡ true in subst P (add-zero k) b
-fall-append ranks k (x ∷ xs) ys a b =
-    let P : ℕ → Type 0 = λ i. ranks_fall ranks i ys ≡ true in
-    let place : k + length (x ∷ xs) ≡ suc k + length xs = omega arith in
-    let parts = and_parts (every (λ q. nat_lt (get_or ranks q 0) (get_or ranks k 0)) (in_place x))
-    (ranks_fall ranks (suc k) xs) a in
-    and_from (every (λ q. nat_lt (get_or ranks q 0) (get_or ranks k 0)) (in_place x))
-    (ranks_fall ranks (suc k) (xs ++ ys)) parts.0 (fall-append ranks (suc k) xs ys parts.1 (subst P place b))
 
 module _ (tree_of : List ℕ → Tree) (RS : List ℕ) (L first : ℕ) (some_entry : 0 < first) where
   -- an entry whose rank lies below the nodes of an entry with the rank r
@@ -274,8 +257,9 @@ module _ (tree_of : List ℕ → Tree) (RS : List ℕ) (L first : ℕ) (some_ent
   unfolding IsBlocks
   blocks_fall rk n e [] b = refl
   blocks_fall rk n e (f ∷ fs) b =
-      fall-append RS n (form_nodes tree_of f.form n).added
+      ranks_fall-append RS n (form_nodes tree_of f.form n).added
       (all_nodes tree_of (after n (form_nodes tree_of f.form n)) fs)
+      ∙ and_from _ _
       (nodes_fall (rk e) n (after n (form_nodes tree_of f.form n)) n (form_nodes tree_of f.form n).added
       (known_ranks (rk e) n e f.form b.0) (omega arith) (omega arith) (grown (rk e) n e f.form b.0).0)
       (blocks_fall rk (after n (form_nodes tree_of f.form n)) (suc e) fs b.1)
@@ -335,10 +319,6 @@ module _ (tree_of : List ℕ → Tree) (RS : List ℕ) (L first : ℕ) (some_ent
             (omega (arith, same)) (subst N place split.1) (omega (arith, later)) (omega (arith, room, more)) few,
       )
 
-length-all : {A B : Type 0} (f : A → B) (xs : List A) → length (map f xs) ≡ length xs
-length-all f [] = refl
-length-all f (x ∷ xs) = ap suc (length-all f xs)
-
 length-both : (xs ys : List ℕ) → length (xs ++ ys) ≡ length xs + length ys
 length-both [] ys = omega arith
 length-both (x ∷ xs) ys = let rest = length-both xs ys in omega (arith, rest)
@@ -364,7 +344,7 @@ module _ (tree_of : List ℕ → Tree) where
     L = length (table_of tree_of es)
 
     as_many : length ranks ≡ length es
-    as_many = are_ranks-length (edges es) ranks are ∙ length-all (λ f. S.in_place f.form) es
+    as_many = are_ranks-length (edges es) ranks are ∙ length-map es (λ f. S.in_place f.form)
 
     falls : FallInPlace es rk
     falls = fall_in_place es ranks are
@@ -391,7 +371,7 @@ module _ (tree_of : List ℕ → Tree) where
     own_rank : (e : ℕ) → e < length es → get_or (ranks_of tree_of es ranks) e 0 ≡ entry_rank (rk e)
     unfolding ranks_of
     own_rank e l =
-        let as_ranks = length-all entry_rank ranks in
+        let as_ranks = length-map ranks entry_rank in
         let inside : e < length (map entry_rank ranks) = omega (arith, l, as_many, as_ranks) in
         get_or_append_left (map entry_rank ranks) (node_ranks tree_of (length es) es ranks) 0 e inside
         ∙ get_or-map entry_rank ranks e 0 0 (omega (arith, l, as_many))
@@ -419,7 +399,7 @@ module _ (tree_of : List ℕ → Tree) where
         let P : ℕ → Type 0 =
         λ n. RanksAt (map entry_rank ranks ++ node_ranks tree_of (length es) es ranks) n
         (node_ranks tree_of (length es) es ranks) in
-        subst P (length-all entry_rank ranks ∙ as_many)
+        subst P (length-map ranks entry_rank ∙ as_many)
         (ranks_after (map entry_rank ranks) (node_ranks tree_of (length es) es ranks))
 
     length_split : L ≡ length es + length (all_nodes tree_of (length es) es)
@@ -444,7 +424,7 @@ module _ (tree_of : List ℕ → Tree) where
     length_same =
         let a = length_split in
         let b = length-both (map entry_rank ranks) (node_ranks tree_of (length es) es ranks) in
-        let c = length-all entry_rank ranks in
+        let c = length-map ranks entry_rank in
         let d = length-node_ranks (length es) es ranks as_many in
         let e = as_many in grind (arith, a, b, c, d, e)
 
@@ -477,7 +457,8 @@ module _ (tree_of : List ℕ → Tree) where
         let P : ℕ → Type 0 = λ k. ranks_fall RS k rest ≡ true in
         let a = length-entry_positions tree_of (length es) es in
         let place : length es ≡ 0 + length heads = omega (arith, a) in
-        fall-append RS 0 heads rest (heads_fall tree_of RS L (length es) some_entry rk (length es) 0 es blocks)
+        ranks_fall-append RS 0 heads rest
+        ∙ and_from _ _ (heads_fall tree_of RS L (length es) some_entry rk (length es) 0 es blocks)
         (subst P place (blocks_fall tree_of RS L (length es) some_entry rk (length es) 0 es blocks))
 
     -- the core table of a schema is a table with these ranks

@@ -1,5 +1,5 @@
 -- A document meets the node of a value exactly where it is the value.
-use Rattle.std.proofs.Common.{◌≡◌, ℕ, ℤ, List, [], ◌∷◌, ◌++◌, length, drop, Bool, true, false, ◌&&◌, not, cond, nat_le, nat_eq, refl, ap, sym, ◌∙◌, arith}
+use Rattle.std.proofs.Common.{◌≡◌, ℕ, ℤ, List, [], ◌∷◌, ◌++◌, length, drop, Bool, true, false, ◌&&◌, not, cond, nat_le, refl, ap, ◌∙◌}
 use Rattle.std.proofs.Math.Bool.{and-true, or-false}
 use Rattle.std.proofs.lemmas.Bool.{and_parts}
 use Rattle.std.specs.Bool.{beq}
@@ -19,18 +19,7 @@ use Rattle.normal_laws.specs.Making.{all_pass, IsMeaning, AreMet, Makes}
 use Rattle.normal_laws.proofs.MakingLemmas.{makes-nothing, makes-node, makes-both, makes-above, makes-all}
 use Rattle.normal_laws.proofs.ItemTests.{item_tests, items_same}
 use Rattle.normal_laws.proofs.MemberTests.{have_all, none_other, names_of, members_same}
-
-nat_eq-swap : (a b : ℕ) → nat_eq a b ≡ nat_eq b a
-nat_eq-swap a b = by_test (nat_eq a b) refl where
-  by_test : (t : Bool) → nat_eq a b ≡ t → nat_eq a b ≡ nat_eq b a
-  by_test true e = let f : nat_eq b a ≡ true = grind (arith, e) in e ∙ sym f
-  by_test false e = let f : nat_eq b a ≡ false = grind (arith, e) in e ∙ sym f
-
-pub same_word-swap : (v w : List ℕ) → same_word v w ≡ same_word w v
-same_word-swap [] [] = refl
-same_word-swap [] (d ∷ w) = refl
-same_word-swap (c ∷ v) [] = refl
-same_word-swap (c ∷ v) (d ∷ w) = rw (nat_eq-swap c d) (rw (same_word-swap v w) refl)
+use Rattle.list_laws.proofs.Tests.{same_word_comm}
 
 truths_same : (b c : Bool) → beq b c ≡ cond b c (not c)
 truths_same true true = refl
@@ -120,7 +109,7 @@ number_passes n (object ms) = refl
 
 string_passes : (w : List ℕ) (J : Document)
     → (same_kind (kind_of J) Text && at_string (λ v. some (same_word v) (w ∷ [])) J) ≡ same_document (string w) J
-string_passes w (string v) = or-false (same_word v w) ∙ same_word-swap v w
+string_passes w (string v) = or-false (same_word v w) ∙ same_word_comm v w
 string_passes w null = refl
 string_passes w (boolean b) = refl
 string_passes w (number n) = refl

@@ -9,7 +9,7 @@ use Rattle.frames.specs.Plan.{Member, Plan, count_in, used, with_members, size, 
 use Rattle.expansions.specs.SortedMembers.{sorted}
 use Rattle.list_laws.specs.In.{IsIn}
 use Rattle.list_laws.proofs.Lists.{every_at, every_from, in_left, in_right, in_append, in_flat_map}
-use Rattle.frame_laws.proofs.Occurrences.{cells_of, times_append}
+use Rattle.frame_laws.proofs.Occurrences.{cells_of, times_append, cells_append}
 use Rattle.object_laws.proofs.SortedMembersLaws.{sorted_members, in_sorted, sorted_in}
 use Rattle.frame_laws.proofs.Arranged.{at_list}
 use Rattle.frame_laws.proofs.CompletePlans.{IsComplete}
@@ -111,10 +111,6 @@ module _ (T : List Position) (S : List Signed) (C : Cells) (laws : AreWords T C)
         let h = k.kept.capped c (length (C.words c)) (rw e refl) in
         omega (arith, l, h)
     go false e = omega (arith, ltb-false (length (C.words c)) C.bound e, few c)
-
-  cells_append : (us ws : List (ℕ × Document)) → cells_of (us ++ ws) ≡ cells_of us ++ cells_of ws
-  cells_append [] ws = refl
-  cells_append (u ∷ us) ws = ap (λ z. u.0 ∷ z) (cells_append us ws)
 
   fit : Fit C T laws [] vs
   fit c =

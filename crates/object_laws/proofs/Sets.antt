@@ -1,6 +1,6 @@
 -- An object meets the literals of a set exactly where its members are arranged as the set's frame asks.
-use Rattle.std.proofs.Common.{◌≡◌, ℕ, ◌≤◌, min, inl, inr, ⊎_elim, Bool, true, false, ◌&&◌, ◌||◌, not, List, [], ◌∷◌, flat_map, length, nat_le, Option, Some, None, refl, ap, sym, ◌∙◌, subst, arith}
-use Rattle.std.proofs.lemmas.Bool.{and_parts, or_parts, or_from, leb-true, leb-false, le-leb, lt-leb, not-true}
+use Rattle.std.proofs.Common.{◌≡◌, ℕ, ◌≤◌, inl, inr, ⊎_elim, Bool, true, false, ◌&&◌, not, List, [], ◌∷◌, flat_map, length, Option, None, refl, ap, sym, ◌∙◌, subst, arith}
+use Rattle.std.proofs.lemmas.Bool.{and_parts, or_parts, or_from, not-true}
 use Rattle.documents.specs.Tests.{every, is_scalar}
 use Rattle.documents.specs.Kind.{Object}
 use Rattle.documents.specs.Document.{Document, object, Members, no_members, member, entries, is_document, are_members, is_before}
@@ -10,7 +10,6 @@ use Rattle.position_laws.proofs.Asks.{holds-asks}
 use Rattle.goals.specs.Signed.{Signed, Plus, Minus, met, meets}
 use Rattle.goals.specs.Choices.{choices, is_wrong}
 use Rattle.frames.specs.Frame.{In, Frame, is_at_end}
-use Rattle.frames.specs.ArrayFrame.{lesser}
 use Rattle.list_laws.specs.In.{IsIn}
 use Rattle.list_laws.proofs.Lists.{every_at, every_from, from_flat_map, in_flat_map, to_filter}
 use Rattle.cells.specs.Cells.{Cells, cell_of, truth, says}
@@ -18,6 +17,7 @@ use Rattle.frames.specs.ObjectFrame.{lower_at, lower, below_at, below, plus_bars
 use Rattle.list_laws.proofs.Tests.{some_none, none_at, from_filter, in_range}
 use Rattle.cell_laws.specs.RightCells.{AreCells}
 use Rattle.object_laws.proofs.Literals.{IsPlus, IsMinus, is_plus, is_minus, from_plus, from_minus}
+use Rattle.frame_laws.proofs.Ends.{lesser_end}
 
 -- members arranged as a frame asks, with the cells of their names
 pub record AreArranged (T : List Position) (frame : Frame) (cell : List ℕ → ℕ) (es : List (List ℕ × Document)) : Type
@@ -40,18 +40,6 @@ pub lower_to : (T : List Position) (S : List Signed) (n : ℕ) → lower T S ≤
 lower_to T [] n h x i = absurd i
 lower_to T (y ∷ S) n h x (inl e) = subst (λ z. lower_at T z ≤ n) (sym e) (omega (arith, h))
 lower_to T (y ∷ S) n h x (inr i) = lower_to T S n (omega (arith, h)) x i
-
-pub lesser_end : (n : ℕ) (a b : Option ℕ) → is_at_end n (lesser a b) ≡ (is_at_end n a || is_at_end n b)
-lesser_end n None b = refl
-lesser_end n (Some k) None = go (nat_le k n) where
-  go : (t : Bool) → t ≡ (t || false)
-  go true = refl
-  go false = refl
-lesser_end n (Some k) (Some l) = go (nat_le k n) (nat_le l n) refl refl where
-  go : (a b : Bool) → nat_le k n ≡ a → nat_le l n ≡ b → nat_le (min k l) n ≡ (a || b)
-  go true b e f = let h = leb-true k n e in le-leb (min k l) n (omega (arith, h))
-  go false true e f = let h = leb-true l n f in le-leb (min k l) n (omega (arith, h))
-  go false false e f = let h = leb-false k n e in let g = leb-false l n f in lt-leb (min k l) n (omega (arith, h, g))
 
 pub below_from : (T : List Position) (S : List Signed) (n : ℕ)
     → ((x : Signed) → IsIn x S → is_at_end n (below_at T x) ≡ false)

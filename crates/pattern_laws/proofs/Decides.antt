@@ -2,7 +2,7 @@
 -- so is the test whether a word has a match. Repeats without a limit need no more copies than the word has characters,
 -- since an empty copy can be left out (`shorten`).
 use Rattle.std.proofs.lemmas.Bool.{cases_eq, cases_lt, and_parts, and_from, or_cases, or_left, or_right, ltb-true, ltb-false, lt-ltb, le-ltb, eqb-true, eq-eqb}
-use Rattle.std.proofs.Common.{zero-add, suc-add, ◌≡◌, ℕ, zero, suc, ◌+◌, ◌-◌, ◌<◌, ◌≤◌, ◌⊎◌, inl, inr, ⊎_elim, Bool, true, false, ◌&&◌, cond, not, nat_lt, nat_eq, List, [], ◌∷◌, length, slice_index, flat_map, Option, Some, None, IfSome, IsTrue, ◌↔◌, refl, sym, subst, arith}
+use Rattle.std.proofs.Common.{zero-add, suc-add, ◌≡◌, ℕ, zero, suc, ◌+◌, ◌-◌, ◌<◌, ◌≤◌, inl, inr, ⊎_elim, Bool, true, false, ◌&&◌, cond, not, nat_lt, nat_eq, List, [], ◌∷◌, length, slice_index, flat_map, Option, Some, None, IfSome, IsTrue, ◌↔◌, refl, sym, subst, arith}
 use Rattle.list_laws.specs.In.{IsIn}
 use Rattle.list_laws.proofs.Lists.{in_left, in_right, in_append, in_flat_map, from_flat_map}
 use Rattle.patterns.specs.CharSet.{has}

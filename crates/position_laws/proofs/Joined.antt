@@ -1,5 +1,5 @@
 -- Two tables joined are a table, and each position in it holds of what it held of in its own.
-use Rattle.std.proofs.Common.{◌≡◌, ℕ, zero, suc, ◌+◌, ◌<◌, ◌≤◌, Bool, true, ◌&&◌, nat_lt, List, [], ◌∷◌, ◌++◌, map, length, get_or, refl, ap, ap₂, sym, ◌∙◌, subst, arith, length-append}
+use Rattle.std.proofs.Common.{◌≡◌, ℕ, zero, suc, ◌+◌, ◌<◌, ◌≤◌, Bool, true, ◌&&◌, nat_lt, List, [], ◌∷◌, ◌++◌, map, length, get_or, refl, ap, ap₂, sym, ◌∙◌, subst, arith, length-append, map-id}
 use Rattle.std.specs.List.{AllByRecursion}
 use Rattle.std.proofs.Math.Bool.{and_assoc}
 use Rattle.std.proofs.lemmas.Bool.{and_parts, and_from, lt-ltb, eqb-true, eq-eqb}
@@ -16,15 +16,11 @@ use Rattle.position_laws.proofs.Tables.{is_table-length, is_table-below, is_tabl
 
 -- positions with other names
 
-map-itself : (qs : List ℕ) → map (λ q. q) qs ≡ qs
-map-itself [] = refl
-map-itself (q ∷ qs) = ap (λ rs. q ∷ rs) (map-itself qs)
-
 pub renamed-itself : (P : Position) → renamed (λ q. q) P ≡ P
-renamed-itself (All qs) = ap All (map-itself qs)
-renamed-itself (Any qs) = ap Any (map-itself qs)
-renamed-itself (One qs) = ap One (map-itself qs)
-renamed-itself (Items qs r) = ap (λ rs. Items rs r) (map-itself qs)
+renamed-itself (All qs) = ap All (map-id qs)
+renamed-itself (Any qs) = ap Any (map-id qs)
+renamed-itself (One qs) = ap One (map-id qs)
+renamed-itself (Items qs r) = ap (λ rs. Items rs r) (map-id qs)
 renamed-itself _ = refl
 
 pub in_place-renamed : (f : ℕ → ℕ) (P : Position) → in_place (renamed f P) ≡ map f (in_place P)
@@ -110,7 +106,7 @@ in_range-joined A B a b =
     (every-map in_range (moved (length A)) B
     ∙ every-same _ _ B (all-everywhere _ B (λ P. in_range-renamed (λ q. length A + q) P)) ∙ b)
 
-ranks_fall-append : (ranks : List ℕ) (k : ℕ) (xs ys : List Position)
+pub ranks_fall-append : (ranks : List ℕ) (k : ℕ) (xs ys : List Position)
     → ranks_fall ranks k (xs ++ ys) ≡ (ranks_fall ranks k xs && ranks_fall ranks (k + length xs) ys)
 ranks_fall-append ranks k [] ys =
     let same : k ≡ k + 0 = omega arith in

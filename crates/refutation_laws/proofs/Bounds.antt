@@ -1,6 +1,6 @@
 -- The lines of bounds of cells are right where the cell's words aren't cut, and state the bounds of its words.
 use Rattle.std.proofs.Common.{◌≡◌, ℕ, zero, suc, ◌+◌, ◌-◌, ◌*◌, ◌<◌, ◌≤◌, ◌⊎◌, min, inl, inr, Bool, true, false, cond, List, [], ◌∷◌, ◌++◌, map, filter, length, get_or, nat_eq, nat_lt, Some, None, is_some, Ok, refl, ap, ap₂, sym, ◌∙◌, subst, arith}
-use Rattle.std.proofs.lemmas.Bool.{and_from, lt-ltb, le-leb, ltb-true, eq-eqb, eqb-true}
+use Rattle.std.proofs.lemmas.Bool.{and_from, lt-ltb, le-leb, ltb-true, eq-eqb, eqb-true, false≢true}
 use Rattle.std.proofs.lemmas.List.{length-map, get_or-map}
 use Rattle.std.specs.List.{range_with_len}
 use Rattle.word_states.specs.Atom.{Atom}
@@ -11,7 +11,7 @@ use Rattle.word_laws.proofs.States.{same_laws}
 use Rattle.positions.specs.Position.{Position}
 use Rattle.goals.specs.Signed.{Signed}
 use Rattle.list_laws.specs.In.{IsIn}
-use Rattle.list_laws.proofs.Tests.{from_filter, from_range}
+use Rattle.list_laws.proofs.Tests.{from_filter, from_range, every_below}
 use Rattle.list_laws.proofs.Lists.{to_filter}
 use Rattle.cells.specs.Cells.{Cells, naming, vector, place, cells}
 use Rattle.cell_laws.specs.Counting.{sum_to, asked_by}
@@ -34,11 +34,13 @@ use Rattle.verdicts.specs.RowLines.{Table, and_then, if_so, stated}
 use Rattle.verdicts.specs.Bounds.{Bound, bounds_of, width_of, has_row, keeps, is_right}
 use Rattle.verdicts.specs.Leaves.{comes_after, stated_frame}
 use Rattle.verdicts.specs.Duties.{Duty, OfBounds, OfObjects, plan_duty, next_bounds, after, run}
-use Rattle.verdict_laws.proofs.SameNames.{vector_same}
 use Rattle.refutations.specs.ObjectLines.{capped, label_of, cap_line}
-use Rattle.refutation_laws.proofs.Lists.{every_below}
 use Rattle.refutation_laws.proofs.Rows.{whole_table}
-use Rattle.refutation_laws.proofs.Strings.{some_rows, first_word, stated_is}
+use Rattle.refutation_laws.proofs.Strings.{some_rows, stated_is}
+use Rattle.list_laws.proofs.Numbers.{suc-sub_one, min-right}
+use Rattle.std.proofs.Math.Numerals.{suc-eq-add-one}
+use Rattle.word_laws.proofs.RowLaws.{row_zero}
+use Rattle.finder_laws.proofs.Names.{vector_same}
 
 sums_same : (n : ℕ) (f g : ℕ → ℕ) → ((k : ℕ) → f k ≡ g k) → sum_to n f ≡ sum_to n g
 sums_same zero f g h = refl
@@ -63,7 +65,7 @@ module _ (T : List Position) (S : List Signed) (L : List (List ℕ)) (rows : Are
   is_in c w = nat_eq (place (vector T (naming T S) w) Found.vectors) c
 
   is_in_shared : (c : ℕ) (v w : List ℕ) → have_same_state (atoms_of_names T S) v w ≡ true → is_in c v ≡ is_in c w
-  is_in_shared c v w e = ap (λ z. nat_eq (place z Found.vectors) c) (vector_same v w T S e)
+  is_in_shared c v w e = ap (λ z. nat_eq (place z Found.vectors) c) (vector_same T S v w e)
 
   enough : length L * most_words ≤ far
   unfolding far
@@ -95,7 +97,7 @@ module _ (T : List Position) (S : List Signed) (L : List (List ℕ)) (rows : Are
   pub first_label : (c : ℕ) → label c 0 ≡ min most_words (length (Found.words c))
   first_label c =
       get_or-map (label_of T Found c) L 0 [] 0 (some_rows (atoms_of_names T S) L rows)
-      ∙ ap (label_of T Found c) (first_word (atoms_of_names T S) L rows)
+      ∙ ap (label_of T Found c) (row_zero (atoms_of_names T S) L rows)
 
   module _ (c : ℕ) (low : length (Found.words c) < most_words) where
     asked_equal : (r : ℕ) → r < length L
@@ -157,10 +159,7 @@ module _ (T : List Position) (S : List Signed) (L : List (List ℕ)) (rows : Are
       ap (λ b. if_so wrong_bound b (next_bounds T S Stated (suc n - 1) ((c, labels c) ∷ bs) ∷ []))
       (and_from (nat_lt c (length Found.vectors)) _ (lt-ltb c (length Found.vectors) v)
       (and_from (comes_after bs c) _ (under_after m c bs u l) (labels_right c w)))
-      ∙ ap (λ k. Ok (next_bounds T S Stated k ((c, labels c) ∷ bs) ∷ [])) (one_less n)
-    where
-      one_less : (n : ℕ) → suc n - 1 ≡ n
-      one_less n = omega arith
+      ∙ ap (λ k. Ok (next_bounds T S Stated k ((c, labels c) ∷ bs) ∷ [])) (suc-sub_one n)
 
   pub bounds_done : (cite : ℕ → List Signed → Bool) (m : ℕ) (cs : List ℕ) (bs : List Bound) → RisesFrom m cs
       → IsUnder m bs
@@ -203,9 +202,7 @@ module _ (T : List Position) (S : List Signed) (L : List (List ℕ)) (rows : Are
   rises_range : (a n : ℕ) → RisesFrom a (range_with_len a n)
   rises_range a zero = tt
   rises_range a (suc n) =
-      (omega arith, subst (λ b. RisesFrom (suc a) (range_with_len b n)) (next a) (rises_range (suc a) n)) where
-        next : (a : ℕ) → suc a ≡ a + 1
-        next a = omega arith
+      (omega arith, subst (λ b. RisesFrom (suc a) (range_with_len b n)) (suc-eq-add-one a) (rises_range (suc a) n))
 
   rises_more : (m n : ℕ) (cs : List ℕ) → m ≤ n → RisesFrom n cs → RisesFrom m cs
   rises_more m n [] l r = tt
@@ -246,19 +243,14 @@ module _ (T : List Position) (S : List Signed) (L : List (List ℕ)) (rows : Are
     some_in : is_some (Own.cap c) ≡ true → IsIn c (capped Own)
     some_in e = to_filter (λ c. is_some (Own.cap c)) c Own.cells i e
 
-    small : (b x : ℕ) → x < b → min b x ≡ x
-    small b x l = grind (arith, l)
-
     go : (b : Bool) → nat_lt (length (Found.words c)) most_words ≡ b
         → bounds_of (stack (capped Own) []) c ≡ cond b (Some (length (Found.words c))) None
     go true e =
         stack_has (capped Own) [] c
         (inr (some_in (ap (λ b. is_some (cond b (Some (length (Found.words c))) None)) e)))
-        ∙ ap Some (first_label c ∙ small most_words (length (Found.words c))
+        ∙ ap Some (first_label c ∙ min-right most_words (length (Found.words c))
         (ltb-true (length (Found.words c)) most_words e))
     go false e =
         stack_lacks (capped Own) [] c refl (λ j.
         let (a, s) = from_filter (λ c. is_some (Own.cap c)) c Own.cells j in
-        none (ap (λ b. is_some (cond b (Some (length (Found.words c))) None)) (sym e) ∙ s)) where
-          none : false ≡ true → ⊥
-          none p = cc
+        false≢true (ap (λ b. is_some (cond b (Some (length (Found.words c))) None)) (sym e) ∙ s))

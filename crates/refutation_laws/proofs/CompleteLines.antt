@@ -1,5 +1,5 @@
 -- A complete plan whose alternative isn't met is shown dead by its line.
-use Rattle.std.proofs.Common.{◌≡◌, ℕ, zero, suc, ◌+◌, ◌-◌, ◌<◌, ◌≤◌, Bool, true, false, ◌&&◌, cond, List, [], ◌∷◌, ◌++◌, map, flat_map, nat_eq, nat_le, nat_lt, Option, Some, None, Ok, slice_get, refl, ap, sym, ◌∙◌, arith}
+use Rattle.std.proofs.Common.{◌≡◌, ℕ, zero, suc, ◌+◌, ◌-◌, ◌<◌, ◌≤◌, Bool, true, false, ◌&&◌, cond, List, [], ◌∷◌, ◌++◌, map, flat_map, nat_eq, nat_le, nat_lt, Option, Some, None, Ok, slice_get, refl, ap, sym, ◌∙◌, arith, zero-add}
 use Rattle.std.proofs.lemmas.Bool.{and_from, leb-false, lt-ltb, ltb-false, eqb-true}
 use Rattle.std.specs.Option.{is_none}
 use Rattle.documents.specs.Tests.{every}
@@ -16,6 +16,7 @@ use Rattle.verdicts.specs.Rules.{not_refuted}
 use Rattle.verdicts.specs.RowLines.{if_so}
 use Rattle.verdicts.specs.Duties.{Form, OfArrays, OfObjects, ending, entry, heads_placed, plan_line}
 use Rattle.refutations.specs.PlanTreeLines.{at_line, number_of, kept_unless, filler_entry, entry_at, cited_or, first_cited, complete_line}
+use Rattle.list_laws.proofs.Numbers.{suc_add-add_suc}
 
 -- the line of a place is the plan's line of that place
 pub at_is : (form : Form) (frame : Frame) (p : Plan) (k : ℕ) (e : L.Ending)
@@ -169,10 +170,8 @@ module _ (form : Form) (T : List Position) (frame : Frame) (cite : ℕ → List 
     by_placed i [] last at clear more = more refl
     by_placed i (s ∷ ss) last at clear more =
         go (goal_of T frame s) refl clear more
-        (λ c m. by_placed (suc i) ss last (λ j. ap (slice_get (placed frame q)) (shift i j) ∙ at (suc j)) c m) where
-          shift : (i j : ℕ) → suc i + j ≡ i + suc j
-          shift i j = omega arith
-
+        (λ c m. by_placed (suc i) ss last
+        (λ j. ap (slice_get (placed frame q)) (suc_add-add_suc i j) ∙ at (suc j)) c m) where
           here : (g : List Signed) (k : ℕ) → goal_of T frame s ≡ Some g → number g ≡ Some k
               → Shows form T frame cite q [] (at_line form frame q i (L.Cites k))
           here g k f h =
@@ -203,12 +202,9 @@ module _ (form : Form) (T : List Position) (frame : Frame) (cite : ℕ → List 
         → Shows form T frame cite q [] (complete_line number form T frame q)
     complete_shows clear unmet =
         by_placed 0 (placed frame q) (L.Short (map (entry_at number T frame q) frame.cells))
-        (λ j. ap (slice_get (placed frame q)) (none j)) clear
+        (λ j. ap (slice_get (placed frame q)) (zero-add j)) clear
         (λ all. short_shows (less (every (passes met) (goals T frame q))
         (nat_le (need frame q) (rooms_of met (fillers T frame q))) refl all unmet)) where
-          none : (j : ℕ) → 0 + j ≡ j
-          none j = omega arith
-
           less : (a b : Bool) → nat_le (need frame q) (rooms_of met (fillers T frame q)) ≡ b → a ≡ true
               → (a && b) ≡ false
               → rooms_of met (fillers T frame q) < need frame q

@@ -1,17 +1,17 @@
 -- The lines of a goal without hole are in the grammar, where the table has no more positions than numbers are written.
-use Rattle.std.proofs.Common.{◌≡◌, ℕ, suc, ◌+◌, ◌<◌, ◌≤◌, inl, inr, true, nat_lt, List, [], ◌∷◌, ◌++◌, flat_map, length, Option, Some, None, IfSome, refl, ap, sym, ◌∙◌, subst, arith}
-use Rattle.std.proofs.lemmas.Bool.{and_from, and_parts, ltb-true, lt-ltb, leb-true, cases_eq, true≢false}
+use Rattle.std.proofs.Common.{◌≡◌, ℕ, suc, ◌+◌, ◌<◌, ◌≤◌, inl, inr, true, nat_lt, List, [], ◌∷◌, ◌++◌, flat_map, length, Option, Some, None, IfSome, refl, sym, ◌∙◌, subst, arith}
+use Rattle.std.proofs.lemmas.Bool.{and_from, and_parts, ltb-true, lt-ltb, true≢false}
 use Rattle.std.specs.List.{AllByRecursion}
 use Rattle.documents.specs.Kind.{Kind, all_kinds}
 use Rattle.documents.specs.Tests.{every}
 use Rattle.positions.specs.Position.{Position}
 use Rattle.positions.specs.Holds.{IsTable}
 use Rattle.position_laws.proofs.Lists.{all-weaker, all-every}
-use Rattle.goals.specs.Signed.{Signed, Plus, Minus, position_of, opposite, has, comes_before, is_rising, add_all}
+use Rattle.goals.specs.Signed.{Signed, Plus, position_of, opposite, has, comes_before, is_rising, add_all}
 use Rattle.goals.specs.Choices.{choices}
 use Rattle.goals.specs.Tree.{Step, Clash, Wrong, Rule, Saturated, steps_from, steps, branches}
 use Rattle.goal_laws.specs.Saturated.{IsSaturated}
-use Rattle.goal_laws.proofs.Signs.{every-has, every-add_all, is_rising-add_all}
+use Rattle.goal_laws.proofs.Signs.{every-has, every-add_all, is_rising-add_all, comes_before-lt}
 use Rattle.goal_laws.proofs.Rules.{AreNames, choices-names}
 use Rattle.goal_laws.proofs.Steps.{Told, EachChoice, steps-induction}
 use Rattle.goal_laws.proofs.Branches.{branches-flat_map, IsBranch, branches-are}
@@ -32,21 +32,6 @@ use Rattle.refutation_laws.proofs.FittingLeaves.{leaf_fits}
 
 -- a rising set without a clash has no more literals than there are positions
 
-low_first : (x y : Signed) → comes_before x y ≡ true → position_of x ≤ position_of y
-low_first (Plus p) (Plus q) e = omega (arith, ltb-true p q e)
-low_first (Plus p) (Minus q) e = leb-true p q e
-low_first (Minus p) (Plus q) e = omega (arith, ltb-true p q e)
-low_first (Minus p) (Minus q) e = omega (arith, ltb-true p q e)
-
-past_first : (x y : Signed) → comes_before x y ≡ true → (opposite x ≡ y → ⊥) → position_of x < position_of y
-past_first (Plus p) (Plus q) e h = ltb-true p q e
-past_first (Plus p) (Minus q) e h = elim (cases_eq p q) [
-  | inl s ↦ absurd (h (ap Minus s))
-  | inr s ↦ omega (arith, s, leb-true p q e)
-]
-past_first (Minus p) (Plus q) e h = ltb-true p q e
-past_first (Minus p) (Minus q) e h = ltb-true p q e
-
 few_literals : (n k : ℕ) (S : List Signed) → is_rising S ≡ true
     → ((x : Signed) → IsIn x S → IsIn (opposite x) S → ⊥)
     → ((x : Signed) → IsIn x S → (k ≤ position_of x) × (position_of x < n)) → k ≤ n → length S + k ≤ n
@@ -55,7 +40,7 @@ few_literals n k (x ∷ S) r c h l =
     let (first, rest) = and_parts (every (comes_before x) S) (is_rising S) r in
     let (a, b) = h x (inl refl) in
     let m = few_literals n (suc (position_of x)) S rest (λ y i j. c y (inr i) (inr j)) (λ y i.
-    let p = past_first x y (every_at (comes_before x) y S first i)
+    let p = comes_before-lt x y (every_at (comes_before x) y S first i)
     (λ e. c x (inl refl) (inr (subst (λ z. IsIn z S) (sym e) i))) in
     (omega (arith, p), (h y (inr i)).1)) (omega (arith, b)) in
     omega (arith, m, a)

@@ -1,6 +1,6 @@
 -- The lines of a set at a kind are in the grammar, where its leaf passes no limit.
 use Rattle.std.proofs.Common.{◌≡◌, ℕ, zero, suc, ◌+◌, ◌<◌, ◌≤◌, min, inl, inr, ⊎_elim, Bool, true, false, not, cond, if◌then◌else◌, nat_le, nat_lt, List, [], ◌∷◌, ◌++◌, map, filter, length, get_or, Option, Some, None, is_some, Result, Ok, Err, refl, ap, sym, ◌∙◌, subst, arith, length-append}
-use Rattle.std.proofs.lemmas.Bool.{and_parts, leb-true, ltb-true}
+use Rattle.std.proofs.lemmas.Bool.{and_parts, leb-true, ltb-true, both_ways}
 use Rattle.std.proofs.lemmas.List.{length-map}
 use Rattle.std.specs.List.{list_any, position_or_len, range_with_len}
 use Rattle.documents.specs.Kind as K
@@ -51,6 +51,7 @@ use Rattle.refutations.specs.Expansions.{finders_of}
 use Rattle.refutation_laws.proofs.Strings.{within}
 use Rattle.refutation_laws.proofs.Texts.{strings_fits, row_fits, least_fits, objects_fits, cap_fits}
 use Rattle.refutation_laws.proofs.FittingPlans.{AllFit, fit_none, fit_more, fit_both, fit_map, IsLow, plans_fit, empty_size}
+use Rattle.std.proofs.lemmas.List.FromFn.{length-range_with_len}
 
 -- lengths
 
@@ -82,10 +83,6 @@ mentions_low same xs (y ∷ ys) =
     let b = mentions_low same (mention same xs y) ys in
     omega (arith, a, b)
 
-range_long : (a n : ℕ) → length (range_with_len a n) ≡ n
-range_long a zero = refl
-range_long a (suc n) = ap suc (range_long (a + 1) n)
-
 cut_low : (t n : ℕ) → t ≡ min 65537 n → t < 100000
 cut_low t n e = grind (arith, e)
 
@@ -109,7 +106,7 @@ vectors_low T xs L l =
 allowed_low : (p : ℕ → Bool) (n : ℕ) → n ≤ 65536 → length (filter p (range_with_len 0 n)) ≤ 65536
 allowed_low p n l =
     let a = filter_low p (range_with_len 0 n) in
-    let b = range_long 0 n in
+    let b = length-range_with_len 0 n in
     omega (arith, a, b, l)
 
 allowed_below : (p : ℕ → Bool) (n c : ℕ) → n ≤ 65536 → IsIn c (filter p (range_with_len 0 n)) → c < 65536
@@ -272,9 +269,6 @@ module _ (rename : ℕ → ℕ) (low : (k : ℕ) → rename k < 100000) where
     bounded_fit true ls h = fit_more rename low C.Count [] (refl, refl) (fit_none rename low)
     bounded_fit false ls h = h refl
 
-    end_not : (b : Bool) → b ≡ true → b ≡ false → ⊥
-    end_not b e f = cc
-
     found : {A : Type 0} (t : Kind) (shape : A → Shape) (k : ℕ) (r : Result (Option A) LimitKind)
         (more : List Alternative) → scalar_leaf t shape k r ≡ Ok more → (o : Option A) × (r ≡ Ok o)
     found t shape k (Ok o) more e = (o, refl)
@@ -284,7 +278,7 @@ module _ (rename : ℕ → ℕ) (low : (k : ℕ) → rename k < 100000) where
         → is_at_end (A.lower T S) (A.below T S) ≡ false
         → All (C.Arrays ∷ plan_lines number OfArrays T (array_frame T S))
     arrays_leaf k more e free = ⊎_elim
-        (λ (x, y). absurd (end_not (is_at_end (A.lower T S) (A.below T S)) x free))
+        (λ (x, y). absurd (both_ways (is_at_end (A.lower T S) (A.below T S)) free x))
         (λ (x, o).
         let q = ok_same (array_frame T S) o.frame (Ok (array_frame T S)) refl o.is_frame in
         arrays_fit o.counted (subst (λ f. ends (plan_steps T f) ≤ 65536) (sym q) o.planned))
@@ -293,7 +287,7 @@ module _ (rename : ℕ → ℕ) (low : (k : ℕ) → rename k < 100000) where
     objects_leaf : (k : ℕ) (more : List Alternative) → leaf (finders_of T) T K.Object k S ≡ Ok more
         → is_at_end (O.lower T S) (O.below T S) ≡ false → All (object_lines number T S)
     objects_leaf k more e free = ⊎_elim
-        (λ (x, y). absurd (end_not (is_at_end (O.lower T S) (O.below T S)) x free))
+        (λ (x, y). absurd (both_ways (is_at_end (O.lower T S) (O.below T S)) free x))
         (λ (x, o).
         go o.frame o.planned (limit_passed characters most_states (atoms_of_names T S)) refl o.is_frame)
         (leaf_is (plan_alternative by_name K.Object k T) T (O.lower T S) (O.below T S)

@@ -1,5 +1,5 @@
 -- The lines of plans are in the grammar, where the tree of plans passes no limit.
-use Rattle.std.proofs.Common.{◌≡◌, ℕ, zero, suc, ◌+◌, ◌-◌, ◌<◌, ◌≤◌, inl, inr, ⊎_elim, Bool, true, false, ◌&&◌, cond, nat_lt, List, [], ◌∷◌, ◌++◌, map, filter, flat_map, length, take, replicate, Option, Some, None, refl, ap, sym, ◌∙◌, subst, arith, length-append}
+use Rattle.std.proofs.Common.{◌≡◌, ℕ, zero, suc, ◌+◌, ◌-◌, ◌<◌, ◌≤◌, inl, inr, ⊎_elim, Bool, true, false, ◌&&◌, cond, nat_lt, List, [], ◌∷◌, ◌++◌, map, filter, flat_map, length, take, Option, Some, None, refl, ap, sym, ◌∙◌, subst, arith, length-append}
 use Rattle.std.proofs.Math.ListN.{length-replicate, length-take}
 use Rattle.std.proofs.lemmas.Bool.{ltb-true, ltb-false}
 use Rattle.std.proofs.lemmas.List.{length-map}
@@ -8,7 +8,7 @@ use Rattle.std.specs.List.{range_with_len}
 use Rattle.positions.specs.Position.{Position}
 use Rattle.goals.specs.Signed.{Signed}
 use Rattle.frames.specs.Frame.{Place, In, Frame, is_at_end}
-use Rattle.frames.specs.Plan.{Plan, Member, plan, member, empty_plan, serve_head, serve_member, servers, options, has_room, one_more, used, heads_from, size, placed, goal_of, clash_from, first_clash, PlanStep, Split, steps, ends, plan_steps}
+use Rattle.frames.specs.Plan.{Plan, Member, plan, member, empty_plan, serve_head, serve_member, servers, options, has_room, heads_from, size, placed, goal_of, clash_from, first_clash, PlanStep, Split, steps, ends, plan_steps}
 use Rattle.frame_laws.proofs.FewMembers.{ends_append, unless_same, some_end}
 use Rattle.list_laws.specs.In.{IsIn}
 use Rattle.list_laws.proofs.Lists.{in_append, from_map, from_flat_map}
@@ -17,12 +17,10 @@ use Rattle.certificate_lines.specs.Line.{Line, Ending}
 use Rattle.verdicts.specs.Duties.{Form, OfArrays, OfObjects, heads_placed}
 use Rattle.refutations.specs.PlanTreeLines.{at_line, number_of, entry_at, cited_or, first_cited, complete_line, unless_clash, unless_over, lines_from, plan_lines}
 use Rattle.refutation_laws.proofs.Texts.{Fits, short_fits, member_fits, index_fits, tail_fits}
+use Rattle.std.proofs.lemmas.List.FromFn.{length-range_with_len}
+use Rattle.frame_laws.proofs.Lengths.{length-serve_head, length-serve_member, length-heads_from, none_used}
 
 -- lengths
-
-heads_length : (k : ℕ) (hs : List (List Signed)) → length (heads_from k hs) ≡ length hs
-heads_length k [] = refl
-heads_length k (h ∷ hs) = ap suc (heads_length (suc k) hs)
 
 placed_length : (frame : Frame) (p : Plan)
     → length (placed frame p) ≡ heads_placed frame p + length p.members
@@ -30,30 +28,9 @@ placed_length frame p =
     let a = length-append (take (size frame p) (heads_from 0 p.heads))
     (map (λ (m : Member). (In m.cell, m.served)) p.members) in
     let b = length-take (size frame p) (heads_from 0 p.heads) in
-    let c = heads_length 0 p.heads in
+    let c = length-heads_from 0 p.heads in
     let d = length-map {B = Place × List Signed} p.members (λ m. (In m.cell, m.served)) in
     omega (arith, a, b, c, d)
-
-serve_head_length : (d : Signed) (hs : List (List Signed)) (k : ℕ) → length (serve_head d hs k) ≡ length hs
-serve_head_length d [] k = refl
-serve_head_length d (h ∷ hs) zero = refl
-serve_head_length d (h ∷ hs) (suc k) = ap suc (serve_head_length d hs k)
-
-serve_member_length : (d : Signed) (ms : List Member) (k : ℕ) → length (serve_member d ms k) ≡ length ms
-serve_member_length d [] k = refl
-serve_member_length d (m ∷ ms) zero = refl
-serve_member_length d (m ∷ ms) (suc k) = ap suc (serve_member_length d ms k)
-
-none_used : (n : ℕ) → used (replicate n []) ≡ 0
-none_used zero = refl
-none_used (suc n) = go (used (replicate n [])) (none_used n) where
-  go : (k : ℕ) → k ≡ 0 → one_more [] k ≡ 0
-  go zero e = refl
-  go (suc k) e = absurd (omega (arith, e))
-
-range_length : (a n : ℕ) → length (range_with_len a n) ≡ n
-range_length a zero = refl
-range_length a (suc n) = ap suc (range_length (a + 1) n)
 
 -- what an option has
 record IsOption (p q : Plan) : Type 0 where
@@ -65,12 +42,12 @@ option_is frame d p q i = ⊎_elim
     (λ a. ⊎_elim
     (λ h. let (n, j, e) =
     from_map (λ n. plan (serve_head d p.heads n) p.members) q (range_with_len 0 (length p.heads)) h in
-    subst (IsOption p) (sym e) (record { heads = serve_head_length d p.heads n; members = omega arith }))
+    subst (IsOption p) (sym e) (record { heads = length-serve_head d p.heads n; members = omega arith }))
     (λ m. let (n, j, e) =
     from_map (λ n. plan p.heads (serve_member d p.members n)) q (servers frame d 0 p.members) m in
     subst (IsOption p) (sym e) (record {
       heads = refl;
-      members = let l = serve_member_length d p.members n in omega (arith, l);
+      members = let l = length-serve_member d p.members n in omega (arith, l);
     }))
     (in_append q (map (λ n. plan (serve_head d p.heads n) p.members) (range_with_len 0 (length p.heads)))
     (map (λ n. plan p.heads (serve_member d p.members n)) (servers frame d 0 p.members)) a))
@@ -95,7 +72,7 @@ head_options frame d p =
     let C = map (λ c. plan p.heads (p.members ++ member c (d ∷ []) ∷ []))
     (filter (λ c. frame.inside d c && has_room frame p.members c) frame.cells) in
     let a = length-map (range_with_len 0 (length p.heads)) (λ n. plan (serve_head d p.heads n) p.members) in
-    let b = range_length 0 (length p.heads) in
+    let b = length-range_with_len 0 (length p.heads) in
     let c = length-append (A ++ B) C in
     let e = length-append A B in
     omega (arith, a, b, c, e)

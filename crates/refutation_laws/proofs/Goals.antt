@@ -1,7 +1,7 @@
 -- The lines of a goal without hole, of which no alternative is met, do the duties of its trees.
-use Rattle.std.proofs.Common.{◌≡◌, ℕ, inl, Bool, true, false, not, cond, ◌||◌, List, [], ◌∷◌, ◌++◌, map, filter, Option, Some, None, Result, Ok, Err, refl, ap, sym, subst}
+use Rattle.std.proofs.Common.{◌≡◌, ℕ, inl, Bool, true, false, not, cond, ◌||◌, List, [], ◌∷◌, ◌++◌, map, filter, Option, Some, None, Result, Ok, Err, refl, ap, sym, subst, true≢false}
 use Rattle.documents.specs.Kind as K
-use Rattle.documents.specs.Kind.{Kind, all_kinds, same_kind}
+use Rattle.documents.specs.Kind.{Kind, all_kinds}
 use Rattle.documents.specs.Tests.{every, some}
 use Rattle.positions.specs.Position.{Position}
 use Rattle.positions.specs.Holds.{IsTable}
@@ -39,14 +39,7 @@ use Rattle.refutation_laws.proofs.Trees.{tree_does}
 use Rattle.refutation_laws.proofs.Strings.{strings_do}
 use Rattle.refutation_laws.proofs.PlanLeaves.{arrays_do}
 use Rattle.refutation_laws.proofs.Objects.{objects_do}
-
-same_itself : (t : Kind) → same_kind t t ≡ true
-same_itself K.Null = refl
-same_itself K.Boolean = refl
-same_itself K.Number = refl
-same_itself K.Text = refl
-same_itself K.Array = refl
-same_itself K.Object = refl
+use Rattle.position_laws.proofs.SameKind.{same_kind-refl}
 
 none_some : {A : Type 0} (p : A → Bool) (xs : List A) → filter p xs ≡ [] → some p xs ≡ false
 none_some p [] e = refl
@@ -64,9 +57,7 @@ module _ (number : List Signed → Option ℕ) where
   -- a scalar is always met
   no_scalar : (t : Kind) (k : ℕ) (shape : Shape) (all : List Alternative) → AreUnmet all
       → IsIn (scalar t k shape) all → ⊥
-  no_scalar t k shape all h i = absurd (differ (h (scalar t k shape) i)) where
-    differ : true ≡ false → ⊥
-    differ e = cc
+  no_scalar t k shape all h i = absurd (true≢false (h (scalar t k shape) i))
 
   no_scalars : {A : Type 0} (t : Kind) (k : ℕ) (shape : A → Shape) (xs : List A)
       → AreUnmet (scalars t shape k xs) → xs ≡ []
@@ -132,7 +123,7 @@ module _ (T : List Position) (ok : IsTable T) (cite : ℕ → List Signed → Bo
   kind_does g hole unmet t =
       line_does T cite (AtKind t g) (L.At t) (OfSet t g ∷ [])
       (tree_lines (leaf_lines number T t) (steps T t g))
-      (ap (λ b. if_so other_kind b (OfSet t g ∷ [])) (same_itself t))
+      (ap (λ b. if_so other_kind b (OfSet t g ∷ [])) (same_kind-refl t))
       (one_left T cite (OfSet t g) (tree_lines (leaf_lines number T t) (steps T t g))
       (tree_does T ok t cite (leaf_lines number T t) g (λ B i.
       let (k, (more, e, up)) = expansion_has T (leaf (finders_of T) T) g hole t B i in

@@ -4,7 +4,6 @@ pub mod PlanTrees
 pub mod PlanSteps
 pub mod Trees
 pub mod Rows
-pub mod Lists
 pub mod Strings
 pub mod PlanLeaves
 pub mod Bounds

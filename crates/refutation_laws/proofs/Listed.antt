@@ -7,11 +7,10 @@ use Rattle.std.specs.Cmp.{nat_eq_equiv}
 use Rattle.word_states.specs.Mention.{mention, mention_all}
 use Rattle.word_laws.proofs.Mentions as M
 use Rattle.list_laws.specs.In.{IsIn, Distinct}
-use Rattle.list_laws.proofs.Lists.{in_left, in_get}
+use Rattle.list_laws.proofs.Lists.{in_left, in_get, in_at}
 use Rattle.list_laws.proofs.Pigeons.{pigeon}
 use Rattle.cell_laws.proofs.Lists.{distinct_append}
 use Rattle.finders.specs.RowsFound.{grow}
-use Rattle.refutation_laws.proofs.Lists.{in_at}
 
 in_has : (j : ℕ) (L : List ℕ) → list_any (nat_eq j) L ≡ true → IsIn j L
 in_has j L h =

@@ -1,6 +1,6 @@
 -- Listing, step by step: where each listed number was gone through the listing is whole, and the places of what is
 -- listed stay as more is listed, so that an entry may be written before all are listed.
-use Rattle.std.proofs.Common.{◌≡◌, ℕ, zero, suc, ◌+◌, ◌≤◌, inl, inr, Bool, true, false, not, cond, nat_eq, nat_lt, List, [], ◌∷◌, ◌++◌, map, flat_map, length, get_or, refl, ap, ap₂, sym, ◌∙◌, append-nil, append_assoc, arith}
+use Rattle.std.proofs.Common.{◌≡◌, ℕ, zero, suc, ◌+◌, ◌≤◌, inl, inr, Bool, true, false, not, cond, nat_eq, nat_lt, List, [], ◌∷◌, ◌++◌, map, flat_map, length, get_or, refl, ap, ap₂, sym, ◌∙◌, append-nil, append_assoc, arith, zero-add, suc-add, add-zero}
 use Rattle.std.proofs.lemmas.Bool.{le-ltb, eq-eqb}
 use Rattle.word_states.specs.Mention.{mention_all}
 use Rattle.goals.specs.Signed.{Signed}
@@ -14,15 +14,10 @@ use Rattle.refutations.specs.Listing.{cited_by_ending, cited_by_entry, cited_by,
 -- nothing is listed once all that is listed was gone through
 pub grown_stays : (extend : ℕ → List ℕ) (k i : ℕ) → length (grow nat_eq extend 0 i) ≤ i
     → grow nat_eq extend 0 (k + i) ≡ grow nat_eq extend 0 i
-grown_stays extend zero i l = ap (grow nat_eq extend 0) (plus i) where
-  plus : (i : ℕ) → 0 + i ≡ i
-  plus i = omega arith
+grown_stays extend zero i l = ap (grow nat_eq extend 0) (zero-add i)
 grown_stays extend (suc k) i l =
-    ap (grow nat_eq extend 0) (plus k i)
+    ap (grow nat_eq extend 0) (suc-add k i)
     ∙ step (grow nat_eq extend 0 (k + i)) (grown_stays extend k i l) where
-      plus : (k i : ℕ) → suc k + i ≡ suc (k + i)
-      plus k i = omega arith
-
       step : (G : List ℕ) → G ≡ grow nat_eq extend 0 i
           → cond (nat_lt (k + i) (length G)) (mention_all nat_eq G (extend (get_or G (k + i) 0))) G
           ≡ grow nat_eq extend 0 i
@@ -91,9 +86,7 @@ pub entries_end : (goals : List (List Signed)) (lines : List Signed → List Lin
     ≡ entries goals lines place i ks
     ++ L.Entry (i + length ks) ∷ map (renamed place) (lines (goal_at goals lines k))
 entries_end goals lines place i [] k =
-    ap₂ (λ n ls. L.Entry n ∷ ls) (plus i) (append-nil (map (renamed place) (lines (goal_at goals lines k)))) where
-      plus : (i : ℕ) → i ≡ i + 0
-      plus i = omega arith
+    ap₂ (λ n ls. L.Entry n ∷ ls) (sym (add-zero i)) (append-nil (map (renamed place) (lines (goal_at goals lines k))))
 entries_end goals lines place i (j ∷ ks) k =
     ap (λ z. L.Entry i ∷ z)
     (ap (λ z. map (renamed place) (lines (goal_at goals lines j)) ++ z)

@@ -1,6 +1,6 @@
 -- A set at objects of which no alternative is met is refuted by its rows, the bounds of its cells and its plans.
 use Rattle.std.proofs.Common.{◌≡◌, ℕ, ◌+◌, ◌-◌, ◌<◌, ◌≤◌, min, ⊎_elim, Bool, true, false, cond, List, [], ◌∷◌, ◌++◌, map, length, nat_lt, Option, Some, None, Ok, refl, ap, sym, ◌∙◌, subst, append_assoc, arith}
-use Rattle.std.proofs.lemmas.Bool.{and_from, lt-ltb, ltb-true, ltb-false}
+use Rattle.std.proofs.lemmas.Bool.{and_from, lt-ltb, ltb-true, ltb-false, both_ways}
 use Rattle.documents.specs.Kind as K
 use Rattle.word_states.specs.Classes.{characters}
 use Rattle.word_states.specs.Rows.{AreRows}
@@ -120,9 +120,6 @@ module _ (T : List Position) (S : List Signed) (cite : ℕ → List Signed → B
         (result_map {C = LimitKind} (λ D. object_frame T D S) (Ok (cells_at T S))) refl e in
         (p, subst (λ f. more ≡ map (make k f) (complete (plan_steps T f))) (sym q) o.is)
 
-  end_not : (b : Bool) → b ≡ true → b ≡ false → ⊥
-  end_not b e f = cc
-
   -- the lines of a set at objects do its duty, where no alternative of its leaf is met
   pub objects_do : (k : ℕ) (more : List Alternative) → is_at_end (O.lower T S) (O.below T S) ≡ false
       → object_leaf T k S (cells_of T S) ≡ Ok more
@@ -130,7 +127,7 @@ module _ (T : List Position) (S : List Signed) (cite : ℕ → List Signed → B
       → Does T cite (OfSet K.Object S) (object_lines number T S)
   unfolding AreUnmet
   objects_do k more free e unmet = ⊎_elim
-      (λ (x, y). absurd (end_not (is_at_end (O.lower T S) (O.below T S)) x free))
+      (λ (x, y). absurd (both_ways (is_at_end (O.lower T S) (O.below T S)) free x))
       (λ (x, o).
       let (p, is) = not_passed k more o in
       let (rows, few) = none_passed (atoms_of_names T S) most_states p in

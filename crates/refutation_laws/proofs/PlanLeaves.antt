@@ -22,6 +22,7 @@ use Rattle.refutations.specs.PlanTreeLines.{plan_lines}
 use Rattle.refutation_laws.proofs.Does.{Does, line_does, one_left}
 use Rattle.refutation_laws.proofs.CompleteLines.{can, complete_shows}
 use Rattle.refutation_laws.proofs.PlanTrees.{with_bounds, plan_does}
+use Rattle.std.proofs.lemmas.Bool.{both_ways}
 
 used_long : (hs : List (List Signed)) → used hs ≤ length hs
 used_long [] = omega arith
@@ -71,9 +72,6 @@ module _ (form : Form) (N : Naming) (t : Kind) (k : ℕ) (T : List Position) (fr
           → need frame q ≤ frame.room c (count_in c q.members)
       enough q n c e = omega (arith, n, e, counted, count_le c q.members)
 
-end_not : (b : Bool) → b ≡ true → b ≡ false → ⊥
-end_not b e f = cc
-
 module _ (T : List Position) (S : List Signed) (cite : ℕ → List Signed → Bool) (number : List Signed → Option ℕ)
     (cited : (g : List Signed) (k : ℕ) → number g ≡ Some k → cite k g ≡ true) where
   abbrev make : ℕ → Frame → Plan → Alternative
@@ -92,7 +90,7 @@ module _ (T : List Position) (S : List Signed) (cite : ℕ → List Signed → B
       → ((a : Alternative) → IsIn a more → is_met (can number) a ≡ false)
       → Does T cite (OfSet K.Array S) (L.Arrays ∷ plan_lines number OfArrays T (array_frame T S))
   arrays_do k more free e unmet = ⊎_elim
-      (λ (x, y). absurd (end_not (is_at_end (A.lower T S) (A.below T S)) x free))
+      (λ (x, y). absurd (both_ways (is_at_end (A.lower T S) (A.below T S)) free x))
       (λ (x, o).
       line_does T cite (OfSet K.Array S) L.Arrays (plan_duty OfArrays (array_frame T S) ∷ [])
       (plan_lines number OfArrays T (array_frame T S)) refl

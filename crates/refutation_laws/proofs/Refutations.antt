@@ -1,7 +1,7 @@
 -- Where the search decides that there is no document, what refutes its root is an accepted certificate.
-use Rattle.std.proofs.Common.{◌≡◌, ℕ, suc, ◌<◌, ◌≤◌, inl, inr, Bool, true, false, true≢false, cond, nat_lt, List, [], ◌∷◌, length, get_or, Option, Some, None, option_map, is_some, slice_get, refl, ap, sym, ◌∙◌, subst, arith}
+use Rattle.std.proofs.Common.{◌≡◌, ℕ, suc, ◌<◌, ◌≤◌, true, false, true≢false, cond, nat_lt, List, [], ◌∷◌, length, get_or, Option, Some, None, option_map, is_some, slice_get, refl, ap, sym, ◌∙◌, subst, arith}
 use Rattle.std.specs.Option.{is_none}
-use Rattle.std.proofs.lemmas.Bool.{and_parts, and_from, or_parts, lt-ltb, le-leb, leb-true}
+use Rattle.std.proofs.lemmas.Bool.{and_parts, and_from, lt-ltb, le-leb, leb-true, false_from_ne_true}
 use Rattle.std.proofs.lemmas.Option.{slice_get_within}
 use Rattle.documents.specs.Tests.{every, some}
 use Rattle.positions.specs.Position.{Position}
@@ -10,7 +10,6 @@ use Rattle.goals.specs.Signed.{Signed, Plus, Minus, position_of}
 use Rattle.goals.specs.Goal.{form}
 use Rattle.goal_laws.proofs.Signs.{same_signed-itself}
 use Rattle.goal_laws.proofs.Forms.{form-itself}
-use Rattle.list_laws.specs.In.{IsIn}
 use Rattle.list_laws.proofs.Lists.{every_at, in_flat_map}
 use Rattle.alternatives.specs.Alternative.{named_by, named, is_met}
 use Rattle.alternatives.specs.Expansion.{Expansion}
@@ -44,11 +43,7 @@ use Rattle.refutation_laws.proofs.Goals.{AreUnmet}
 use Rattle.refutation_laws.proofs.Certificates.{listed_accepted, clash_accepted}
 use Rattle.refutation_laws.proofs.Explored.{is_narrow, narrow_named, formed_short, explored_few}
 use Rattle.refutation_laws.proofs.Grammar.{listed_text, clash_text}
-
-none_at : {A : Type 0} (p : A → Bool) (x : A) (xs : List A) → some p xs ≡ false → IsIn x xs → p x ≡ false
-none_at p x [] e i = absurd i
-none_at p x (y ∷ xs) e (inl q) = subst (λ z. p z ≡ false) (sym q) (or_parts (p y) (some p xs) e).0
-none_at p x (y ∷ xs) e (inr i) = none_at p x xs (or_parts (p y) (some p xs) e).1 i
+use Rattle.list_laws.proofs.Tests.{none_at}
 
 same_list_itself : (g : List Signed) → same_list g g ≡ true
 same_list_itself [] = refl
@@ -99,10 +94,6 @@ module _ (T : List Position) (ok : IsTable T) (most most_places a b : ℕ) (root
       explored_kept most most_places E (X.is_goal T) (goals_named T ok (finders_of T)) root good in
       listed_goal T g (every_at (X.is_goal T) g f.goals h.are_good (get_in f.goals k g (place_is g k e)))
 
-  not_true : (b : Bool) → (b ≡ true → ⊥) → b ≡ false
-  not_true true h = absurd (h refl)
-  not_true false h = refl
-
   module _ (over : f.over ≡ None) (holes : (n : ℕ) → hole_of E f n ≡ None) where
     taken : (k : ℕ) → k < length f.goals → nat_lt k f.taken ≡ true
     taken k l =
@@ -130,7 +121,7 @@ module _ (T : List Position) (ok : IsTable T) (most most_places a b : ℕ) (root
         ∙ sym (ap (λ c. some (R.is_met (round E f (length f.goals)))
         (cond c (alternatives_at E f (slice_get f.goals k)) []))
         (taken k (slice_get_within f.goals k g at)))
-        ∙ not_true (round E f (suc (length f.goals)) k) (λ t.
+        ∙ false_from_ne_true (round E f (suc (length f.goals)) k) (λ t.
         true≢false (sym (satisfied_has E f (suc (length f.goals)) k t) ∙ ap is_some none))
 
     unmet : (g : List Signed) (k : ℕ) → number g ≡ Some k

@@ -1,11 +1,10 @@
 -- The lines of the rows of an automaton do the duty of rows: after some of them, the words that were mentioned are
 -- those which these rows mention.
-use Rattle.std.proofs.Common.{◌≡◌, ℕ, suc, ◌+◌, ◌<◌, List, [], ◌∷◌, ◌++◌, Bool, true, false, ◌&&◌, ◌||◌, not, cond, if◌then◌else◌, get_or, map, flat_map, length, nat_eq, nat_lt, Ok, Err, refl, ap, ap₂, sym, ◌∙◌, append-nil, append_assoc, length-append, arith}
+use Rattle.std.proofs.Common.{◌≡◌, ℕ, suc, ◌+◌, ◌<◌, List, [], ◌∷◌, ◌++◌, Bool, true, false, ◌&&◌, ◌||◌, not, cond, if◌then◌else◌, get_or, map, length, nat_eq, nat_lt, Ok, Err, refl, ap, ap₂, sym, ◌∙◌, append_assoc, length-append, arith}
 use Rattle.std.specs.Cmp.{IsEquivalence}
 use Rattle.std.specs.List.{list_any, position_or_len}
-use Rattle.std.proofs.lemmas.Bool.{and_from, lt-ltb, le-ltb, eq-eqb, eqb-true}
-use Rattle.std.proofs.lemmas.List.{length-map}
-use Rattle.std.proofs.lemmas.List.Concat.{flat_map-append}
+use Rattle.std.proofs.lemmas.Bool.{and_from, lt-ltb, le-ltb, eq-eqb}
+use Rattle.std.proofs.lemmas.List.{length-map, map_push}
 use Rattle.std.proofs.Math.Seq.{get_or-append_seam}
 use Rattle.positions.specs.Position.{Position}
 use Rattle.goals.specs.Signed.{Signed}
@@ -26,6 +25,8 @@ use Rattle.verdicts.specs.Rules.{no_row, wrong_target}
 use Rattle.verdicts.specs.RowLines.{Table, table, and_then, if_so, target, targets, row, begin_table, extend, row_taken}
 use Rattle.verdicts.specs.Duties.{Duty, Purpose, OfRows, atoms_for, after_rows, next_rows, after, run}
 use Rattle.refutations.specs.StatedRows.{row_lines}
+use Rattle.list_laws.proofs.Numbers.{lt-nat_eq}
+use Rattle.finder_laws.proofs.Grow.{mentioned_more}
 
 -- the place in a longer list of what a beginning has is its place there
 place_left : {A : Type 0} (same : A → A → Bool) (x : A) (L X : List A) → list_any (same x) L ≡ true
@@ -49,23 +50,10 @@ place_next same laws x (y ∷ L) X h = go (same x y) h (place_next same laws x L
   go true h more = cc h
   go false h more = let q = more h in omega (arith, q)
 
-map_end : {A B : Type 0} (f : A → B) (K : List A) (x : A) → map f (K ++ x ∷ []) ≡ map f K ++ f x ∷ []
-map_end f [] x = refl
-map_end f (y ∷ K) x = ap (λ z. f y ∷ z) (map_end f K x)
-
 module _ {A : Type 0} (same : A → A → Bool) (laws : IsEquivalence same) (extend : A → List A) (start : A)
     (size : A → ℕ) (larger : (x y : A) → IsIn y (extend x) → size x < size y)
     (follows : (x y z : A) → same x y ≡ true → IsIn z (extend x)
     → (u : A) × IsIn u (extend y) × (same z u ≡ true)) where
-  -- one row more
-  mentioned_more : (K : List A) (x : A)
-      → R.mentioned same laws extend start (K ++ x ∷ [])
-      ≡ mention_all same (R.mentioned same laws extend start K) (extend x)
-  mentioned_more K x =
-      ap (λ z. mention_all same [] (start ∷ z))
-      (flat_map-append extend K (x ∷ []) ∙ ap (λ z. flat_map extend K ++ z) (append-nil (extend x)))
-      ∙ M.mentions_append same laws [] (start ∷ flat_map extend K) (extend x)
-
   -- the target of an element is right, and the words go on as it is mentioned
   target_right : (L ws Z : List A) (y : A) → L ≡ mention same ws y ++ Z
       → target same extend start (length L) ws y (position_or_len (same y) L) ≡ Ok (mention same ws y)
@@ -124,7 +112,7 @@ module _ {A : Type 0} (same : A → A → Bool) (laws : IsEquivalence same) (ext
         let Mentioned : List A → List A = λ z. R.mentioned same laws extend start z in
         let whole : L ≡ mention_all same (Mentioned K) (extend x) ++ Z =
         rows ∙ ap (λ z. Mentioned z) (e ∙ sym (append_assoc K (x ∷ []) X)) ∙ q
-        ∙ ap (λ z. z ++ Z) (mentioned_more K x) in
+        ∙ ap (λ z. z ++ Z) (mentioned_more same laws extend start K x) in
         let n : length (map targets_in K) ≡ length K = length-map K targets_in in
         let here : get_or (Mentioned K) (length (map targets_in K)) start ≡ x =
         ap₂ (λ ws n. get_or ws n start) p n ∙ get_or-append_seam K x Y start in
@@ -148,7 +136,8 @@ module _ {A : Type 0} (same : A → A → Bool) (laws : IsEquivalence same) (ext
         (eq-eqb (length (targets_in x)) (length (extend x)) (length-map (extend x) (λ y. position_or_len (same y) L)))
         ∙ ap (and_then (λ ws. Ok (table ws (map targets_in K ++ targets_in x ∷ []))))
         (targets_right L (Mentioned K) Z (extend x) whole)
-        ∙ ap₂ (λ ws ts. Ok (table ws ts)) (sym (mentioned_more K x)) (sym (map_end targets_in K x))
+        ∙ ap₂ (λ ws ts. Ok (table ws ts)) (sym (mentioned_more same laws extend start K x))
+        (sym (map_push targets_in K x))
 
 -- of atoms
 
@@ -207,12 +196,6 @@ module _ (T : List Position) (cite : ℕ → List Signed → Bool) (u : Purpose)
       let m : length (K ++ x ∷ []) ≡ length K + 1 = length-append K (x ∷ []) in
       omega (arith, n, m)
 
-  differ : (m n : ℕ) → m < n → nat_eq m n ≡ false
-  differ m n l = go (nat_eq m n) refl where
-    go : (b : Bool) → nat_eq m n ≡ b → b ≡ false
-    go true e = let q = eqb-true m n e in absurd (omega (arith, q, l))
-    go false e = refl
-
   rows_from : (K X : List (List ℕ)) (x : List ℕ) → L ≡ K ++ x ∷ X → (ds : List Duty) (ms : List Line)
       → run T cite (Of (table_of (atoms_for T u S) L rows K) ∷ ds)
       (row_lines_of (x ∷ X) ++ ms)
@@ -228,7 +211,7 @@ module _ (T : List Position) (cite : ℕ → List Signed → Bool) (u : Purpose)
       ap (λ r. and_then (λ es. run T cite (es ++ ds) (row_lines_of (y ∷ X) ++ ms)) r) (row_does K (y ∷ X) x e)
       ∙ ap (λ b. run T cite (cond b (after_rows T u S (table_of (atoms_for T u S) L rows (K ++ x ∷ [])))
       (Of (table_of (atoms_for T u S) L rows (K ++ x ∷ []))) ∷ ds) (row_lines_of (y ∷ X) ++ ms))
-      (differ (length (table_of (atoms_for T u S) L rows (K ++ x ∷ [])).targets) (length L)
+      (lt-nat_eq (length (table_of (atoms_for T u S) L rows (K ++ x ∷ [])).targets) (length L)
       (let c = counted K x in
       let n : length L ≡ length K + length (x ∷ y ∷ X) = ap length e ∙ length-append K (x ∷ y ∷ X) in
       omega (arith, n, c)))

@@ -1,6 +1,6 @@
 -- A set at strings of which no word is found is refuted by its rows and the lengths of their words.
 use Rattle.std.proofs.Common.{◌≡◌, ℕ, suc, ◌<◌, ◌≤◌, inl, inr, List, [], ◌∷◌, ◌++◌, Bool, true, false, ◌||◌, not, cond, get_or, map, length, nat_eq, nat_le, nat_lt, Option, Some, None, Result, Ok, Err, refl, ap, sym, ◌∙◌, subst, append_assoc, arith}
-use Rattle.std.proofs.lemmas.Bool.{and_from, lt-ltb, le-leb, leb-true, eq-eqb}
+use Rattle.std.proofs.lemmas.Bool.{and_from, lt-ltb, le-leb, eq-eqb}
 use Rattle.std.proofs.lemmas.List.{length-map, get_or-map}
 use Rattle.std.specs.List.{list_all, range_with_len}
 use Rattle.documents.specs.Kind as K
@@ -9,14 +9,12 @@ use Rattle.patterns.specs.CharSet.{is_scalar}
 use Rattle.word_states.specs.Atom.{Atom}
 use Rattle.word_states.specs.Classes.{characters, class_firsts, class_count}
 use Rattle.word_states.specs.WordState.{have_same_state}
-use Rattle.word_states.specs.Rows.{AreRows, targets_of, longer_by_one}
-use Rattle.word_laws.proofs.RowLaws.{rows_words, all_end}
+use Rattle.word_states.specs.Rows.{AreRows, targets_of}
+use Rattle.word_laws.proofs.RowLaws.{rows_words, all_end, row_zero}
 use Rattle.word_laws.proofs.Classes.{firsts_scalar}
-use Rattle.word_laws.proofs.Mentions as M
-use Rattle.word_laws.proofs.States.{same_laws}
 use Rattle.positions.specs.Position.{Position}
 use Rattle.goals.specs.Signed.{Signed}
-use Rattle.list_laws.proofs.Lists.{in_get}
+use Rattle.list_laws.proofs.Lists.{in_get, in_at, length-end}
 use Rattle.cell_laws.proofs.Rows.{target_in, leads_on, one_row, first_row}
 use Rattle.frames.specs.Frame.{is_at_end}
 use Rattle.alternatives.specs.Limit.{LimitKind, most_states}
@@ -36,8 +34,9 @@ use Rattle.verdict_laws.proofs.Limits.{past_limits}
 use Rattle.refutations.specs.StatedRows.{rows_of, row_lines}
 use Rattle.refutations.specs.StringLines.{length_lines, string_lines}
 use Rattle.refutation_laws.proofs.Does.{Does}
-use Rattle.refutation_laws.proofs.Lists.{in_at, every_below}
 use Rattle.refutation_laws.proofs.Rows.{whole_table, rows_done}
+use Rattle.list_laws.proofs.Tests.{every_below}
+use Rattle.frame_laws.proofs.Ends.{at_end_up}
 
 -- rows of atoms that pass no limit
 
@@ -56,12 +55,6 @@ within atoms e = go (are_within_limits atoms) refl where
 module _ (atoms : List Atom) (L : List (List ℕ)) (rows : AreRows atoms L) where
   pub some_rows : 0 < length L
   some_rows = (first_row atoms L rows).0
-
-  pub first_word : get_or L 0 [] ≡ []
-  first_word =
-      let (X, e) = M.mentions_grow (have_same_state atoms) (same_laws atoms) ([] ∷ [])
-      (longer_by_one (class_firsts atoms) L) in
-      subst (λ z. get_or z 0 [] ≡ []) (sym (rows ∙ e)) refl
 
   short : (v w : List ℕ) → NoLater v w → length v ≤ length w
   short v w (inl e) = let q : length v ≡ length w = ap length e in omega (arith, q)
@@ -83,12 +76,8 @@ module _ (atoms : List Atom) (L : List (List ℕ)) (rows : AreRows atoms L) wher
       let here : length h.first ≤ length (v ++ f ∷ []) = short h.first (v ++ f ∷ []) h.no_later in
       let there : length (get_or L (target_in atoms L r k) []) ≡ length h.first =
       ap (λ z. length (get_or L z [])) q ∙ ap length (sym e) in
-      let one : length (v ++ f ∷ []) ≡ suc (length v) = length_end v f in
+      let one : length (v ++ f ∷ []) ≡ suc (length v) = length-end v f in
       omega (arith, here, there, one)
-    where
-      length_end : (v : List ℕ) (f : ℕ) → length (v ++ f ∷ []) ≡ suc (length v)
-      length_end [] f = refl
-      length_end (c ∷ v) f = ap suc (length_end v f)
 
   pub stated_is : (r k : ℕ) → r < length L → stated (whole_table atoms L rows) r k ≡ target_in atoms L r k
   stated_is r k l = ap (λ ts. get_or ts k 0) (get_or-map (targets_of atoms L) L r [] [] l)
@@ -99,7 +88,7 @@ module _ (atoms : List Atom) (L : List (List ℕ)) (rows : AreRows atoms L) wher
       and_from (nat_eq (length (map length L)) (length L)) _
       (eq-eqb (length (map length L)) (length L) (length-map L length))
       (and_from (nat_eq (get_or (map length L) 0 0) 0) _
-      (eq-eqb (get_or (map length L) 0 0) 0 (get_or-map length L 0 [] 0 some_rows ∙ ap length first_word))
+      (eq-eqb (get_or (map length L) 0 0) 0 (get_or-map length L 0 [] 0 some_rows ∙ ap length (row_zero atoms L rows)))
       (every_below one_up (length L) (λ r l.
       every_below (λ k. nat_le (get_or (map length L) (stated (whole_table atoms L rows) r k) 0)
       (suc (get_or (map length L) r 0))) (class_count atoms) (λ k m.
@@ -122,10 +111,6 @@ module _ (atoms : List Atom) (L : List (List ℕ)) (rows : AreRows atoms L) wher
           omega (arith, a, b, c)
 
 -- no word is found
-
-at_end_up : (n m : ℕ) (o : Option ℕ) → n ≤ m → is_at_end n o ≡ true → is_at_end m o ≡ true
-at_end_up n m None l e = e
-at_end_up n m (Some b) l e = let h = leb-true b n e in le-leb b m (omega (arith, h, l))
 
 module _ (T : List Position) (S : List Signed) where
   pub record IsNone : Type 0 where

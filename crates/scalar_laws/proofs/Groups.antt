@@ -1,5 +1,5 @@
 -- A whole number meets the group of a set exactly where it is all that the set asks.
-use Rattle.std.proofs.Common.{◌≡◌, ℤ, int_le, List, [], ◌∷◌, Bool, true, false, not, ◌&&◌, ◌||◌, cond, Option, Some, None, refl, ap, sym, ◌∙◌, arith}
+use Rattle.std.proofs.Common.{◌≡◌, ℤ, int_le, List, [], ◌∷◌, Bool, true, false, not, ◌&&◌, ◌||◌, cond, Option, Some, None, refl, ap, ◌∙◌, arith, sym}
 use Rattle.std.specs.List.{list_all, list_any}
 use Rattle.std.proofs.lemmas.Int.{ints}
 use Rattle.documents.specs.Tests.{every}
@@ -9,6 +9,7 @@ use Rattle.goals.specs.Signed.{Signed}
 use Rattle.number_groups.specs.Multiples.{is_multiple}
 use Rattle.number_groups.specs.Group.{Group, is_above, is_below, is_struck, is_met}
 use Rattle.number_finder.specs.SetGroup.{Ask, AtLeast, AtMost, MultipleOf, NotMultipleOf, OneOf, NoneOf, Nothing, ask_at, group_of, greater, lesser, both, number_group}
+use Rattle.std.proofs.Math.Bool.{and-true}
 
 -- n meets the requirement
 abbrev pub is_asked : ℤ → Ask → Bool
@@ -22,11 +23,6 @@ is_asked n Nothing = true
 
 -- bounds
 
-pub same_test : (a b : Bool) → (a ≡ true → b ≡ true) → (b ≡ true → a ≡ true) → a ≡ b
-same_test true b f g = sym (f refl)
-same_test false true f g = g refl
-same_test false false f g = refl
-
 above_both : (m k n : ℤ) → int_le (cond (int_le m k) k m) n ≡ (int_le m n && int_le k n)
 above_both m k n = grind (arith, ints)
 
@@ -34,17 +30,11 @@ below_both : (m k n : ℤ) → int_le n (cond (int_le m k) m k) ≡ (int_le n m 
 below_both m k n = grind (arith, ints)
 
 above_greater : (m : ℤ) (low : Option ℤ) (n : ℤ) → is_above (greater (Some m) low) n ≡ (int_le m n && is_above low n)
-above_greater m None n = and_true (int_le m n) where
-  and_true : (b : Bool) → b ≡ (b && true)
-  and_true true = refl
-  and_true false = refl
+above_greater m None n = sym (and-true (int_le m n))
 above_greater m (Some k) n = above_both m k n
 
 below_lesser : (m : ℤ) (high : Option ℤ) (n : ℤ) → is_below (lesser (Some m) high) n ≡ (int_le n m && is_below high n)
-below_lesser m None n = and_true (int_le n m) where
-  and_true : (b : Bool) → b ≡ (b && true)
-  and_true true = refl
-  and_true false = refl
+below_lesser m None n = sym (and-true (int_le n m))
 below_lesser m (Some k) n = below_both m k n
 
 -- one test more, at each of its places

@@ -10,7 +10,7 @@ use Rattle.schemas.specs.Weight.{weight}
 use Rattle.schemas.specs.Reading.{member_fault, members_fault, object_fault, fault_at, fault_with, fault_after, first_fault}
 use Rattle.schema_laws.specs.Values.{IsIn}
 use Rattle.schema_laws.specs.Walking.{weights}
-use Rattle.schema_laws.proofs.Pointers.{same_word-eq}
+use Rattle.list_laws.proofs.Tests.{same_word-true}
 
 -- neither of two
 pub neither : {A : Type 0} (x y : Option A) → or_else x y ≡ None → (x ≡ None) × (y ≡ None)
@@ -61,7 +61,7 @@ module _ {P R : Type 0} (rules : Rules P R) (root : Json) where
       → member_fault rules root ms p n w ≡ None
       → (lookup k rest ≡ Some v → member_fault rules root ms p k v ≡ None) → member_fault rules root ms p k v ≡ None
   member_at ms p n k w v rest true e h none later =
-      ap (λ m. member_fault rules root ms p m v) (same_word-eq k n e)
+      ap (λ m. member_fault rules root ms p m v) (same_word-true k n e)
       ∙ ap (member_fault rules root ms p n) (sym (same_Some w v h)) ∙ none
   member_at ms p n k w v rest false e h none later = later h
 

@@ -12,16 +12,16 @@ use Rattle.schemas.specs.Fault.{Rules}
 use Rattle.schemas.specs.Walk.{root_id, place_of, place_with, object_children, children, places}
 use Rattle.schemas.specs.Entries.{number_of}
 use Rattle.schema_laws.specs.Values.{IsIn, names_differ}
-use Rattle.schema_laws.proofs.Pointers.{same_word-eq}
 use Rattle.schema_laws.proofs.Members.{in_left, in_right}
 use Rattle.schema_laws.proofs.Numbers.{child_at_number}
+use Rattle.list_laws.proofs.Tests.{same_word-true}
 
 member_found : (ms : Members) (p : Pointer) (n k : List ℕ) (w v : Json) (rest : Members) (d : Place) (test : Bool)
     → same_word k n ≡ test → cond test (Some w) (lookup k rest) ≡ Some v
     → IsIn d (in_member (read_shape ms k) (p ++ k ∷ []) v)
     → (lookup k rest ≡ Some v → IsIn d (in_members ms p rest)) → IsIn d (in_members ms p (member n w rest))
 member_found ms p n k w v rest d true e h i later =
-    let same = same_word-eq k n e in
+    let same = same_word-true k n e in
     let here = subst (λ u. IsIn d (in_member (read_shape ms k) (p ++ k ∷ []) u)) (sym (same_Some w v h)) i in
     in_left d (in_member (read_shape ms n) (p ++ n ∷ []) w) (in_members ms p rest)
     (subst (λ m. IsIn d (in_member (read_shape ms m) (p ++ m ∷ []) w)) same here)

@@ -7,7 +7,7 @@ use Rattle.documents.specs.WellFormed.{is_before, is_json, are_items, are_member
 use Rattle.documents.proofs.Parts.{member_parts}
 use Rattle.documents.proofs.NameOrder.{comes_before-same, comes_before-trans}
 use Rattle.schema_laws.specs.Values.{names_differ, names_differ_in, members_differ}
-use Rattle.schema_laws.proofs.Pointers.{same_word-eq}
+use Rattle.list_laws.proofs.Tests.{same_word-true}
 
 is_before-trans : (k l : List ℕ) (ms : Members) → comes_before k l ≡ true → is_before l ms ≡ true
     → is_before k ms ≡ true
@@ -18,7 +18,7 @@ is_before-trans k l (member m v ms) h i = comes_before-trans k l m h i
 not_found : (k l : List ℕ) (v : Json) (ms : Members) (test : Bool) → same_word k l ≡ test → comes_before k l ≡ true
     → is_none (lookup k ms) ≡ true → is_none (cond test (Some v) (lookup k ms)) ≡ true
 not_found k l v ms true e h later =
-    absurd (true≢false (sym h ∙ ap (comes_before k) (sym (same_word-eq k l e)) ∙ comes_before-same k))
+    absurd (true≢false (sym h ∙ ap (comes_before k) (sym (same_word-true k l e)) ∙ comes_before-same k))
 not_found k l v ms false e h later = later
 
 absent : (k : List ℕ) (ms : Members) → is_before k ms ≡ true → are_members ms ≡ true → is_none (lookup k ms) ≡ true

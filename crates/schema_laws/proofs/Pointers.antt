@@ -1,23 +1,10 @@
 -- Words and pointers are equal exactly where the tests say so.
-use Rattle.std.proofs.Common.{◌≡◌, ℕ, List, [], ◌∷◌, Bool, true, false, nat_eq, refl, sym, subst, ap, ap₂, ◌∙◌, arith, true≢false}
+use Rattle.std.proofs.Common.{◌≡◌, [], ◌∷◌, Bool, true, false, refl, sym, subst, ap, ap₂, ◌∙◌, true≢false}
 use Rattle.std.proofs.lemmas.Bool.{and_parts, and_from}
 use Rattle.std.specs.Cmp.{IsEquivalence}
 use Rattle.documents.specs.Tests.{same_word}
 use Rattle.schemas.specs.Places.{Pointer, same_pointer}
-
-pub same_word-refl : (w : List ℕ) → same_word w w ≡ true
-same_word-refl [] = refl
-same_word-refl (c ∷ w) = and_from (nat_eq c c) (same_word w w) (grind arith) (same_word-refl w)
-
--- words that the test calls the same are equal
-pub same_word-eq : (v w : List ℕ) → same_word v w ≡ true → v ≡ w
-same_word-eq [] [] h = refl
-same_word-eq [] (d ∷ w) h = absurd (true≢false (sym h))
-same_word-eq (c ∷ v) [] h = absurd (true≢false (sym h))
-same_word-eq (c ∷ v) (d ∷ w) h =
-    let both = and_parts (nat_eq c d) (same_word v w) h in
-    let same : c ≡ d = grind (arith, both.0) in
-    ap₂ (λ x y. x ∷ y) same (same_word-eq v w both.1)
+use Rattle.list_laws.proofs.Tests.{same_word-refl, same_word-true}
 
 pub same_pointer-refl : (p : Pointer) → same_pointer p p ≡ true
 same_pointer-refl [] = refl
@@ -29,7 +16,7 @@ same_pointer-eq [] (u ∷ q) h = absurd (true≢false (sym h))
 same_pointer-eq (t ∷ p) [] h = absurd (true≢false (sym h))
 same_pointer-eq (t ∷ p) (u ∷ q) h =
     let both = and_parts (same_word t u) (same_pointer p q) h in
-    ap₂ (λ x y. x ∷ y) (same_word-eq t u both.0) (same_pointer-eq p q both.1)
+    ap₂ (λ x y. x ∷ y) (same_word-true t u both.0) (same_pointer-eq p q both.1)
 
 -- a test that says exactly what is equal
 module _ {K : Type 0} (same : K → K → Bool)

@@ -14,7 +14,7 @@ use Rattle.schemas.specs.Entry.{Keywords}
 use Rattle.schemas.specs.Schema.{if_there, sizes, single, several, items_size, values_in, values_size, need_size, needs_size, keywords_size, form_size, total_size}
 use Rattle.schemas.specs.Schema as S
 use Rattle.schema_laws.specs.Walking.{weights}
-use Rattle.schema_laws.proofs.Pointers.{same_word-eq}
+use Rattle.list_laws.proofs.Tests.{same_word-true}
 
 -- a document has as many values as the value that it is of
 mutual
@@ -145,7 +145,7 @@ module _ (f : List ℕ → Json → ℕ) (n : List ℕ) (v : Json) (ms : Members
       ≤ f n v + (if_there 0 (f k) (lookup k ms) + sum_of f ms ks)
   sum_of-named k ks false e h rest = omega (arith, rest)
   sum_of-named k ks true e h rest =
-      let same = same_word-eq k n e in
+      let same = same_word-true k n e in
       let others = sum_of-other ks (subst (λ w. not (some (λ j. same_word j w) ks) ≡ true) same h) in
       let own : f k v ≡ f n v = ap (λ w. f w v) same in
       omega (arith, own, others)

@@ -7,9 +7,9 @@ use Rattle.documents.specs.Json.{Json, null, boolean, number, not_whole, string,
 use Rattle.documents.specs.Place.{index_of, child_at, value_at}
 use Rattle.schemas.specs.Places.{Pointer, Place, index_token}
 use Rattle.schema_laws.specs.Values.{IsIn, inside, of_items, of_members, values_from, names_differ, names_differ_in, members_differ}
-use Rattle.schema_laws.proofs.Pointers.{same_word-refl, same_word-eq}
 use Rattle.schema_laws.proofs.Tokens.{index_of-token}
 use Rattle.schema_laws.proofs.Members.{in_append}
+use Rattle.list_laws.proofs.Tests.{same_word-refl, same_word-true}
 
 -- the place lies below p, at what a pointer leads to in v
 record IsBelow (p : Pointer) (v : Json) (c : Place) : Type 0 where
@@ -70,7 +70,7 @@ other_name : (k t : List ℕ) (v u : Json) (ms : Members) (test : Bool) → same
     → lookup t ms ≡ Some u → cond test (Some v) (lookup t ms) ≡ Some u
 other_name k t v u ms false e h f = f
 other_name k t v u ms true e h f =
-    absurd (true≢false (sym h ∙ ap is_none (ap (λ w. lookup w ms) (sym (same_word-eq t k e)) ∙ f)))
+    absurd (true≢false (sym h ∙ ap is_none (ap (λ w. lookup w ms) (sym (same_word-true t k e)) ∙ f)))
 
 later_member : (p : Pointer) (k : List ℕ) (v : Json) (ms : Members) (c : Place) → is_none (lookup k ms) ≡ true
     → IsAtMember p ms c → IsAtMember p (member k v ms) c

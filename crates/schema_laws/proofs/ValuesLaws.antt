@@ -6,9 +6,9 @@ use Rattle.documents.specs.Json.{Json, null, boolean, number, not_whole, string,
 use Rattle.documents.specs.Place.{index_of, child_at, value_at}
 use Rattle.schemas.specs.Places.{Pointer, Place, index_token}
 use Rattle.schema_laws.specs.Values.{IsIn, inside, of_items, of_members, values_from}
-use Rattle.schema_laws.proofs.Pointers.{same_word-eq}
 use Rattle.schema_laws.proofs.Tokens.{index_token-of}
 use Rattle.schema_laws.proofs.Members.{in_left, in_right, in_append}
+use Rattle.list_laws.proofs.Tests.{same_word-true}
 
 -- as many as are counted
 mutual
@@ -98,7 +98,7 @@ member_found : (p : Pointer) (k t : List ℕ) (v w : Json) (ms : Members) (test 
     → (lookup t ms ≡ Some w → IsIn (p ++ t ∷ [], w) (of_members p ms))
     → IsIn (p ++ t ∷ [], w) (of_members p (member k v ms))
 member_found p k t v w ms true e h later =
-    inl (ap₂ (λ (n : List ℕ) (u : Json). (p ++ n ∷ [], u)) (same_word-eq t k e) (sym (same_Some v w h)))
+    inl (ap₂ (λ (n : List ℕ) (u : Json). (p ++ n ∷ [], u)) (same_word-true t k e) (sym (same_Some v w h)))
 member_found p k t v w ms false e h later =
     inr (in_right (p ++ t ∷ [], w) (inside (p ++ k ∷ []) v) (of_members p ms) (later h))
 

@@ -1,7 +1,7 @@
 -- What answers say: the least round and the first alternative that the round before meets; and from the last round that
 -- adds a goal on they stay.
-use Rattle.std.proofs.Common.{◌≡◌, ℕ, zero, suc, ◌+◌, ◌-◌, ◌≤◌, ◌<◌, ◌⊎◌, inl, inr, List, length, Bool, true, false, ◌&&◌, not, cond, Option, Some, None, is_some, refl, ap, sym, ◌∙◌, subst, arith}
-use Rattle.std.proofs.lemmas.Bool.{cases_lt}
+use Rattle.std.proofs.Common.{◌≡◌, ℕ, zero, suc, ◌+◌, ◌-◌, ◌≤◌, ◌<◌, ◌⊎◌, inl, inr, List, length, Bool, true, false, ◌&&◌, not, cond, Option, Some, None, is_some, refl, ap, sym, ◌∙◌, subst, arith, zero-add, suc-add, true≢false}
+use Rattle.std.proofs.lemmas.Bool.{cases_lt, false_from_ne_true}
 use Rattle.documents.specs.Tests.{some}
 use Rattle.goals.specs.Signed.{Signed}
 use Rattle.list_laws.proofs.Tests.{some_find, none_at, in_range, from_range}
@@ -11,9 +11,7 @@ use Rattle.search.specs.Rounds.{is_met, first_place, told, alternatives_of, roun
 use Rattle.search.specs.Uses.{numbers, satisfied, is_added, last_within, last_round}
 use Rattle.search_laws.proofs.Rise.{answer_round}
 use Rattle.search_laws.proofs.Settled.{settled, past, rise_to}
-
-some_same : {A : Type 0} {x y : A} → Some x ≡ Some y → x ≡ y
-some_same e = cc
+use Rattle.std.proofs.lemmas.Option.{same_Some}
 
 module _ (expansion : List Signed → Expansion) (f : Found) where
   abbrev Round : ℕ → ℕ → Bool
@@ -55,8 +53,8 @@ module _ (expansion : List Signed → Expansion) (f : Found) where
             let l = less (h ∙ e) in record { q = l.q; is = l.is; within = omega (arith, l.within); enters = l.enters }
         go None None less h p e = cc
         go None (Some j) less h p e =
-            let s : suc r ≡ k = ap (λ x. x.0) (some_same e) in
-            let t : j ≡ i = ap (λ x. x.1) (some_same e) in
+            let s : suc r ≡ k = ap (λ x. x.0) (same_Some _ _ e) in
+            let t : j ≡ i = ap (λ x. x.1) (same_Some _ _ e) in
             let b : Round r n ≡ false = sym (answer_round expansion f r n) ∙ ap is_some h in
             let new : Answer (suc r) n ≡ Some (suc r, j) =
             ap (told r (Answer r n)) (first_same r n) ∙ ap (λ z. told r z (First r n)) h ∙ ap (told r None) p in
@@ -70,18 +68,14 @@ module _ (expansion : List Signed → Expansion) (f : Found) where
 
   -- an answer is kept
   pub answer_kept : (k r n : ℕ) (a : ℕ × ℕ) → Answer r n ≡ Some a → Answer (k + r) n ≡ Some a
-  answer_kept zero r n a e = ap (λ z. Answer z n) (plus r) ∙ e where
-    plus : (r : ℕ) → 0 + r ≡ r
-    plus r = omega arith
-  answer_kept (suc k) r n a e = ap (λ z. Answer z n) (plus k r) ∙ keep (Answer (k + r) n) (answer_kept k r n a e) where
-    plus : (k r : ℕ) → suc k + r ≡ suc (k + r)
-    plus k r = omega arith
-
-    keep : (o : Option (ℕ × ℕ)) → o ≡ Some a
-        → told (k + r) o (first_place (is_met (λ m. is_some (answer expansion f (k + r) m)))
-        (alternatives_of expansion f n)) ≡ Some a
-    keep None e = cc
-    keep (Some b) e = e
+  answer_kept zero r n a e = ap (λ z. Answer z n) (zero-add r) ∙ e
+  answer_kept (suc k) r n a e =
+      ap (λ z. Answer z n) (suc-add k r) ∙ keep (Answer (k + r) n) (answer_kept k r n a e) where
+        keep : (o : Option (ℕ × ℕ)) → o ≡ Some a
+            → told (k + r) o (first_place (is_met (λ m. is_some (answer expansion f (k + r) m)))
+            (alternatives_of expansion f n)) ≡ Some a
+        keep None e = cc
+        keep (Some b) e = e
 
   pub answer_on : (r m n : ℕ) (a : ℕ × ℕ) → r ≤ m → Answer r n ≡ Some a → Answer m n ≡ Some a
   answer_on r m n a l e = ap (λ z. Answer z n) plus ∙ answer_kept (m - r) r n a e where
@@ -95,15 +89,9 @@ module _ (expansion : List Signed → Expansion) (f : Found) where
   pub answer_none : (r n : ℕ) → Round r n ≡ false → Answer r n ≡ None
   answer_none r n e = is_none (Answer r n) (answer_round expansion f r n ∙ e)
 
-  not_false : (b : Bool) → (b ≡ true → ⊥) → b ≡ false
-  not_false true h = absurd (h refl)
-  not_false false h = refl
-
   -- rounds do not lose goals
   pub before_too : (q r n : ℕ) → q ≤ r → Round r n ≡ false → Round q n ≡ false
-  before_too q r n l e = not_false (Round q n) (λ h. differ (sym (rise_to expansion f q r n l h) ∙ e)) where
-    differ : true ≡ false → ⊥
-    differ e = cc
+  before_too q r n l e = false_from_ne_true (Round q n) (λ h. true≢false (sym (rise_to expansion f q r n l h) ∙ e))
 
   -- nothing is added: answers stay
   pub same_answer : (r m n : ℕ) → r ≤ m → (Round m n ≡ true → Round r n ≡ true) → Answer m n ≡ Answer r n
@@ -112,18 +100,14 @@ module _ (expansion : List Signed → Expansion) (f : Found) where
     go (Some a) e = answer_on r m n a l e
     go None e =
         let b : Round r n ≡ false = sym (answer_round expansion f r n) ∙ ap is_some e in
-        answer_none m n (not_false (Round m n) (λ x. differ (sym (h x) ∙ b))) where
-          differ : true ≡ false → ⊥
-          differ e = cc
+        answer_none m n (false_from_ne_true (Round m n) (λ x. true≢false (sym (h x) ∙ b)))
 
   -- past the goals no round has anything
   pub added_low : (r n : ℕ) → Round r n ≡ true → n < length f.goals
   added_low r n e = go (cases_lt n (length f.goals)) where
     go : (n < length f.goals) ⊎ (length f.goals ≤ n) → n < length f.goals
     go (inl l) = l
-    go (inr l) = absurd (differ (sym e ∙ past expansion f r n l)) where
-      differ : true ≡ false → ⊥
-      differ e = cc
+    go (inr l) = absurd (true≢false (sym e ∙ past expansion f r n l))
 
   pub none_added : (r n : ℕ) → some (is_added expansion f r) (numbers expansion f) ≡ false
       → Round (suc r) n ≡ true → Round r n ≡ true

@@ -1,9 +1,7 @@
 -- The parts of a goal one after another: what one contains stands before it.
-use Rattle.std.proofs.Common.{◌≡◌, ◌≢◌, ℕ, zero, suc, ◌+◌, ◌<◌, ◌⊎◌, inl, inr, List, [], ◌∷◌, ◌++◌, map, filter, length, take, get_or, set, get_or-set_same, get_or-set_other, true, false, cond, nat_eq, nat_lt, nat_le, Option, Some, None, slice_get, refl, ap, ap₂, sym, ◌∙◌, subst, arith, true≢false, eq-eqb}
-use Rattle.std.proofs.lemmas.Bool.{and_parts, ltb-true, lt-leb}
+use Rattle.std.proofs.Common.{◌≡◌, ◌≢◌, ℕ, zero, suc, ◌+◌, ◌<◌, ◌⊎◌, inl, inr, List, [], ◌∷◌, ◌++◌, map, filter, length, take, get_or, set, get_or-set_same, get_or-set_other, true, false, cond, nat_eq, Option, Some, None, slice_get, refl, ap, ap₂, sym, ◌∙◌, subst, arith, true≢false, eq-eqb}
 use Rattle.std.proofs.lemmas.Bool.Decides.{eqb_tells}
 use Rattle.std.proofs.lemmas.List.{take_more, map-append}
-use Rattle.documents.specs.Tests.{every}
 use Rattle.documents.specs.Kind.{Kind}
 use Rattle.goals.specs.Signed.{Signed}
 use Rattle.list_laws.specs.In.{IsIn, Distinct}
@@ -13,7 +11,6 @@ use Rattle.cell_laws.proofs.Lists.{distinct_append}
 use Rattle.list_laws.proofs.Pigeons.{range_distinct}
 use Rattle.shared_documents.specs.Part as P
 use Rattle.shared_documents.specs.Part.{Part, names_below, first_forward}
-use Rattle.std.specs.List.{find}
 use Rattle.alternatives.specs.Alternative.{Shape, Null, Truth, Number, Text, Elements, Members}
 use Rattle.alternatives.specs.Expansion.{Expansion}
 use Rattle.expansions.specs.DocumentOf.{slot_name}
@@ -25,6 +22,7 @@ use Rattle.search_laws.proofs.Used.{entered, from_added, has_order}
 use Rattle.search_laws.proofs.Parts.{contents_used, in_used, used_in, part_below}
 use Rattle.search_laws.proofs.Settled.{rise_to}
 use Rattle.search_laws.proofs.Marking.{in_at}
+use Rattle.list_laws.proofs.Tests.{find-none_below}
 
 -- nothing comes twice
 
@@ -162,19 +160,12 @@ module _ (words : List Signed → Kind → ℕ → ℕ → ℕ → List ℕ) (ex
       go m (inr (t, s)) (inr (inl q)) = absurd (s (q ∙ sym at))
       go m (inr (t, s)) (inr (inr q)) = absurd q
 
-    -- a part is not refused
-    none_forward : (k : ℕ) (is : List ℕ) → every (λ x. nat_lt x k) is ≡ true → find (λ x. nat_le k x) is ≡ None
-    none_forward k [] e = refl
-    none_forward k (x ∷ is) e =
-        let (a, b) = and_parts (nat_lt x k) (every (λ x. nat_lt x k) is) e in
-        ap (λ t. cond t (Some x) (find (λ x. nat_le k x) is)) (lt-leb k x (ltb-true x k a)) ∙ none_forward k is b
-
     pub next_below : (i : ℕ) (made : List Part) (places : List ℕ) (o : ℕ) → i < length Used → o ≡ get_or Used i 0
         → Made i made places → first_forward i (part words expansion f (λ m. get_or places m 0) o) ≡ None
     next_below i made places o l at h =
         ap (λ z. first_forward i z) (ap (part words expansion f (λ m. get_or places m 0)) at ∙ same_part i made
         places l h)
-        ∙ none_forward i (P.named (part words expansion f (place_in (used_goals expansion f n)) (get_or Used i 0)))
+        ∙ find-none_below i (P.named (part words expansion f (place_in (used_goals expansion f n)) (get_or Used i 0)))
         (subst (λ z. names_below z (part words expansion f (place_in (used_goals expansion f n)) (get_or Used i 0))
         ≡ true)
         (place_at_index Used i (used_distinct expansion f n) l)

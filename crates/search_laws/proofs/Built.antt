@@ -1,5 +1,5 @@
 -- The document of a goal is that of the alternative of its answer, over the round before.
-use Rattle.std.proofs.Common.{◌≡◌, ℕ, zero, suc, ◌+◌, ◌-◌, ◌≤◌, min, List, [], ◌∷◌, ◌++◌, map, Bool, true, false, ◌||◌, cond, nat_lt, Option, Some, None, option_map, slice_get, refl, ap, ap₂, sym, ◌∙◌, subst, arith}
+use Rattle.std.proofs.Common.{◌≡◌, ℕ, zero, suc, ◌+◌, ◌-◌, ◌≤◌, min, List, [], ◌∷◌, ◌++◌, map, Bool, true, false, cond, nat_lt, Option, Some, None, option_map, slice_get, refl, ap, ap₂, sym, ◌∙◌, subst, arith, zero-add, suc-add}
 use Rattle.std.proofs.lemmas.List.{map-append}
 use Rattle.documents.specs.Tests.{some}
 use Rattle.documents.specs.Kind.{Kind}
@@ -19,6 +19,7 @@ use Rattle.search.specs.Uses.{repeated, added_fillers, contents_of}
 use Rattle.search_laws.proofs.Numbers.{one_met}
 use Rattle.search_laws.proofs.Settled.{rise_to}
 use Rattle.search_laws.proofs.Answers.{Enters, Least, answer_least}
+use Rattle.std.proofs.Math.Bool.{or-false}
 
 -- what stands at a slot, with the document of its goal
 abbrev pub placed_document : (ℕ → Document) → NumberedPlaced → Slot × Document
@@ -141,12 +142,8 @@ module _ (p : ℕ → Bool) (gs : List (List Signed)) where
           at = ap (λ o. slice_get (with_members gs a o ++ numbered gs bs) i) q ∙ h.at;
         }
     go (Some ns) q more e = by (is_met p (number_as gs a ns)) refl more e where
-      or_false : (b : Bool) → (b || false) ≡ b
-      or_false true = refl
-      or_false false = refl
-
       met : E.is_met (λ g. by_number false p gs g) a ≡ is_met p (number_as gs a ns)
-      met = sym (one_met p gs a) ∙ ap (λ o. some (is_met p) (with_members gs a o)) q ∙ or_false (is_met p
+      met = sym (one_met p gs a) ∙ ap (λ o. some (is_met p) (with_members gs a o)) q ∙ or-false (is_met p
           (number_as gs a ns))
 
       by : (b : Bool) → is_met p (number_as gs a ns) ≡ b
@@ -197,17 +194,12 @@ module _ (words : List Signed → Kind → ℕ → ℕ → ℕ → List ℕ) (ex
 
   -- a goal keeps its document
   document_kept : (k r n : ℕ) → Round r n ≡ true → Doc (k + r) n ≡ Doc r n
-  document_kept zero r n h = ap (λ z. Doc z n) (plus r) where
-    plus : (r : ℕ) → 0 + r ≡ r
-    plus r = omega arith
+  document_kept zero r n h = ap (λ z. Doc z n) (zero-add r)
   document_kept (suc k) r n h =
-      ap (λ z. Doc z n) (plus k r)
+      ap (λ z. Doc z n) (suc-add k r)
       ∙ ap (λ b. cond b (Doc (k + r) n) (Over (k + r) (slice_get f.goals n)))
       (rise_to expansion f r (k + r) n (omega arith) h)
       ∙ document_kept k r n h
-    where
-      plus : (k r : ℕ) → suc k + r ≡ suc (k + r)
-      plus k r = omega arith
 
   -- a goal's document is the same over all rounds from one that has the goal on
   pub document_stays : (q r n : ℕ) → q ≤ r → Round q n ≡ true → Doc r n ≡ Doc q n

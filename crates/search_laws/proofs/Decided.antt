@@ -1,8 +1,8 @@
 -- The root of an exploration is in some round exactly where some document meets it: in a round, always; towards a
 -- round, where no limit was passed and no explored goal has a hole.
-use Rattle.std.proofs.Common.{◌≡◌, ℕ, suc, ◌<◌, true, cond, nat_lt, List, None, Some, Ok, slice_get, length, ap, sym, ◌∙◌, subst, arith}
+use Rattle.std.proofs.Common.{◌≡◌, ℕ, suc, ◌<◌, true, cond, nat_lt, List, None, Ok, slice_get, length, ap, sym, ◌∙◌, subst, arith}
 use Rattle.std.proofs.lemmas.Bool.{lt-ltb}
-use Rattle.std.proofs.lemmas.Option.{slice_get_within}
+use Rattle.std.proofs.lemmas.Option.{slice_get_within, same_Some}
 use Rattle.documents.specs.Kind as K
 use Rattle.documents.specs.Kind.{Kind}
 use Rattle.documents.specs.Document.{Document, depth, is_document}
@@ -57,10 +57,7 @@ module _ (F : Finders) (T : List Position) (ok : IsTable T)
   reached_met r h =
       let (g, at, made) = rounds_sound T ok (words_of F) (leaf F T) right goals_found r 0 h in
       subst (λ z. IsMade T r z (document (by_branch T (words_of F)) (expansion T (leaf F T)) goals_found r 0))
-      (same g root (sym at ∙ root_first most most_total (expansion T (leaf F T)) root)) made
-    where
-      same : (g h : List Signed) → Some g ≡ Some h → g ≡ h
-      same g h e = cc
+      (same_Some g root (sym at ∙ root_first most most_total (expansion T (leaf F T)) root)) made
 
   -- then the round whose number is that of all goals has it: the root is in it or no document meets the root
   pub met_settled : 0 < most → goals_found.over ≡ None

@@ -1,6 +1,6 @@
 -- Going back through the goals in order, a goal is used exactly where it is the first one or a used one behind it
 -- contains it.
-use Rattle.std.proofs.Common.{◌≡◌, ℕ, zero, suc, ◌≤◌, ◌<◌, ◌⊎◌, inl, inr, List, [], ◌∷◌, ◌++◌, length, drop, get_or, Bool, true, false, ◌&&◌, ◌||◌, nat_eq, refl, ap, sym, ◌∙◌, subst, arith, true≢false, eqb-true, eq-eqb}
+use Rattle.std.proofs.Common.{◌≡◌, ℕ, zero, suc, ◌≤◌, ◌<◌, ◌⊎◌, inl, inr, List, [], ◌∷◌, ◌++◌, length, drop, get_or, Bool, true, ◌&&◌, ◌||◌, nat_eq, refl, ap, sym, ◌∙◌, subst, arith, true≢false, eqb-true, eq-eqb}
 use Rattle.std.proofs.lemmas.Bool.{and_parts, and_from, or_cases, or_left, or_right, cases_lt}
 use Rattle.documents.specs.Tests.{some}
 use Rattle.goals.specs.Signed.{Signed}
@@ -13,6 +13,7 @@ use Rattle.search.specs.Rounds.{NumberedPlaced, round}
 use Rattle.search.specs.Uses.{in_order, contents, uses}
 use Rattle.search_laws.proofs.Answers.{Enters}
 use Rattle.search_laws.proofs.Used.{Entered, entered, contents_below, uses_itself, uses_round, used_on, order_has, has_order, Beyond, beyond_to}
+use Rattle.list_laws.proofs.Booleans.{same_test}
 
 at_rest : {A : Type 0} (xs ys : List A) (j : ℕ) (d : A) → length xs ≤ j → j < length (xs ++ ys)
     → IsIn (get_or (xs ++ ys) j d) ys
@@ -113,16 +114,10 @@ module _ (expansion : List Signed → Expansion) (f : Found) (n : ℕ)
       rest_of xs ys (inl k) lacks = absurd (lacks k)
       rest_of xs ys (inr k) lacks = k
 
-  same_bool : (a b : Bool) → (a ≡ true → b ≡ true) → (b ≡ true → a ≡ true) → a ≡ b
-  same_bool true true h k = refl
-  same_bool false false h k = refl
-  same_bool true false h k = sym (h refl)
-  same_bool false true h k = k refl
-
   -- the mark of the goal at a place tells whether it is used
   pub mark_tells : (j : ℕ) → j < length Order
       → marked (drop (suc j) Order) (get_or Order j 0) ≡ uses expansion f Count n (get_or Order j 0)
-  mark_tells j l = same_bool (marked (drop (suc j) Order) o) (uses expansion f Count n o) forth back where
+  mark_tells j l = same_test (marked (drop (suc j) Order) o) (uses expansion f Count n o) forth back where
     o : ℕ
     o = get_or Order j 0
 

@@ -1,13 +1,12 @@
 -- What the document of an alternative names: words of the cells of its branch, each once.
 use Rattle.std.proofs.Common.{◌≡◌, ◌≢◌, ℕ, zero, suc, ◌+◌, ◌-◌, ◌≤◌, ◌<◌, ◌⊎◌, inl, inr, min, List, [], ◌∷◌, ◌++◌, map, flat_map, length, get_or, Bool, true, false, not, ◌&&◌, ◌||◌, cond, nat_eq, nat_le, nat_lt, Option, Some, None, slice_get, refl, ap, ap₂, sym, ◌∙◌, subst, arith, true≢false, eq-eqb}
 use Rattle.std.proofs.lemmas.Bool.{and_parts, and_from, leb-true, le-leb, ltb-true, not-true}
-use Rattle.std.proofs.lemmas.Bool.Decides.{eqb_tells}
 use Rattle.std.proofs.lemmas.List.{map-append}
 use Rattle.documents.specs.Tests.{every, some, same_word}
 use Rattle.goals.specs.Signed.{Signed}
 use Rattle.list_laws.specs.In.{IsIn}
 use Rattle.list_laws.proofs.Lists.{in_left, in_right, from_flat_map}
-use Rattle.list_laws.proofs.Tests.{some_none, none_at}
+use Rattle.list_laws.proofs.Tests.{some_none, none_at, same_word_comm}
 use Rattle.alternatives.specs.Alternative.{Slot, Index, Name, Shape, Null, Truth, Number, Text, Elements, Members, Placed, Filler, Alternative}
 use Rattle.alternatives.specs.Slots.{capacity, cell_at, word_at, has_room, has_text, has_words, next_slot, slots_from, slots_of, same_slot, are_different, has_different_slots, has_different_words, fits_slot, has_fitting_slots}
 use Rattle.alternatives.specs.Expansion.{Expansion}
@@ -17,6 +16,8 @@ use Rattle.search.specs.Rounds.{NumberedPlaced, Numbered, with_member, with_fill
 use Rattle.search.specs.Uses.{repeated, added_fillers, contents_of}
 use Rattle.search.specs.Witness.{named}
 use Rattle.search_laws.proofs.Built.{number_as}
+use Rattle.list_laws.proofs.Every.{every-append}
+use Rattle.position_laws.proofs.Lists.{every-map}
 
 -- a list with some elements left out
 pub data Sub {A : Type 0} : List A → List A → Type 0 where
@@ -154,23 +155,12 @@ every_sub p _ _ (keep x xs ys s) e =
     let (a, b) = and_parts (p x) (every p ys) e in and_from (p x) (every p xs) a (every_sub p xs ys s b)
 every_sub p _ _ (skip y xs ys s) e = let (a, b) = and_parts (p y) (every p ys) e in every_sub p xs ys s b
 
-every_append : {A : Type 0} (p : A → Bool) (xs ys : List A) → every p xs ≡ true → every p ys ≡ true
-    → every p (xs ++ ys) ≡ true
-every_append p [] ys a b = b
-every_append p (x ∷ xs) ys a b =
-    let (h, t) = and_parts (p x) (every p xs) a in
-    and_from (p x) (every p (xs ++ ys)) h (every_append p xs ys t b)
-
-every_map : {A B : Type 0} (p : B → Bool) (h : A → B) (xs : List A) → every p (map h xs) ≡ every (λ x. p (h x)) xs
-every_map p h [] = refl
-every_map p h (x ∷ xs) = ap (λ b. p (h x) && b) (every_map p h xs)
-
 every_flat : {A B : Type 0} (p : B → Bool) (h : A → List B) (q : A → Bool) (xs : List A)
     → ((x : A) → q x ≡ true → every p (h x) ≡ true) → every q xs ≡ true → every p (flat_map h xs) ≡ true
 every_flat p h q [] k e = refl
 every_flat p h q (x ∷ xs) k e =
     let (a, b) = and_parts (q x) (every q xs) e in
-    every_append p (h x) (flat_map h xs) (k x a) (every_flat p h q xs k b)
+    every-append p (h x) (flat_map h xs) (k x a) (every_flat p h q xs k b)
 
 module _ (cells : List (List (List ℕ))) where
   slots_room : (s : Slot) (n : ℕ) → has_room cells s n ≡ true → every (λ s. has_room cells s 1) (slots_from s n) ≡ true
@@ -191,28 +181,14 @@ module _ (cells : List (List (List ℕ))) where
       let (x, fs) = and_parts (has_text cells a.shape && every (λ m. has_room cells m.slot 1) a.members)
       (every (λ f. has_room cells f.slot f.room) a.fillers) e in
       let (t, ms) = and_parts (has_text cells a.shape) (every (λ m. has_room cells m.slot 1) a.members) x in
-      every_append (λ s. has_room cells s 1) (map (λ m. m.slot) a.members) (flat_map (λ f. slots_from f.slot
+      every-append (λ s. has_room cells s 1) (map (λ m. m.slot) a.members) (flat_map (λ f. slots_from f.slot
       f.room) a.fillers)
-      (every_map (λ s. has_room cells s 1) (λ (m : Placed). m.slot) a.members ∙ ms)
+      (every-map (λ s. has_room cells s 1) (λ (m : Placed). m.slot) a.members ∙ ms)
       (every_flat (λ s. has_room cells s 1) (λ f. slots_from f.slot f.room) (λ f. has_room cells f.slot f.room)
       a.fillers
       (λ f h. slots_room f.slot f.room h) fs)
 
 -- words at different places differ
-
-pub same_word_flip : (v w : List ℕ) → same_word v w ≡ same_word w v
-same_word_flip [] [] = refl
-same_word_flip [] (d ∷ w) = refl
-same_word_flip (c ∷ v) [] = refl
-same_word_flip (c ∷ v) (d ∷ w) = ap₂ (λ a b. a && b) (flip c d) (same_word_flip v w) where
-  flip : (c d : ℕ) → nat_eq c d ≡ nat_eq d c
-  flip c d = go (eqb_tells c d) (eqb_tells d c) where
-    go : ((nat_eq c d ≡ true) × (c ≡ d)) ⊎ ((nat_eq c d ≡ false) × (c ≢ d))
-        → ((nat_eq d c ≡ true) × (d ≡ c)) ⊎ ((nat_eq d c ≡ false) × (d ≢ c)) → nat_eq c d ≡ nat_eq d c
-    go (inl (e, p)) (inl (h, q)) = e ∙ sym h
-    go (inr (e, p)) (inr (h, q)) = e ∙ sym h
-    go (inl (e, p)) (inr (h, q)) = absurd (q (sym p))
-    go (inr (e, p)) (inl (h, q)) = absurd (p (sym q))
 
 abbrev Words : List (List (List ℕ)) → List (List ℕ)
 Words cells = flat_map (λ words. words) cells
@@ -264,7 +240,7 @@ different_at (w ∷ ws) e zero (suc l) p q o =
     none_at (same_word w) (get_or ws l []) ws (not-true (some (same_word w) ws) a) (word_in l ws (omega (arith, q)))
 different_at (w ∷ ws) e (suc k) zero p q o =
     let (a, b) = and_parts (not (some (same_word w) ws)) (are_different same_word ws) e in
-    same_word_flip (get_or ws k []) w
+    same_word_comm (get_or ws k []) w
     ∙ none_at (same_word w) (get_or ws k []) ws (not-true (some (same_word w) ws) a) (word_in k ws (omega (arith, p)))
 different_at (w ∷ ws) e (suc k) (suc l) p q o =
     let (a, b) = and_parts (not (some (same_word w) ws)) (are_different same_word ws) e in
@@ -282,7 +258,7 @@ words_apart (ws ∷ cells) e zero k (suc d) l p q o =
     b.across (get_or ws k []) (word_at cells d l) (word_in k ws p) (cell_in cells d l q)
 words_apart (ws ∷ cells) e (suc c) k zero l p q o =
     let b = different_append same_word ws (flat_map (λ words. words) cells) e in
-    same_word_flip (word_at cells c k) (get_or ws l [])
+    same_word_comm (word_at cells c k) (get_or ws l [])
     ∙ b.across (get_or ws l []) (word_at cells c k) (word_in l ws q) (cell_in cells c k p)
 words_apart (ws ∷ cells) e (suc c) k (suc d) l p q o =
     let b = different_append same_word ws (flat_map (λ words. words) cells) e in
@@ -359,8 +335,8 @@ all_fit : (a : Alternative) → has_fitting_slots a ≡ true → every (fits_slo
 all_fit a e =
     let (ms, fs) = and_parts (every (λ m. fits_slot a.shape m.slot) a.members)
     (every (λ f. fits_slot a.shape f.slot) a.fillers) e in
-    every_append (fits_slot a.shape) (map (λ m. m.slot) a.members) (flat_map (λ f. slots_from f.slot f.room) a.fillers)
-    (every_map (fits_slot a.shape) (λ (m : Placed). m.slot) a.members ∙ ms)
+    every-append (fits_slot a.shape) (map (λ m. m.slot) a.members) (flat_map (λ f. slots_from f.slot f.room) a.fillers)
+    (every-map (fits_slot a.shape) (λ (m : Placed). m.slot) a.members ∙ ms)
     (every_flat (fits_slot a.shape) (λ f. slots_from f.slot f.room) (λ f. fits_slot a.shape f.slot) a.fillers
     (λ f h. slots_fit a.shape f.slot f.room h) fs)
 
@@ -415,7 +391,7 @@ module _ (gs : List (List Signed)) (bs : List Alternative) (a : Numbered) (h : I
   pub contents_room : has_words cells h.alternative ≡ true → every (λ p. has_room cells p.slot 1) (contents_of has
       a) ≡ true
   contents_room e =
-      sym (every_map (λ s. has_room cells s 1) (λ (p : NumberedPlaced). p.slot) (contents_of has a))
+      sym (every-map (λ s. has_room cells s 1) (λ (p : NumberedPlaced). p.slot) (contents_of has a))
       ∙ every_sub (λ s. has_room cells s 1) (map (λ p. p.slot) (contents_of has a)) (slots_of h.alternative) slots_are
       (all_room cells h.alternative e)
 
@@ -424,7 +400,7 @@ module _ (gs : List (List Signed)) (bs : List Alternative) (a : Numbered) (h : I
       → are_different same_word (map (λ m. m.0) (map (named (word_at cells) place) (contents_of has a))) ≡ true
   contents_apart shape words fits slots apart place =
       names_apart cells apart place (contents_of has a) (contents_room words)
-      (sym (every_map (fits_slot Members) (λ (p : NumberedPlaced). p.slot) (contents_of has a))
+      (sym (every-map (fits_slot Members) (λ (p : NumberedPlaced). p.slot) (contents_of has a))
       ∙ every_sub (fits_slot Members) (map (λ p. p.slot) (contents_of has a)) (slots_of h.alternative) slots_are
       (subst (λ z. every (fits_slot z) (slots_of h.alternative) ≡ true) (sym (ap (λ z. z.shape) h.is) ∙ shape)
       (all_fit h.alternative fits)))

@@ -10,6 +10,8 @@ use Rattle.alternatives.specs.Alternative as E
 use Rattle.alternatives.specs.Alternative.{Placed, Filler, Alternative, named_by}
 use Rattle.search.specs.Explored.{same_goal, number_in, is_listed}
 use Rattle.search.specs.Rounds.{NumberedPlaced, Numbered, with_member, with_filler, number_members, number_fillers, with_members, numbered, rooms, is_met, test_or, by_number}
+use Rattle.list_laws.proofs.Options.{is_some-suc}
+use Rattle.std.proofs.Math.Bool.{and-false, or-false}
 
 pub same_goal_true : (g h : List Signed) → same_goal g h ≡ true → g ≡ h
 same_goal_true [] [] e = refl
@@ -51,27 +53,19 @@ pub still_listed : (gs hs : List (List Signed)) (g : List Signed) → is_listed 
     → is_listed (gs ++ hs) g ≡ true
 still_listed [] hs g e = cc
 still_listed (h ∷ gs) hs g e = go (same_goal g h) e (still_listed gs hs g) where
-  shift : (o : Option ℕ) → is_some (option_map suc o) ≡ is_some o
-  shift None = refl
-  shift (Some n) = refl
-
   go : (b : Bool) → is_some (cond b (Some 0) (option_map suc (number_in gs g))) ≡ true
       → (is_listed gs g ≡ true → is_listed (gs ++ hs) g ≡ true)
       → is_some (cond b (Some 0) (option_map suc (number_in (gs ++ hs) g))) ≡ true
   go true e more = refl
-  go false e more = shift (number_in (gs ++ hs) g) ∙ more (sym (shift (number_in gs g)) ∙ e)
+  go false e more = is_some-suc (number_in (gs ++ hs) g) ∙ more (sym (is_some-suc (number_in gs g)) ∙ e)
 
 pub last_listed : (gs : List (List Signed)) (g : List Signed) → is_listed (gs ++ g ∷ []) g ≡ true
 last_listed [] g = rw (same_goal_itself g) refl
 last_listed (h ∷ gs) g = go (same_goal g h) (last_listed gs g) where
-  shift : (o : Option ℕ) → is_some (option_map suc o) ≡ is_some o
-  shift None = refl
-  shift (Some n) = refl
-
   go : (b : Bool) → is_listed (gs ++ g ∷ []) g ≡ true
       → is_some (cond b (Some 0) (option_map suc (number_in (gs ++ g ∷ []) g))) ≡ true
   go true e = refl
-  go false e = shift (number_in (gs ++ g ∷ []) g) ∙ e
+  go false e = is_some-suc (number_in (gs ++ g ∷ []) g) ∙ e
 
 module _ (p : ℕ → Bool) (gs : List (List Signed)) where
   abbrev Can : List Signed → Bool
@@ -80,15 +74,11 @@ module _ (p : ℕ → Bool) (gs : List (List Signed)) where
   members_none : (ms : List Placed) → number_members gs ms ≡ None → every (λ m. Can m.goal) ms ≡ false
   members_none [] e = cc
   members_none (m ∷ ms) e = go (number_in gs m.goal) (number_members gs ms) refl e (members_none ms) where
-    no : (b : Bool) → (b && false) ≡ false
-    no true = refl
-    no false = refl
-
     go : (o : Option ℕ) (r : Option (List NumberedPlaced)) → number_members gs ms ≡ r → with_member m.slot o r ≡ None
         → (number_members gs ms ≡ None → every (λ m. Can m.goal) ms ≡ false)
         → (test_or false p o && every (λ m. Can m.goal) ms) ≡ false
     go None r q e more = refl
-    go (Some n) None q e more = ap (λ b. p n && b) (more q) ∙ no (p n)
+    go (Some n) None q e more = ap (λ b. p n && b) (more q) ∙ and-false (p n)
     go (Some n) (Some ns) q e more = cc
 
   members_some : (ms : List Placed) (ns : List NumberedPlaced) → number_members gs ms ≡ Some ns
@@ -124,16 +114,12 @@ module _ (p : ℕ → Bool) (gs : List (List Signed)) where
   pub one_met : (a : Alternative)
       → some (is_met p) (with_members gs a (number_members gs a.members)) ≡ E.is_met (λ g. by_number false p gs g) a
   one_met a = go (number_members gs a.members) refl where
-    or_false : (b : Bool) → (b || false) ≡ b
-    or_false true = refl
-    or_false false = refl
-
     go : (o : Option (List NumberedPlaced)) → number_members gs a.members ≡ o
         → some (is_met p) (with_members gs a o) ≡ E.is_met (λ g. by_number false p gs g) a
     go None e = sym
         (ap (λ b. b && nat_le a.need (E.rooms (λ g. by_number false p gs g) a.fillers)) (members_none a.members e))
     go (Some ns) e =
-        or_false (every (λ m. p m.goal) ns && nat_le a.need (rooms p (number_fillers gs a.fillers)))
+        or-false (every (λ m. p m.goal) ns && nat_le a.need (rooms p (number_fillers gs a.fillers)))
         ∙ ap₂ (λ b r. b && nat_le a.need r) (members_some a.members ns e) (rooms_same a.fillers)
 
   some_append : (xs ys : List Numbered) → some (is_met p) (xs ++ ys) ≡ (some (is_met p) xs || some (is_met p) ys)

@@ -1,5 +1,5 @@
 -- After a round that adds no goal the order of goals, the last round and the answers stay.
-use Rattle.std.proofs.Common.{◌≡◌, ℕ, zero, suc, ◌+◌, ◌-◌, ◌≤◌, List, ◌++◌, Bool, true, false, ◌&&◌, not, cond, refl, ap, ap₂, sym, ◌∙◌, arith}
+use Rattle.std.proofs.Common.{◌≡◌, ℕ, zero, suc, ◌+◌, ◌-◌, ◌≤◌, List, ◌++◌, Bool, true, false, ◌&&◌, not, cond, refl, ap, ap₂, sym, ◌∙◌, arith, zero-add, suc-add}
 use Rattle.std.proofs.lemmas.List.{append-nil}
 use Rattle.documents.specs.Tests.{some}
 use Rattle.goals.specs.Signed.{Signed}
@@ -45,30 +45,20 @@ module _ (expansion : List Signed → Expansion) (f : Found) (r : ℕ)
 
   -- after a round that adds no goal the last round stays
   pub last_same : (k : ℕ) → last_within expansion f (k + r) ≡ last_within expansion f r
-  last_same zero = ap (λ z. last_within expansion f z) (plus r) where
-    plus : (r : ℕ) → 0 + r ≡ r
-    plus r = omega arith
+  last_same zero = ap (λ z. last_within expansion f z) (zero-add r)
   last_same (suc k) =
-      ap (λ z. last_within expansion f z) (plus k r)
+      ap (λ z. last_within expansion f z) (suc-add k r)
       ∙ ap (λ b. cond b (suc (k + r)) (last_within expansion f (k + r)))
       (some_none (is_added expansion f (k + r)) (numbers expansion f)
       (λ n i. nothing_added (k + r) n (omega arith)))
       ∙ last_same k
-    where
-      plus : (k r : ℕ) → suc k + r ≡ suc (k + r)
-      plus k r = omega arith
 
   -- after a round that adds no goal the order of goals stays
   pub order_same : (k : ℕ) → in_order expansion f (k + r) ≡ in_order expansion f r
-  order_same zero = ap (λ z. in_order expansion f z) (plus r) where
-    plus : (r : ℕ) → 0 + r ≡ r
-    plus r = omega arith
+  order_same zero = ap (λ z. in_order expansion f z) (zero-add r)
   order_same (suc k) =
-      ap (λ z. in_order expansion f z) (plus k r)
+      ap (λ z. in_order expansion f z) (suc-add k r)
       ∙ ap₂ (λ a b. a ++ b) (order_same k)
       (filter_none (is_added expansion f (k + r)) (numbers expansion f)
       (λ n i. nothing_added (k + r) n (omega arith)))
       ∙ append-nil (in_order expansion f r)
-    where
-      plus : (k r : ℕ) → suc k + r ≡ suc (k + r)
-      plus k r = omega arith

@@ -1,11 +1,12 @@
 -- Rounds rise; after one that adds no goal none adds one; and answers determine rounds.
-use Rattle.std.proofs.Common.{◌≡◌, ℕ, zero, suc, ◌+◌, ◌≤◌, inl, inr, Bool, true, false, ◌&&◌, ◌||◌, cond, nat_le, List, [], ◌∷◌, Option, Some, None, option_map, is_some, refl, ap, ap₂, sym, ◌∙◌, arith}
+use Rattle.std.proofs.Common.{◌≡◌, ℕ, zero, suc, ◌+◌, ◌≤◌, inl, inr, Bool, true, false, ◌&&◌, ◌||◌, cond, nat_le, List, [], ◌∷◌, Option, Some, None, option_map, is_some, refl, ap, ap₂, sym, ◌∙◌, arith, zero-add, suc-add}
 use Rattle.std.proofs.lemmas.Bool.{and_parts, and_from, leb-true, le-leb, or_cases, or_left, or_right}
 use Rattle.documents.specs.Tests.{every, some}
 use Rattle.goals.specs.Signed.{Signed}
 use Rattle.alternatives.specs.Expansion.{Expansion}
 use Rattle.search.specs.Explored.{Found}
 use Rattle.search.specs.Rounds.{NumberedPlaced, NumberedFiller, Numbered, rooms, is_met, first_place, told, alternatives_of, round, answer}
+use Rattle.list_laws.proofs.Options.{is_some-suc}
 
 -- a weaker test
 module _ (p q : ℕ → Bool) (weaker : (n : ℕ) → p n ≡ true → q n ≡ true) where
@@ -59,14 +60,10 @@ module _ (p q : ℕ → Bool) (same : (n : ℕ) → p n ≡ q n) where
 place_some : (p : Numbered → Bool) (bs : List Numbered) → is_some (first_place p bs) ≡ some p bs
 place_some p [] = refl
 place_some p (b ∷ bs) = go (p b) (place_some p bs) where
-  shift : (o : Option ℕ) → is_some (option_map suc o) ≡ is_some o
-  shift None = refl
-  shift (Some n) = refl
-
   go : (t : Bool) → is_some (first_place p bs) ≡ some p bs
       → is_some (cond t (Some 0) (option_map suc (first_place p bs))) ≡ (t || some p bs)
   go true e = refl
-  go false e = shift (first_place p bs) ∙ e
+  go false e = is_some-suc (first_place p bs) ∙ e
 
 module _ (expansion : List Signed → Expansion) (f : Found) where
   abbrev Round : ℕ → ℕ → Bool
@@ -79,16 +76,11 @@ module _ (expansion : List Signed → Expansion) (f : Found) where
 
   -- after a round that adds no goal none adds one
   pub still : (r : ℕ) → ((n : ℕ) → Round (suc r) n ≡ Round r n) → (k n : ℕ) → Round (k + r) n ≡ Round r n
-  still r h zero n = ap (λ z. round expansion f z n) (plus r) where
-    plus : (r : ℕ) → 0 + r ≡ r
-    plus r = omega arith
+  still r h zero n = ap (λ z. round expansion f z n) (zero-add r)
   still r h (suc k) n =
-      ap (λ z. round expansion f z n) (plus k r)
+      ap (λ z. round expansion f z n) (suc-add k r)
       ∙ some_same (round expansion f (k + r)) (round expansion f r) (still r h k) (alternatives_of expansion f n)
       ∙ h n
-    where
-      plus : (k r : ℕ) → suc k + r ≡ suc (k + r)
-      plus k r = omega arith
 
   -- a goal has an answer exactly where it is in the round
   pub answer_round : (r n : ℕ) → is_some (answer expansion f r n) ≡ Round r n

@@ -1,7 +1,7 @@
 -- Rounds are complete, where no limit was passed and no goal has a hole, and sound.
 use Rattle.std.proofs.Common.{◌≡◌, ℕ, zero, suc, ◌≤◌, inl, inr, Bool, true, false, ◌||◌, cond, nat_lt, List, [], ◌∷◌, Option, Some, None, is_some, slice_get, refl, ap, sym, ◌∙◌, subst, arith}
 use Rattle.std.proofs.lemmas.Bool.{lt-ltb}
-use Rattle.std.proofs.lemmas.Option.{slice_get_within}
+use Rattle.std.proofs.lemmas.Option.{slice_get_within, same_Some}
 use Rattle.documents.specs.Tests.{some}
 use Rattle.documents.specs.Kind.{Kind}
 use Rattle.documents.specs.Document.{Document, depth, is_document}
@@ -109,9 +109,6 @@ module _ (T : List Position) (ok : IsTable T) (words : Kind → List Signed → 
     go false h e more = let (a, x, y, z) = more e in (a, x, inr y, z)
 
   module _ (r : ℕ) (before : (n : ℕ) → Round r n ≡ true → Has r n (Doc r n)) where
-    some_same : (g h : List Signed) → Some g ≡ Some h → g ≡ h
-    some_same g h e = cc
-
     abbrev Can' : List Signed → Bool
     Can' g = by_number false (round (expansion T leaves) f r) f.goals g
 
@@ -126,7 +123,7 @@ module _ (T : List Position) (ok : IsTable T) (words : Kind → List Signed → 
       go (Some n) e h =
           let (k, at, made) = before n h in
           subst (λ z. IsMade T r z (document (by_branch T words) (expansion T leaves) f r n))
-          (some_same k g (sym at ∙ number_at f.goals g n e)) made
+          (same_Some k g (sym at ∙ number_at f.goals g n e)) made
 
     -- by the first alternative that the round before meets
     new : (n : ℕ) → some (is_met (round (expansion T leaves) f r)) (alternatives_of (expansion T leaves) f n) ≡ true

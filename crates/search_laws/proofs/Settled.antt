@@ -1,5 +1,5 @@
 -- As many rounds as there are goals suffice.
-use Rattle.std.proofs.Common.{◌≡◌, ℕ, zero, suc, ◌+◌, ◌-◌, ◌≤◌, ◌<◌, ◌⊎◌, inl, inr, List, [], Bool, true, false, cond, nat_lt, length, refl, ap, sym, ◌∙◌, subst, arith}
+use Rattle.std.proofs.Common.{◌≡◌, ℕ, zero, suc, ◌+◌, ◌-◌, ◌≤◌, ◌<◌, ◌⊎◌, inl, inr, List, [], Bool, true, false, cond, nat_lt, length, refl, ap, sym, ◌∙◌, subst, arith, suc-add}
 use Rattle.std.proofs.lemmas.Bool.{cases_lt}
 use Rattle.std.proofs.lemmas.Option.{slice_get_past}
 use Rattle.documents.specs.Tests.{some}
@@ -119,9 +119,7 @@ module _ (expansion : List Signed → Expansion) (f : Found) where
   rise_by : (k r n : ℕ) → Round r n ≡ true → Round (k + r) n ≡ true
   rise_by zero r n e = subst (λ z. Round z n ≡ true) (omega arith) e
   rise_by (suc k) r n e =
-      subst (λ z. Round z n ≡ true) (plus k r) (rises expansion f (k + r) n (rise_by k r n e)) where
-        plus : (k r : ℕ) → suc (k + r) ≡ suc k + r
-        plus k r = omega arith
+      subst (λ z. Round z n ≡ true) (sym (suc-add k r)) (rises expansion f (k + r) n (rise_by k r n e))
 
   -- later rounds have the goals of earlier ones
   pub rise_to : (r m n : ℕ) → r ≤ m → Round r n ≡ true → Round m n ≡ true

@@ -1,7 +1,7 @@
 -- The goals that the document of a goal uses: all of lesser round, and all that they contain among them, so that the
 -- goal itself is the last.
-use Rattle.std.proofs.Common.{◌≡◌, ℕ, zero, suc, ◌+◌, ◌-◌, ◌≤◌, ◌<◌, ◌⊎◌, inl, inr, min, List, [], ◌∷◌, ◌++◌, filter, length, Bool, true, false, ◌&&◌, not, cond, nat_eq, nat_le, Option, Some, None, is_some, option_map, slice_get, refl, ap, ap₂, sym, ◌∙◌, subst, arith, true≢false, eqb-true, eq-eqb}
-use Rattle.std.proofs.lemmas.Bool.{and_parts, and_from, or_cases, or_left, or_right, cases_lt}
+use Rattle.std.proofs.Common.{◌≡◌, ℕ, zero, suc, ◌+◌, ◌-◌, ◌≤◌, ◌<◌, ◌⊎◌, inl, inr, min, List, [], ◌∷◌, ◌++◌, filter, length, Bool, true, false, ◌&&◌, not, cond, nat_eq, nat_le, Option, Some, None, is_some, option_map, slice_get, refl, ap, ap₂, sym, ◌∙◌, subst, arith, true≢false, eqb-true, eq-eqb, zero-add, suc-add}
+use Rattle.std.proofs.lemmas.Bool.{and_parts, and_from, or_cases, or_left, or_right, cases_lt, false_from_ne_true}
 use Rattle.std.proofs.lemmas.List.{append-nil, append_assoc}
 use Rattle.std.proofs.lemmas.List.Elements.{filter-append}
 use Rattle.documents.specs.Tests.{every, some}
@@ -20,6 +20,8 @@ use Rattle.search.specs.Uses.{repeated, added_fillers, contents_of, numbers, sat
 use Rattle.search_laws.proofs.Rise.{rises, answer_round}
 use Rattle.search_laws.proofs.Settled.{settled, rise_to}
 use Rattle.search_laws.proofs.Answers.{Enters, Least, answer_least, before_too, added_low}
+use Rattle.list_laws.proofs.Every.{every-append}
+use Rattle.list_laws.proofs.Booleans.{and_not-parts}
 
 -- lists
 
@@ -35,12 +37,10 @@ pub filter_one : (p : ℕ → Bool) (n : ℕ) (xs : List ℕ) → Distinct xs �
 filter_one p n [] d i e h = absurd i
 filter_one p n (x ∷ xs) d i e h =
     go (p x) refl (λ j. filter_one p n xs d.1 j e (λ y k. h y (inr k))) where
-      bool : (b : Bool) → (b ≡ true → ⊥) → b ≡ false
-      bool true k = absurd (k refl)
-      bool false k = refl
-
       rest : x ≡ n → filter p xs ≡ []
-      rest s = filter_none p xs (λ y j. bool (p y) (λ q. d.0 (subst (λ z. IsIn z xs) (h y (inr j) q ∙ sym s) j)))
+      rest s =
+          filter_none p xs
+          (λ y j. false_from_ne_true (p y) (λ q. d.0 (subst (λ z. IsIn z xs) (h y (inr j) q ∙ sym s) j)))
 
       go : (b : Bool) → p x ≡ b → (IsIn n xs → filter p xs ≡ n ∷ []) → cond b (x ∷ filter p xs) (filter p xs) ≡ n ∷ []
       go true q more = let s = h x (inl refl) q in ap₂ (λ y ys. y ∷ ys) s (rest s)
@@ -70,13 +70,6 @@ first_place_is p (y ∷ xs) i x e at = go (p y) refl e (λ j. first_place_is p x
 
 -- what an alternative that is met contains
 
-every_append : {A : Type 0} (p : A → Bool) (xs ys : List A) → every p xs ≡ true → every p ys ≡ true
-    → every p (xs ++ ys) ≡ true
-every_append p [] ys a b = b
-every_append p (x ∷ xs) ys a b =
-    let (h, t) = and_parts (p x) (every p xs) a in
-    and_from (p x) (every p (xs ++ ys)) h (every_append p xs ys t b)
-
 module _ (has : ℕ → Bool) where
   repeated_has : (s : Slot) (n g : ℕ) → has g ≡ true → every (λ p. has p.goal) (repeated s n g) ≡ true
   repeated_has s zero g e = refl
@@ -92,14 +85,14 @@ module _ (has : ℕ → Bool) where
         (repeated f.slot (min n f.room) f.goal ++ added_fillers has (n - f.room) fs)
         (added_fillers has n fs)) ≡ true
     go true e x y =
-        every_append (λ p. has p.goal) (repeated f.slot (min n f.room) f.goal)
+        every-append (λ p. has p.goal) (repeated f.slot (min n f.room) f.goal)
         (added_fillers has (n - f.room) fs) (repeated_has f.slot (min n f.room) f.goal e) y
     go false e x y = x
 
   pub contents_have : (a : Numbered) → is_met has a ≡ true → every (λ p. has p.goal) (contents_of has a) ≡ true
   contents_have a e =
       let (m, r) = and_parts (every (λ m. has m.goal) a.members) (nat_le a.need (rooms has a.fillers)) e in
-      every_append (λ p. has p.goal) a.members (added_fillers has a.need a.fillers) m (fillers_have a.need a.fillers)
+      every-append (λ p. has p.goal) a.members (added_fillers has a.need a.fillers) m (fillers_have a.need a.fillers)
 
 module _ (expansion : List Signed → Expansion) (f : Found) where
   abbrev Round : ℕ → ℕ → Bool
@@ -272,11 +265,6 @@ module _ (expansion : List Signed → Expansion) (f : Found) where
   abbrev Added : ℕ → List ℕ
   Added r = filter (is_added expansion f r) (numbers expansion f)
 
-  added_parts : (a b : Bool) → (a && not b) ≡ true → (a ≡ true) × (b ≡ false)
-  added_parts true true e = cc
-  added_parts true false e = (refl, refl)
-  added_parts false b e = cc
-
   added_from : (a b : Bool) → a ≡ true → b ≡ false → (a && not b) ≡ true
   added_from true true e h = cc
   added_from true false e h = refl
@@ -290,7 +278,7 @@ module _ (expansion : List Signed → Expansion) (f : Found) where
   pub from_added : (r n : ℕ) → IsIn n (Added r) → (Round (suc r) n ≡ true) × (Round r n ≡ false)
   from_added r n i =
       let (j, e) = from_filter (is_added expansion f r) n (numbers expansion f) i in
-      added_parts (Round (suc r) n) (Round r n) e
+      and_not-parts (Round (suc r) n) (Round r n) e
 
   -- the order has just the goals of the round
   pub order_has : (r n : ℕ) → Round r n ≡ true → IsIn n (Order r)
@@ -317,23 +305,18 @@ module _ (expansion : List Signed → Expansion) (f : Found) where
   pub beyond : (k q : ℕ) → Beyond q (k + q)
   beyond zero q = record {
     rest = [];
-    is = ap (λ z. Order z) (plus q) ∙ sym (append-nil (Order q));
+    is = ap (λ z. Order z) (zero-add q) ∙ sym (append-nil (Order q));
     later = λ m i. absurd i;
-  } where
-    plus : (q : ℕ) → 0 + q ≡ q
-    plus q = omega arith
+  }
   beyond (suc k) q =
       let b = beyond k q in
       record {
         rest = b.rest ++ Added (k + q);
-        is = ap (λ z. Order z) (plus k q) ∙ ap (λ l. l ++ Added (k + q)) b.is ∙ append_assoc (Order q) b.rest
+        is = ap (λ z. Order z) (suc-add k q) ∙ ap (λ l. l ++ Added (k + q)) b.is ∙ append_assoc (Order q) b.rest
             (Added (k + q));
         later = λ m i. go b.rest m (in_append m b.rest (Added (k + q)) i) b.later;
       }
     where
-      plus : (k q : ℕ) → suc k + q ≡ suc (k + q)
-      plus k q = omega arith
-
       go : (rest : List ℕ) (m : ℕ) → IsIn m rest ⊎ IsIn m (Added (k + q))
           → ((m : ℕ) → IsIn m rest → Round q m ≡ false) → Round q m ≡ false
       go rest m (inl j) more = more m j
@@ -360,17 +343,13 @@ module _ (expansion : List Signed → Expansion) (f : Found) where
       b : Beyond (suc e.q) Count
       b = beyond_to (suc e.q) Count e.few
 
-      bool : (b : Bool) → (b ≡ true → ⊥) → b ≡ false
-      bool true k = absurd (k refl)
-      bool false k = refl
-
       not_later : (m : ℕ) → IsIn m b.rest → (n ≡ m) ⊎ (Round e.q m ≡ true) → ⊥
       not_later m i (inl s) = true≢false (sym x.has ∙ ap (Round (suc e.q)) s ∙ b.later m i)
       not_later m i (inr k) = true≢false (sym (rises expansion f e.q m k) ∙ b.later m i)
 
       none : filter (uses expansion f Count n) b.rest ≡ []
       none = filter_none (uses expansion f Count n) b.rest
-          (λ m i. bool (Uses Count n m) (λ u. not_later m i (used_below Count Count n m h e u)))
+          (λ m i. false_from_ne_true (Uses Count n m) (λ u. not_later m i (used_below Count Count n m h e u)))
 
       itself : (m : ℕ) → IsIn m (Added e.q) → (n ≡ m) ⊎ (Round e.q m ≡ true) → m ≡ n
       itself m i (inl s) = sym s

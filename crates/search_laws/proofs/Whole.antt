@@ -1,15 +1,18 @@
 -- Where no limit was passed, each goal is taken and each goal that it names is listed.
 use Rattle.std.proofs.Common.{◌≡◌, ℕ, zero, suc, ◌+◌, ◌≤◌, ◌<◌, ◌⊎◌, inl, inr, List, [], ◌∷◌, ◌++◌, length, Bool, true, false, cond, nat_lt, Option, Some, None, slice_get, refl, ap, sym, ◌∙◌, subst, arith, length-append}
 use Rattle.std.proofs.lemmas.Bool.{and_parts, and_from, ltb-true}
-use Rattle.std.proofs.lemmas.Option.{slice_get_past, slice_get_within}
+use Rattle.std.proofs.lemmas.Option.{slice_get_past, slice_get_within, same_Some}
 use Rattle.std.proofs.lemmas.List.{append-nil, append_assoc}
 use Rattle.documents.specs.Tests.{every}
 use Rattle.goals.specs.Signed.{Signed}
 use Rattle.alternatives.specs.Alternative.{named, places}
-use Rattle.alternatives.specs.Limit.{LimitKind, Goals, Total}
+use Rattle.alternatives.specs.Limit.{Goals, Total}
 use Rattle.alternatives.specs.Expansion.{Expansion, first_limit}
 use Rattle.search.specs.Explored.{Found, found, is_listed, mention, mention_goals, take_goal, step, after, explored}
 use Rattle.search_laws.proofs.Numbers.{still_listed, last_listed}
+use Rattle.list_laws.proofs.Lists.{slice_get-append}
+use Rattle.expansion_laws.proofs.Kept.{first_some}
+use Rattle.list_laws.proofs.Numbers.{below_suc}
 
 pub record Longer (gs hs : List (List Signed)) : Type 0 where
   pub more : List (List Signed)
@@ -33,34 +36,13 @@ all_still gs hs (x ∷ xs) a e =
     let (h, t) = and_parts (is_listed gs x) (every (is_listed gs) xs) e in
     and_from _ _ (listed_on gs hs x a h) (all_still gs hs xs a t)
 
-get_before : {A : Type 0} (xs ys : List A) (i : ℕ) → i < length xs → slice_get (xs ++ ys) i ≡ slice_get xs i
-get_before [] ys i l = absurd (omega (arith, l))
-get_before (x ∷ xs) ys zero l = refl
-get_before (x ∷ xs) ys (suc i) l = get_before xs ys i (omega (arith, l))
-
-no_first : (o : Option LimitKind) (k : LimitKind) → first_limit o k ≡ None → ⊥
-no_first None k e = cc
-no_first (Some j) k e = cc
-
-below : (n m : ℕ) → n < suc m → (n < m) ⊎ (n ≡ m)
-below zero zero l = inr refl
-below zero (suc m) l = inl (omega arith)
-below (suc n) zero l = absurd (omega (arith, l))
-below (suc n) (suc m) l = go (below n m (omega (arith, l))) where
-  go : (n < m) ⊎ (n ≡ m) → (suc n < suc m) ⊎ (suc n ≡ suc m)
-  go (inl k) = inl (omega (arith, k))
-  go (inr e) = inr (ap suc e)
-
 none_past : {A : Type 0} (xs : List A) (i : ℕ) → slice_get xs i ≡ None → length xs ≤ i
 none_past [] i e = omega arith
 none_past (x ∷ xs) zero e = cc
 none_past (x ∷ xs) (suc i) e = omega (arith, none_past xs i e)
 
-some_same : {A : Type 0} {x y : A} → Some x ≡ Some y → x ≡ y
-some_same e = cc
-
 module _ (most : ℕ) where
-  mention_cases : (P : Found → Type 0) (s : Found) (g : List Signed) → P s
+  pub mention_cases : (P : Found → Type 0) (s : Found) (g : List Signed) → P s
       → P (found (s.goals ++ g ∷ []) s.taken s.places s.over)
       → P (found s.goals s.taken s.places (first_limit s.over Goals)) → P (mention most s g)
   mention_cases P s g p q r = go (is_listed s.goals g) (nat_lt (length s.goals) most) where
@@ -72,7 +54,7 @@ module _ (most : ℕ) where
     go false true = q
     go false false = r
 
-  taken_kept : (s : Found) (xs : List (List Signed)) → (mention_goals most s xs).taken ≡ s.taken
+  pub taken_kept : (s : Found) (xs : List (List Signed)) → (mention_goals most s xs).taken ≡ s.taken
   taken_kept s [] = refl
   taken_kept s (x ∷ xs) = taken_kept (mention most s x) xs ∙ mention_cases (λ t. t.taken ≡ s.taken) s x refl refl refl
 
@@ -89,7 +71,7 @@ module _ (most : ℕ) where
 
   over_kept : (s : Found) (g : List Signed) → (mention most s g).over ≡ None → s.over ≡ None
   over_kept s g =
-      mention_cases (λ t. t.over ≡ None → s.over ≡ None) s g (λ e. e) (λ e. e) (λ e. absurd (no_first s.over Goals e))
+      mention_cases (λ t. t.over ≡ None → s.over ≡ None) s g (λ e. e) (λ e. e) (λ e. absurd (first_some s.over Goals e))
 
   overs_kept : (s : Found) (xs : List (List Signed)) → (mention_goals most s xs).over ≡ None → s.over ≡ None
   overs_kept s [] e = e
@@ -104,7 +86,7 @@ module _ (most : ℕ) where
         (found s.goals s.taken s.places (first_limit s.over Goals))) in t.over ≡ None → is_listed t.goals g ≡ true)
     go true b i e = i
     go false true i e = last_listed s.goals g
-    go false false i e = absurd (no_first s.over Goals e)
+    go false false i e = absurd (first_some s.over Goals e)
 
   all_listed : (s : Found) (xs : List (List Signed)) → (mention_goals most s xs).over ≡ None
       → every (is_listed (mention_goals most s xs).goals) xs ≡ true
@@ -151,7 +133,7 @@ module _ (most : ℕ) where
         length-append
             s.goals longer.more,
       );
-      closed = λ e n x l f. go e n x f (below n s.taken (omega (arith, l, taken_kept s (Named g))));
+      closed = λ e n x l f. go e n x f (below_suc n s.taken (omega (arith, l, taken_kept s (Named g))));
     } where
       longer : Longer s.goals (mention_goals most s (named (expansion g).alternatives)).goals
       longer = all_long s (named (expansion g).alternatives)
@@ -159,7 +141,7 @@ module _ (most : ℕ) where
       before : (n : ℕ) → n ≤ s.taken
           → slice_get (mention_goals most s (named (expansion g).alternatives)).goals n ≡ slice_get s.goals n
       before n l = ap (λ gs. slice_get gs n) longer.is
-          ∙ get_before s.goals longer.more n (omega (arith, l, slice_get_within s.goals s.taken g at))
+          ∙ slice_get-append s.goals longer.more n (omega (arith, l, slice_get_within s.goals s.taken g at))
 
       go : (mention_goals most s (named (expansion g).alternatives)).over ≡ None → (n : ℕ) (x : List Signed)
           → slice_get (mention_goals most s (named (expansion g).alternatives)).goals n ≡ Some x
@@ -172,7 +154,7 @@ module _ (most : ℕ) where
           (h.closed (overs_kept s (named (expansion g).alternatives) e) n x l (sym (before n (omega (arith, l))) ∙ f))
       go e n x f (inr q) =
           let same : g ≡ x =
-          some_same (sym at ∙ sym (ap (slice_get s.goals) q) ∙ sym (before n (omega (arith, q))) ∙ f) in
+          same_Some _ _ (sym at ∙ sym (ap (slice_get s.goals) q) ∙ sym (before n (omega (arith, q))) ∙ f) in
           subst (λ y. every (is_listed (mention_goals most s (named (expansion g).alternatives)).goals)
           (named (expansion y).alternatives) ≡ true) same (all_listed s (named (expansion g).alternatives) e)
 
@@ -205,7 +187,7 @@ module _ (most : ℕ) where
       go None at = h
       go (Some g) at = by (nat_lt most_total (s.places + places (expansion g).alternatives)) where
         by : (b : Bool) → Sound (cond b (found s.goals s.taken s.places (first_limit s.over Total)) (Counted s g))
-        by true = record { fit = h.fit; within = h.within; closed = λ e. absurd (no_first s.over Total e) }
+        by true = record { fit = h.fit; within = h.within; closed = λ e. absurd (first_some s.over Total e) }
         by false = taking s g at h
 
     after_sound : (n : ℕ) (s : Found) → Sound s → Sound (after most most_total expansion n s)
@@ -223,7 +205,7 @@ module _ (most : ℕ) where
       go (Some g) at = by (nat_lt most_total (s.places + places (expansion g).alternatives)) where
         by : (b : Bool) → (let t = cond b (found s.goals s.taken s.places (first_limit s.over Total)) (Counted s g) in
             t.over ≡ None → (t.taken ≡ suc s.taken) ⊎ (length s.goals ≤ s.taken))
-        by true e = absurd (no_first s.over Total e)
+        by true e = absurd (first_some s.over Total e)
         by false e = inl (ap suc (taken_kept s (Named g)))
 
     step_over : (s : Found) → (step most most_total expansion s).over ≡ None → s.over ≡ None
@@ -234,7 +216,7 @@ module _ (most : ℕ) where
         by : (b : Bool)
             → (let t = cond b (found s.goals s.taken s.places (first_limit s.over Total)) (Counted s g) in t.over ≡ None
             → s.over ≡ None)
-        by true e = absurd (no_first s.over Total e)
+        by true e = absurd (first_some s.over Total e)
         by false e = overs_kept s (Named g) e
 
     rests : (s : Found) → length s.goals ≤ s.taken → step most most_total expansion s ≡ s

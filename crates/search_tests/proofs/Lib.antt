@@ -1,8 +1,6 @@
 -- The words of the expanders that tests have.
 mod OneWord
-mod NoWords
 mod SmallWords
-mod TestWords
 -- Tables and sets that tests make.
 mod Truths
 mod TestSets

@@ -116,7 +116,7 @@ impl Expander for Rows {
         })
     }
 
-    #[tactic(auto, using(crate::proofs::NoWords::no_words))]
+    #[tactic(auto, using(js_explore::proofs::NoWords::no_words))]
     fn words(
         &self,
         alloc: Global,

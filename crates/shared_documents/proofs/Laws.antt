@@ -1,6 +1,6 @@
 -- The document of a part is built of those of the parts that it names; further parts change none.
 use Rattle.std.proofs.Common.{◌≡◌, ℕ, zero, suc, ◌+◌, ◌<◌, List, [], ◌∷◌, ◌++◌, map, length, true, ◌&&◌, None, nat_lt, nat_le, refl, sym, ap, ap₂, ◌∙◌, arith}
-use Rattle.std.proofs.lemmas.Bool.{and_parts, and_from}
+use Rattle.std.proofs.lemmas.Bool.{and_parts, and_from, ltb-true}
 use Rattle.std.specs.List.{find}
 use Rattle.documents.specs.Tests.{every}
 use Rattle.documents.specs.Document as D
@@ -9,16 +9,13 @@ use Rattle.shared_documents.specs.Unshared.{built, unshared_within, unshared}
 
 -- ---- numbers below n
 
-less_by : (i n : ℕ) → nat_lt i n ≡ true → i < n
-less_by i n h = grind (arith, h)
-
 -- lists that are mapped alike below n
 mapped_below : {A : Type 0} (f g : ℕ → A) (n : ℕ) (is : List ℕ) → every (λ i. nat_lt i n) is ≡ true
     → ((i : ℕ) → i < n → f i ≡ g i) → map f is ≡ map g is
 mapped_below f g n [] h same = refl
 mapped_below f g n (i ∷ is) h same =
     let both = and_parts (nat_lt i n) (every (λ j. nat_lt j n) is) h in
-    ap₂ (λ x xs. x ∷ xs) (same i (less_by i n both.0)) (mapped_below f g n is both.1 same)
+    ap₂ (λ x xs. x ∷ xs) (same i (ltb-true i n both.0)) (mapped_below f g n is both.1 same)
 
 members_below : (f g : ℕ → D.Document) (n : ℕ) (ms : List (List ℕ × ℕ))
     → every (λ i. nat_lt i n) (map (λ m. m.1) ms) ≡ true → ((i : ℕ) → i < n → f i ≡ g i)
@@ -26,7 +23,7 @@ members_below : (f g : ℕ → D.Document) (n : ℕ) (ms : List (List ℕ × ℕ
 members_below f g n [] h same = refl
 members_below f g n (m ∷ ms) h same =
     let both = and_parts (nat_lt m.1 n) (every (λ j. nat_lt j n) (map (λ m. m.1) ms)) h in
-    ap₂ (λ x xs. x ∷ xs) (ap (λ d. (m.0, d)) (same m.1 (less_by m.1 n both.0))) (members_below f g n ms both.1 same)
+    ap₂ (λ x xs. x ∷ xs) (ap (λ d. (m.0, d)) (same m.1 (ltb-true m.1 n both.0))) (members_below f g n ms both.1 same)
 
 -- a document is built alike of documents that are the same below n
 pub built-same : (f g : ℕ → D.Document) (n : ℕ) (p : Part) → names_below n p ≡ true

@@ -1,6 +1,6 @@
 -- Where a match ends, by the flags of the positions that are read last.
 use Rattle.std.proofs.lemmas.Bool.{and_parts, and_from, false≢true, ltb-false, eqb-true, eq-eqb}
-use Rattle.std.proofs.Common.{◌≡◌, ℕ, zero, suc, ◌+◌, ◌-◌, ◌<◌, Bool, true, false, ◌&&◌, ◌||◌, nat_lt, nat_eq, List, [], ◌∷◌, ◌++◌, length, slice_index, flat_map, if◌then◌else◌, Some, None, refl, sym, ◌∙◌, ap, subst, arith, append-nil}
+use Rattle.std.proofs.Common.{◌≡◌, ℕ, zero, suc, ◌+◌, ◌-◌, ◌<◌, Bool, true, false, ◌&&◌, ◌||◌, nat_lt, nat_eq, List, [], ◌∷◌, ◌++◌, length, slice_index, flat_map, if◌then◌else◌, Some, None, refl, sym, ◌∙◌, ap, subst, arith, append-nil, suc-add}
 use Rattle.std.specs.List.{list_any}
 use Rattle.patterns.specs.CharSet.{has}
 use Rattle.patterns.specs.Tree.{Tree, Trees, empty, one_of, at_start, at_end, in_turn, either, repeated, no_trees, tree}
@@ -12,9 +12,12 @@ use Rattle.word_states.specs.Position.{count_of}
 use Rattle.word_states.specs.LastRead.{reads_end, in_copies, in_copies_on, last_read, last_read_in_turn, last_read_of_one}
 use Rattle.word_states.specs.PatternState.{without_end, all_without_end}
 use Rattle.state_laws.specs.Flow.{is_among, through_some, through_copies, through_copies_on, ends_here, ends_here_in_turn, ends_here_of_one}
-use Rattle.state_laws.proofs.Places.{same_truth, in_any, from_any, in_among, from_among, Same, same_self, same_back, any_same, below, below_same, below_lacks, flat_flat, flat_same, flat_single, among_append, among_both}
+use Rattle.state_laws.proofs.Places.{in_among, from_among, Same, same_self, same_back, any_same, below, below_same, below_lacks, flat_flat, flat_same, flat_single, among_append, among_both}
 use Rattle.state_laws.proofs.Pieces.{same_ends, pieces, piece, pieces_end, piece_pieces}
 use Rattle.state_laws.proofs.Flags.{Agrees, agrees_left, agrees_right, length_read}
+use Rattle.list_laws.proofs.Numbers.{suc-sub_one}
+use Rattle.list_laws.proofs.Booleans.{same_test}
+use Rattle.list_laws.proofs.Tests.{in_any, from_any}
 
 copies_same : (f g : List ℕ → List Bool) (step go : List ℕ → List ℕ) (n : ℕ)
     → ((xs ys : List ℕ) → Same n xs ys → f xs ≡ g ys) → ((xs ys : List ℕ) → Same n xs ys → Same n (step xs) (go ys))
@@ -134,12 +137,10 @@ module _ (one : ℕ → Bool → Bool) (count n : ℕ) (f : ℕ → List ℕ) (r
       ends_some more base xs (subst (λ k. Agrees read base (in_copies reads (flat_map f) k xs)) (omega arith) a)
       ∙ ap (λ z. is_among z n) (none_first (ends_within f more) xs)
   ends_copies more (suc l) base xs a =
-      let a' = subst (λ k. Agrees read base (in_copies reads (flat_map f) k xs)) (next l more) a in
+      let a' = subst (λ k. Agrees read base (in_copies reads (flat_map f) k xs)) (suc-add l more) a in
       ap (through_copies one count more l (base + count)) (ends_one base xs (agrees_left read base (reads xs) _ a'))
       ∙ ends_copies more l (base + count) (flat_map f xs) (later base xs _ a')
-      ∙ ap (λ z. is_among z n) (sym (shift (ends_within f more) l xs)) where
-        next : (l more : ℕ) → suc l + more ≡ suc (l + more)
-        next l more = omega arith
+      ∙ ap (λ z. is_among z n) (sym (shift (ends_within f more) l xs))
 
   module _ (all : List ℕ → List ℕ) (len : ℕ)
       (all_is : (xs : List ℕ) → all xs ≡ flat_map (λ i. flat_map (ends_within f len) (i ∷ [])) xs)
@@ -160,7 +161,7 @@ module _ (one : ℕ → Bool → Bool) (count n : ℕ) (f : ℕ → List ℕ) (r
 module _ (w : List ℕ) (read : ℕ → Bool) where
   leaf_ends : (ranges : List (ℕ × ℕ)) (xs : List ℕ)
       → list_any (reads_end ranges w) xs ≡ is_among (flat_map (ends (one_of ranges) w) xs) (length w)
-  leaf_ends ranges xs = same_truth _ _ to from where
+  leaf_ends ranges xs = same_test _ _ to from where
     to : list_any (reads_end ranges w) xs ≡ true → is_among (flat_map (ends (one_of ranges) w) xs) (length w) ≡ true
     to h =
         let (i, a, t) = from_any (reads_end ranges w) xs h in
@@ -179,21 +180,21 @@ module _ (w : List ℕ) (read : ℕ → Bool) where
   start_ends : (v : List ℕ) (xs : List ℕ)
       → is_among xs (length v) && is_empty v ≡ is_among (flat_map (ends at_start v) xs) (length v)
   start_ends [] xs =
-      same_truth _ _
+      same_test _ _
       (λ h. in_among 0 _ (in_flat_map (ends at_start []) 0 0 xs (from_among 0 xs (and_parts (is_among xs 0) true h).0)
       (complete at_start [] 0 0 (omega arith) (refl, refl))))
       (λ h. let (i, a, k) = from_flat_map (ends at_start []) 0 xs (from_among 0 _ h) in
       let (e, f) = sound at_start [] i 0 k in
       and_from _ _ (in_among 0 xs (subst (λ z. IsIn z xs) e a)) refl)
   start_ends (c ∷ v) xs =
-      same_truth _ _ (λ h. absurd (false≢true (and_parts (is_among xs (length (c ∷ v))) false h).1))
+      same_test _ _ (λ h. absurd (false≢true (and_parts (is_among xs (length (c ∷ v))) false h).1))
       (λ h. let (i, a, k) = from_flat_map (ends at_start (c ∷ v)) (length (c ∷ v)) xs
       (from_among (length (c ∷ v)) _ h) in
       let (e, f) = sound at_start (c ∷ v) i (length (c ∷ v)) k in absurd (omega (arith, f)))
 
   end_ends : (xs : List ℕ) → is_among xs (length w) && true ≡ is_among (flat_map (ends at_end w) xs) (length w)
   end_ends xs =
-      same_truth _ _
+      same_test _ _
       (λ h. in_among (length w) _ (in_flat_map (ends at_end w) (length w) (length w) xs
       (from_among (length w) xs (and_parts (is_among xs (length w)) true h).0)
       (complete at_end w (length w) (length w) (omega arith) (refl, refl))))
@@ -247,9 +248,6 @@ module _ (w : List ℕ) (read : ℕ → Bool) where
       (subst (λ k. Agrees read base (in_copies (λ some. last_read t w some) (flat_map (ends t w)) k xs))
       (omega (arith, ltb-false high low e)) a)
 
-  one_less : (low : ℕ) → suc low - 1 ≡ low
-  one_less low = omega arith
-
   mutual
     -- the flags of the positions that are read last say whether a match ends here
     pub ends_law : (t : Tree) → EndsHere t
@@ -266,7 +264,7 @@ module _ (w : List ℕ) (read : ℕ → Bool) where
         (ends_law t) (pieces t w) (length w) (λ xs. refl) (ends_last t (ends_law t)) low base xs
         (subst
         (λ k. Agrees read base (in_copies_on (λ some. last_read t w some) (flat_map (ends t w)) (pieces t w) k xs))
-        (one_less low) a)
+        (suc-sub_one low) a)
     ends_law (repeated t low (Some high)) base xs a =
         bounded t (ends_law t) low high base xs a (nat_lt high low) refl
 

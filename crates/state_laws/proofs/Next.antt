@@ -1,6 +1,6 @@
 -- Which positions read one more character.
 use Rattle.std.proofs.lemmas.Bool.{and_parts, and_from, eqb-true, eq-eqb}
-use Rattle.std.proofs.Common.{◌≡◌, ℕ, zero, suc, ◌+◌, ◌-◌, ◌<◌, Bool, true, false, ◌&&◌, ◌||◌, nat_lt, nat_eq, List, [], ◌∷◌, ◌++◌, length, slice_index, flat_map, if◌then◌else◌, Some, None, refl, sym, ◌∙◌, ap, subst, arith, length-append}
+use Rattle.std.proofs.Common.{◌≡◌, ℕ, zero, suc, ◌+◌, ◌-◌, ◌<◌, Bool, true, false, ◌&&◌, ◌||◌, nat_lt, nat_eq, List, [], ◌∷◌, ◌++◌, length, slice_index, flat_map, if◌then◌else◌, Some, None, refl, sym, ◌∙◌, ap, subst, arith}
 use Rattle.std.specs.List.{list_any}
 use Rattle.patterns.specs.CharSet.{has}
 use Rattle.patterns.specs.Tree.{Tree, Trees, empty, one_of, at_start, at_end, in_turn, either, repeated, no_trees, tree}
@@ -10,10 +10,13 @@ use Rattle.word_states.specs.Position.{count_of}
 use Rattle.word_states.specs.LastRead.{reads_end, in_copies, in_copies_on, last_read, last_read_in_turn, last_read_of_one}
 use Rattle.word_states.specs.PatternState.{without_end, all_without_end}
 use Rattle.state_laws.specs.Flow.{is_among, through_some, through_copies, through_copies_on, ends_here, ends_here_in_turn, ends_here_of_one, next_copies, next_copies_on, reads_next, reads_next_in_turn, reads_next_of_one}
-use Rattle.state_laws.proofs.Places.{same_truth, in_any, from_any, in_among, from_among, Same}
+use Rattle.state_laws.proofs.Places.{in_among, from_among, Same}
 use Rattle.state_laws.proofs.Pieces.{same_ends}
 use Rattle.state_laws.proofs.Flags.{Agrees, agrees_left, agrees_right, length_read, count_open}
 use Rattle.state_laws.proofs.Ends.{read_open, steps_open, ends_law, ends_pieces}
+use Rattle.list_laws.proofs.Lists.{length-end}
+use Rattle.list_laws.proofs.Booleans.{same_test}
+use Rattle.list_laws.proofs.Tests.{in_any, from_any}
 
 -- ---- without end assertions it is as where a character comes next
 module _ (one two : ℕ → Bool → Bool) (same : (base : ℕ) (b : Bool) → one base b ≡ two base b) where
@@ -96,9 +99,6 @@ earlier_index [] c i l = absurd (omega arith)
 earlier_index (d ∷ w) c zero l = refl
 earlier_index (d ∷ w) c (suc i) l = earlier_index w c i (omega arith)
 
-pub longer_is : (w : List ℕ) (c : ℕ) → length (w ++ c ∷ []) ≡ suc (length w)
-longer_is w c = length-append w (c ∷ []) ∙ omega arith
-
 module _ (w : List ℕ) (c : ℕ) (read : ℕ → Bool) where
   abbrev longer : List ℕ
   longer = w ++ c ∷ []
@@ -107,7 +107,7 @@ module _ (w : List ℕ) (c : ℕ) (read : ℕ → Bool) where
   pub steps_longer : (t : Tree) (xs ys : List ℕ) → Same (suc (length w)) xs ys
       → Same (suc (length w)) (flat_map (ends t longer) xs) (flat_map (ends (without_end t) w) ys)
   steps_longer =
-      same_ends longer w (suc (length w)) (omega (arith, longer_is w c)) (omega arith)
+      same_ends longer w (suc (length w)) (omega (arith, length-end w c)) (omega arith)
       (λ i l. earlier_index w c i (omega (arith, l)))
 
   abbrev one : Tree → ℕ → Bool → Bool
@@ -122,12 +122,12 @@ module _ (w : List ℕ) (c : ℕ) (read : ℕ → Bool) where
 
   leaf_next : (ranges : List (ℕ × ℕ)) (xs ys : List ℕ) → Same (suc (length w)) xs ys
       → list_any (reads_end ranges longer) xs ≡ is_among ys (length w) && has ranges c
-  leaf_next ranges xs ys s = same_truth _ _ to from where
+  leaf_next ranges xs ys s = same_test _ _ to from where
     to : list_any (reads_end ranges longer) xs ≡ true → (is_among ys (length w) && has ranges c) ≡ true
     to h =
         let (i, a, t) = from_any (reads_end ranges longer) xs h in
         let (u, v) = and_parts (nat_eq (suc i) (length longer)) (has ranges (slice_index longer i)) t in
-        let e : i ≡ length w = omega (arith, eqb-true (suc i) (length longer) u, longer_is w c) in
+        let e : i ≡ length w = omega (arith, eqb-true (suc i) (length longer) u, length-end w c) in
         and_from _ _ (in_among (length w) ys (s.0 (length w) (omega arith) (subst (λ z. IsIn z xs) e a)))
         (subst (λ z. has ranges z ≡ true) (ap (slice_index longer) e ∙ last_index w c) v)
 
@@ -135,7 +135,7 @@ module _ (w : List ℕ) (c : ℕ) (read : ℕ → Bool) where
     from h =
         let (u, v) = and_parts (is_among ys (length w)) (has ranges c) h in
         in_any (reads_end ranges longer) (length w) xs (s.1 (length w) (omega arith) (from_among (length w) ys u))
-        (and_from _ _ (eq-eqb (suc (length w)) (length longer) (sym (longer_is w c)))
+        (and_from _ _ (eq-eqb (suc (length w)) (length longer) (sym (length-end w c)))
         (subst (λ z. has ranges z ≡ true) (sym (last_index w c)) v))
 
   abbrev Next : Tree → Type 0

@@ -1,32 +1,13 @@
 -- Lists of places as sets: what is among them, what of them lies below a number, and what comes of them all.
-use Rattle.std.proofs.lemmas.Bool.{or_cases, or_left, or_right, false_from_ne_true, false≢true, eqb-true, eq-eqb, ltb-true, ltb-false}
+use Rattle.std.proofs.lemmas.Bool.{or_cases, or_left, or_right, false_from_ne_true, eqb-true, eq-eqb, ltb-true, ltb-false}
 use Rattle.std.proofs.Common.{◌≡◌, ℕ, ◌<◌, inl, inr, ⊎_elim, Bool, true, false, ◌||◌, nat_lt, nat_eq, List, [], ◌∷◌, ◌++◌, flat_map, if◌then◌else◌, refl, sym, ◌∙◌, ap, subst, arith}
 use Rattle.std.proofs.lemmas.Grind.{flat_map-append}
 use Rattle.std.specs.List.{list_any}
 use Rattle.list_laws.proofs.Lists.{in_left, in_right, in_append, in_flat_map, from_flat_map}
 use Rattle.list_laws.specs.In.{IsIn}
 use Rattle.state_laws.specs.Flow.{is_among}
-
--- two tests that are true together are equal
-pub same_truth : (a b : Bool) → (a ≡ true → b ≡ true) → (b ≡ true → a ≡ true) → a ≡ b
-same_truth true b f g = sym (f refl)
-same_truth false true f g = g refl
-same_truth false false f g = refl
-
-pub in_any : {A : Type 0} (test : A → Bool) (x : A) (xs : List A) → IsIn x xs → test x ≡ true
-    → list_any test xs ≡ true
-in_any test x [] h t = absurd h
-in_any test x (y ∷ ys) (inl e) t = or_left (test y) _ (subst (λ z. test z ≡ true) e t)
-in_any test x (y ∷ ys) (inr h) t = or_right (test y) _ (in_any test x ys h t)
-
-pub from_any : {A : Type 0} (test : A → Bool) (xs : List A) → list_any test xs ≡ true
-    → (x : A) × IsIn x xs × (test x ≡ true)
-from_any test [] h = absurd (false≢true h)
-from_any test (y ∷ ys) h =
-    elim (or_cases (test y) (list_any test ys) h) [
-      | inl e ↦ (y, inl refl, e)
-      | inr e ↦ let (x, i, t) = from_any test ys e in (x, inr i, t)
-    ]
+use Rattle.list_laws.proofs.Booleans.{same_test}
+use Rattle.list_laws.proofs.Tests.{in_any, from_any}
 
 pub in_among : (j : ℕ) (js : List ℕ) → IsIn j js → is_among js j ≡ true
 in_among j js h = in_any (nat_eq j) j js h (eq-eqb j j refl)
@@ -38,7 +19,7 @@ from_among j js h =
 pub same_among : (j : ℕ) (xs ys : List ℕ) → (IsIn j xs → IsIn j ys) → (IsIn j ys → IsIn j xs)
     → is_among xs j ≡ is_among ys j
 same_among j xs ys f g =
-    same_truth _ _ (λ h. in_among j ys (f (from_among j xs h))) (λ h. in_among j xs (g (from_among j ys h)))
+    same_test _ _ (λ h. in_among j ys (f (from_among j xs h))) (λ h. in_among j xs (g (from_among j ys h)))
 
 -- what lies below n in one list lies in the other
 abbrev pub Fits : ℕ → List ℕ → List ℕ → Type 0
@@ -61,7 +42,7 @@ any_fits test n xs ys b f h =
 
 pub any_same : (test : ℕ → Bool) (n : ℕ) (xs ys : List ℕ) → ((i : ℕ) → test i ≡ true → i < n) → Same n xs ys
     → list_any test xs ≡ list_any test ys
-any_same test n xs ys b s = same_truth _ _ (any_fits test n xs ys b s.0) (any_fits test n ys xs b s.1)
+any_same test n xs ys b s = same_test _ _ (any_fits test n xs ys b s.0) (any_fits test n ys xs b s.1)
 
 -- those that lie below n
 abbrev pub below : ℕ → List ℕ → List ℕ
@@ -111,7 +92,7 @@ flat_single (x ∷ xs) = ap (λ r. x ∷ r) (flat_single xs)
 
 pub among_append : (j : ℕ) (xs ys : List ℕ) → is_among (xs ++ ys) j ≡ is_among xs j || is_among ys j
 among_append j xs ys =
-    same_truth _ _
+    same_test _ _
     (λ h. ⊎_elim (λ a. or_left _ _ (in_among j xs a)) (λ b. or_right _ _ (in_among j ys b))
     (in_append j xs ys (from_among j (xs ++ ys) h)))
     (λ h. in_among j (xs ++ ys) (⊎_elim (λ a. in_left j xs ys (from_among j xs a))
@@ -121,7 +102,7 @@ among_append j xs ys =
 -- what comes of two functions at each place
 pub among_both : (f g : ℕ → List ℕ) (j : ℕ) (xs : List ℕ)
     → is_among (flat_map (λ i. f i ++ g i) xs) j ≡ is_among (flat_map f xs) j || is_among (flat_map g xs) j
-among_both f g j xs = same_truth _ _ to from where
+among_both f g j xs = same_test _ _ to from where
   to : is_among (flat_map (λ i. f i ++ g i) xs) j ≡ true
       → (is_among (flat_map f xs) j || is_among (flat_map g xs) j) ≡ true
   to h =

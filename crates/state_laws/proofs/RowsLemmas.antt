@@ -1,19 +1,12 @@
 -- Lists of flags, joined position by position.
-use Rattle.std.proofs.Common.{◌≡◌, ℕ, zero, suc, ◌+◌, ◌-◌, ◌*◌, max, Bool, true, false, ◌&&◌, ◌||◌, List, [], ◌∷◌, ◌++◌, length, Some, None, refl, sym, ◌∙◌, ap, ap₂, arith, length-append}
-use Rattle.std.proofs.Math.Bool.{or-false, and-false}
+use Rattle.std.proofs.Common.{◌≡◌, ℕ, zero, suc, ◌+◌, ◌-◌, ◌*◌, max, Bool, false, ◌&&◌, ◌||◌, List, [], ◌∷◌, ◌++◌, length, Some, None, refl, sym, ◌∙◌, ap, ap₂, arith, length-append}
+use Rattle.std.proofs.Math.Bool.{or-false, and-false, and-or_distrib_right}
 use Rattle.patterns.specs.CharSet.{has}
 use Rattle.patterns.specs.Tree.{Tree, Trees, empty, one_of, at_start, at_end, in_turn, either, repeated, no_trees, tree}
 use Rattle.word_states.specs.Position.{count_of, count_in, copies, times, sets_of, sets_in}
 use Rattle.state_laws.specs.Flow.{ends_here, next_copies, next_copies_on, flag_at}
 use Rattle.state_laws.specs.Rows.{or_each, and_each, no_flags, sets_have, may_follow, may_follow_in_turn, may_follow_of_one}
 use Rattle.state_laws.specs.UnionLaws.{FlagsJoin}
-
-pub and_joined : (a b c : Bool) → ((a || b) && c) ≡ ((a && c) || (b && c))
-and_joined true true true = refl
-and_joined true true false = refl
-and_joined true false true = refl
-and_joined true false false = refl
-and_joined false b c = refl
 
 -- ---- what either list has
 pub or_each_none : (xs : List Bool) → or_each xs [] ≡ xs
@@ -52,7 +45,7 @@ pub and_each_or : (xs ys zs : List Bool)
 and_each_or [] ys zs = refl
 and_each_or (x ∷ xs) [] zs = sym (or_each_none (and_each (x ∷ xs) zs))
 and_each_or (x ∷ xs) (y ∷ ys) [] = refl
-and_each_or (x ∷ xs) (y ∷ ys) (z ∷ zs) = ap₂ (λ b bs. b ∷ bs) (and_joined x y z) (and_each_or xs ys zs)
+and_each_or (x ∷ xs) (y ∷ ys) (z ∷ zs) = ap₂ (λ b bs. b ∷ bs) (and-or_distrib_right x y z) (and_each_or xs ys zs)
 
 pub and_each_no_flags : (n : ℕ) (ys : List Bool) → length ys ≡ n → and_each (no_flags n) ys ≡ no_flags n
 and_each_no_flags zero ys e = refl
@@ -75,7 +68,7 @@ no_flags_append (suc m) n zero e = absurd (omega (arith, e))
 no_flags_append (suc m) n (suc k) e = ap (λ z. false ∷ z) (no_flags_append m n k (omega (arith, e)))
 
 -- ---- one flag a position
-length_copies : (next : ℕ → Bool → List Bool) (one : ℕ → Bool → Bool) (count : ℕ)
+pub length_copies : (next : ℕ → Bool → List Bool) (one : ℕ → Bool → Bool) (count : ℕ)
     → ((base : ℕ) (b : Bool) → length (next base b) ≡ count) → (n base : ℕ) (b : Bool)
     → length (next_copies next one count n base b) ≡ n * count
 length_copies next one count f zero base b = omega arith
@@ -83,7 +76,7 @@ length_copies next one count f (suc n) base b =
     length-append (next base b) (next_copies next one count n (base + count) (one base b))
     ∙ omega (arith, f base b, length_copies next one count f n (base + count) (one base b))
 
-length_copies_on : (next : ℕ → Bool → List Bool) (one : ℕ → Bool → Bool) (count : ℕ)
+pub length_copies_on : (next : ℕ → Bool → List Bool) (one : ℕ → Bool → Bool) (count : ℕ)
     → ((base : ℕ) (b : Bool) → length (next base b) ≡ count) → (n base : ℕ) (b : Bool)
     → length (next_copies_on next one count n base b) ≡ suc n * count
 length_copies_on next one count f zero base b = omega (arith, f base (b || one base false))

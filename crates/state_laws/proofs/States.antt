@@ -6,18 +6,20 @@ use Rattle.patterns.specs.CharSet.{has}
 use Rattle.patterns.specs.Tree.{Tree, Trees, empty, one_of, at_start, at_end, in_turn, either, repeated, no_trees, tree}
 use Rattle.patterns.specs.Match.{Matches, MatchesInTurn, MatchesOne, IsFoundIn}
 use Rattle.patterns.specs.Decision.{ends, is_empty, finds}
-use Rattle.list_laws.proofs.Lists.{in_left, in_right, in_append, in_flat_map, from_flat_map}
+use Rattle.list_laws.proofs.Lists.{in_left, in_right, in_append, in_flat_map, from_flat_map, length-end}
 use Rattle.list_laws.specs.In.{IsIn}
 use Rattle.pattern_laws.proofs.Decides.{sound, complete, finds-decides}
 use Rattle.word_states.specs.LastRead.{reads_end, in_copies, in_copies_on, last_read, last_read_in_turn, last_read_of_one}
 use Rattle.word_states.specs.PatternState.{done, reading, without_end, all_without_end, places_to, numbers_from, is_done, read_flags, pattern_state}
 use Rattle.state_laws.specs.Flow.{flag_at, is_among, ends_here, reads_next, state_with, next_state, is_accepted}
 use Rattle.state_laws.specs.Laws.{BeginsWith, GoesOn, Decides}
-use Rattle.state_laws.proofs.Places.{same_truth, from_any, in_among, from_among, Same, same_self}
+use Rattle.state_laws.proofs.Places.{in_among, from_among, Same, same_self}
 use Rattle.state_laws.proofs.Pieces.{rises, repeats_same, opened, closed}
 use Rattle.state_laws.proofs.Flags.{Agrees, agrees_self, agrees_numbers}
 use Rattle.state_laws.proofs.Ends.{read_open, ends_law}
-use Rattle.state_laws.proofs.Next.{ends_open, next_law, longer_is, earlier_index}
+use Rattle.state_laws.proofs.Next.{ends_open, next_law, earlier_index}
+use Rattle.list_laws.proofs.Booleans.{same_test}
+use Rattle.list_laws.proofs.Tests.{from_any}
 
 -- ---- places
 in_places : (n j : ℕ) → j ≤ n → IsIn j (places_to n)
@@ -126,7 +128,7 @@ all_ends t w read a =
 -- a match is one that uses no end assertion, or it ends where the word ends
 finds_ends : (t : Tree) (w : List ℕ)
     → finds t w ≡ is_done t w || is_among (flat_map (ends t w) (places_to (length w))) (length w)
-finds_ends t w = same_truth _ _ to from where
+finds_ends t w = same_test _ _ to from where
   to : finds t w ≡ true
       → (is_done t w || is_among (flat_map (ends t w) (places_to (length w))) (length w)) ≡ true
   to h =
@@ -156,7 +158,7 @@ done_longer : (t : Tree) (w : List ℕ) (c : ℕ)
     ≡ is_done t w
     || is_among (flat_map (ends (without_end t) (w ++ c ∷ [])) (places_to (length (w ++ c ∷ []))))
     (length (w ++ c ∷ []))
-done_longer t w c = same_truth _ _ to from where
+done_longer t w c = same_test _ _ to from where
   to : is_done t (w ++ c ∷ []) ≡ true
       → (is_done t w
       || is_among (flat_map (ends (without_end t) (w ++ c ∷ [])) (places_to (length (w ++ c ∷ []))))
@@ -173,11 +175,11 @@ done_longer t w c = same_truth _ _ to from where
               omega (arith, rises (without_end t) (w ++ c ∷ []) i j m, l),
               omega (arith, l),
               subst (λ z. Matches z w i j) (open_twice t)
-                  (opened (w ++ c ∷ []) w (suc (length w)) (omega (arith, longer_is w c)) (omega arith)
+                  (opened (w ++ c ∷ []) w (suc (length w)) (omega (arith, length-end w c)) (omega arith)
                   (λ i l. earlier_index w c i (omega (arith, l))) (without_end t) i j l m),
             ))
         | inr l ↦
-            let e : j ≡ length (w ++ c ∷ []) = omega (arith, longer_is w c, l, b) in
+            let e : j ≡ length (w ++ c ∷ []) = omega (arith, length-end w c, l, b) in
             or_right _ _ (at_end_ends (without_end t) (w ++ c ∷ []) i
             (subst (λ z. Matches (without_end t) (w ++ c ∷ []) i z) e m))
       ]
@@ -194,9 +196,9 @@ done_longer t w c = same_truth _ _ to from where
             (finds-decides (without_end t) (w ++ c ∷ [])).1 (
               i,
               j,
-              omega (arith, a, longer_is w c),
-              omega (arith, b, longer_is w c),
-              closed (w ++ c ∷ []) w (suc (length w)) (omega (arith, longer_is w c)) (omega arith)
+              omega (arith, a, length-end w c),
+              omega (arith, b, length-end w c),
+              closed (w ++ c ∷ []) w (suc (length w)) (omega (arith, length-end w c)) (omega arith)
                   (λ i l. earlier_index w c i (omega (arith, l))) (without_end t) i j (omega (arith, b))
                   (subst (λ z. Matches z w i j) (sym (open_twice t)) m),
             )
@@ -208,7 +210,7 @@ flags_longer : (t : Tree) (w : List ℕ) (c : ℕ)
     → read_flags t (w ++ c ∷ [])
     ≡ reads_next t (is_empty w) (is_among (numbers_from 0 (read_flags t w))) c 0 true
 flags_longer t w c =
-    ap (λ n. last_read t (w ++ c ∷ []) (places_to n)) (longer_is w c)
+    ap (λ n. last_read t (w ++ c ∷ []) (places_to n)) (length-end w c)
     ∙ next_law w c (is_among (numbers_from 0 (read_flags t w))) t 0 (places_to (suc (length w))) (places_to (length w))
     (places_to (length w)) (more_places (length w)) (same_self (length w) (places_to (length w)))
     (agrees_numbers (read_flags t w))
@@ -282,7 +284,7 @@ none_copies_on reads step more f (suc n) base xs =
 
 none_at_end : (ranges : List (ℕ × ℕ)) (xs : List ℕ) → false ≡ list_any (reads_end ranges []) xs
 none_at_end ranges xs =
-    same_truth _ _ (λ h. absurd (false≢true h))
+    same_test _ _ (λ h. absurd (false≢true h))
     (λ h. let (i, a, t) = from_any (reads_end ranges []) xs h in
     let (u, v) = and_parts (nat_eq (suc i) 0) (has ranges (slice_index [] i)) t in
     let e : suc i ≡ 0 = eqb-true (suc i) 0 u in
@@ -322,7 +324,7 @@ no_numbers k base (false ∷ bs) (e, a) = no_numbers (suc k) (suc base) bs a
 -- without characters a match is found where one ends at the end
 found_in_none : (t : Tree) → is_done t [] ≡ is_among (flat_map (ends (without_end t) []) (places_to 0)) 0
 found_in_none t =
-    same_truth _ _
+    same_test _ _
     (λ h. let (i, j, a, b, m) = (finds-decides (without_end t) []).0 h in
     at_end_ends (without_end t) [] i (subst (λ z. Matches (without_end t) [] i z) (omega arith) m))
     (λ h. (finds-decides (without_end t) []).1 (ends_at_end (without_end t) [] h))

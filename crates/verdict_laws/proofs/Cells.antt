@@ -30,7 +30,7 @@ use Rattle.verdicts.specs.RowLines.{Table, stated}
 use Rattle.verdicts.specs.Bounds.{Bound, bounds_of, width_of, has_row, keeps, is_right}
 use Rattle.verdicts.specs.Leaves.{table_cells}
 use Rattle.verdict_laws.proofs.RowsTaken.{AreStated}
-use Rattle.verdict_laws.proofs.SameNames.{vector_same}
+use Rattle.finder_laws.proofs.Names.{vector_same}
 
 module _ (T : List Position) (S : List Signed) (t : Table (List ℕ)) (h : AreStated (atoms_of_names T S) t) where
   abbrev atoms : List Atom
@@ -45,7 +45,7 @@ module _ (T : List Position) (S : List Signed) (t : Table (List ℕ)) (h : AreSt
   rowed w s =
       let r = walk (to atoms t.words (stated t) h.leads) 0 w in
       let (l, e) = walked atoms t.words (stated t) h.leads 0 [] w h.first (sym (scalars_same w) ∙ s) in
-      (get_or t.words r [], in_get t.words r [] l, vector_same w (get_or t.words r []) T S e)
+      (get_or t.words r [], in_get t.words r [] l, vector_same T S w (get_or t.words r []) e)
 
   -- of cells of which no words are listed, so that none are counted
   bare_cells : AreCells T S (cells characters far 0 T S t.words)
@@ -62,7 +62,7 @@ module _ (T : List Position) (S : List Signed) (t : Table (List ℕ)) (h : AreSt
   is_in c w = nat_eq (place (vector T (naming T S) w) C.vectors) c
 
   is_in_shared : (c : ℕ) (v w : List ℕ) → have_same_state atoms v w ≡ true → is_in c v ≡ is_in c w
-  is_in_shared c v w e = ap (λ z. nat_eq (place z C.vectors) c) (vector_same v w T S e)
+  is_in_shared c v w e = ap (λ z. nat_eq (place z C.vectors) c) (vector_same T S v w e)
 
   abbrev Right : Bound → Type 0
   Right b = is_right T atoms t.words (stated t) C b ≡ true

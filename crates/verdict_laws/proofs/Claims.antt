@@ -1,13 +1,12 @@
 -- What each duty claims of documents up to a depth, and that a line leaves duties which carry the claim.
-use Rattle.std.proofs.Common.{◌≡◌, ℕ, zero, suc, ◌-◌, ◌<◌, ◌≤◌, inl, inr, ⊎_elim, Bool, true, false, ◌&&◌, cond, not, List, [], ◌∷◌, ◌++◌, map, length, nat_eq, nat_lt, nat_le, Option, Some, None, Result, Ok, Err, refl, ap, sym, ◌∙◌, subst, ℤ}
-use Rattle.std.proofs.lemmas.Bool.{and_parts, and_from, eqb-true, leb-true, ltb-true, not-true, true≢false}
+use Rattle.std.proofs.Common.{◌≡◌, ℕ, zero, suc, ◌-◌, ◌<◌, ◌≤◌, inl, inr, ⊎_elim, Bool, true, false, ◌&&◌, cond, List, [], ◌∷◌, ◌++◌, map, length, nat_eq, nat_lt, nat_le, Option, Some, None, Result, Ok, Err, refl, ap, sym, ◌∙◌, subst, ℤ}
+use Rattle.std.proofs.lemmas.Bool.{and_parts, and_from, eqb-true, leb-true, ltb-true, not-true, both_ways}
 use Rattle.documents.specs.Tests.{every, some}
 use Rattle.documents.specs.Kind as K
 use Rattle.documents.specs.Kind.{Kind, all_kinds, same_kind}
 use Rattle.documents.specs.Document.{Document, null, boolean, number, string, array, object, kind_of, depth, is_document}
-use Rattle.positions.specs.Position.{Position, BoolIs, position_at}
-use Rattle.positions.specs.Holds.{asks, holds, IsTable}
-use Rattle.position_laws.proofs.Asks.{holds-asks}
+use Rattle.positions.specs.Position.{Position}
+use Rattle.positions.specs.Holds.{holds, IsTable}
 use Rattle.goals.specs.Signed.{Signed, Plus, Minus, has, add_all, met, meets}
 use Rattle.goals.specs.Choices.{choices, is_wrong}
 use Rattle.goal_laws.proofs.Rules.{meets-clash, meets-wrong}
@@ -23,8 +22,7 @@ use Rattle.frames.specs.ArrayFrame as A
 use Rattle.frames.specs.ArrayFrame.{array_frame}
 use Rattle.frames.specs.ObjectFrame as O
 use Rattle.frame_laws.proofs.Refuted.{after_free}
-use Rattle.expansions.specs.Leaves.{plus_agrees, minus_agrees, agrees}
-use Rattle.expansion_laws.proofs.PlanLeaf.{not_crossed}
+use Rattle.expansions.specs.Leaves.{agrees}
 use Rattle.finders.specs.Strings as W
 use Rattle.finders.specs.Strings.{string_atoms}
 use Rattle.finders.specs.Names.{atoms_of_names}
@@ -40,16 +38,11 @@ use Rattle.verdicts.specs.Duties.{Form, OfArrays, Purpose, ForLengths, ForCells,
 use Rattle.verdict_laws.proofs.RowsTaken.{RowsTaken, rows_begin, rows_more, AreStated, rows_stated}
 use Rattle.verdict_laws.proofs.Lengths.{wanted_past}
 use Rattle.verdict_laws.proofs.Containers as C
-use Rattle.verdict_laws.proofs.Containers.{Free, no_array, no_object, array_bounds, object_bounds}
-
-same_kinds : (t u : Kind) → same_kind t u ≡ true → t ≡ u
-same_kinds K.Null K.Null e = refl
-same_kinds K.Boolean K.Boolean e = refl
-same_kinds K.Number K.Number e = refl
-same_kinds K.Text K.Text e = refl
-same_kinds K.Array K.Array e = refl
-same_kinds K.Object K.Object e = refl
-same_kinds _ _ e = cc
+use Rattle.verdict_laws.proofs.Containers.{Free, no_array, no_object, array_bounds}
+use Rattle.frame_laws.proofs.Ends.{at_end_down}
+use Rattle.position_laws.proofs.SameKind.{same_kind-true}
+use Rattle.expansion_laws.proofs.Scalars.{agrees_met}
+use Rattle.expansion_laws.proofs.Containers.{object_bounds}
 
 in_kinds : (t : Kind) → IsIn t all_kinds
 in_kinds K.Null = inl refl
@@ -66,43 +59,23 @@ so r false x y e = cc
 leaf_so : (u t : Kind) (r : Result (List Duty) ℕ) (es : List Duty) → leaf u t r ≡ Ok es → (u ≡ t) × (r ≡ Ok es)
 leaf_so u t r es e = go (same_kind u t) refl e where
   go : (b : Bool) → same_kind u t ≡ b → cond b r (Err other_leaf) ≡ Ok es → (u ≡ t) × (r ≡ Ok es)
-  go true h e = (same_kinds u t h, e)
+  go true h e = (same_kind-true u t h, e)
   go false h e = cc
 
-both : (b : Bool) → b ≡ true → b ≡ false → ⊥
-both b e f = true≢false (sym e ∙ f)
-
 -- truth values
-
-module _ (here : ℕ → Bool) (below : ℕ → Document → Bool) (b : Bool) where
-  plus_agrees_met : (P : Position) → asks here below P (boolean b) ≡ true → plus_agrees b P ≡ true
-  plus_agrees_met (BoolIs x) a = a
-  plus_agrees_met _ a = refl
-
-  minus_agrees_met : (P : Position) → not (asks here below P (boolean b)) ≡ true → minus_agrees b P ≡ true
-  minus_agrees_met (BoolIs x) a = a
-  minus_agrees_met _ a = refl
 
 any_truth : (b : Bool) → IsIn b (false ∷ true ∷ [])
 any_truth false = inl refl
 any_truth true = inr (inl refl)
 
 module _ (T : List Position) (ok : IsTable T) where
-  agrees_met : (b : Bool) (x : Signed) → met (λ p. holds T p (boolean b)) x ≡ true → agrees T b x ≡ true
-  agrees_met b (Plus p) h =
-      plus_agrees_met (λ q. holds T q (boolean b)) (holds T) b (position_at T p)
-      (sym (holds-asks T ok p (boolean b)) ∙ h)
-  agrees_met b (Minus p) h =
-      minus_agrees_met (λ q. holds T q (boolean b)) (holds T) b (position_at T p)
-      (ap not (sym (holds-asks T ok p (boolean b))) ∙ h)
-
   no_boolean : (S : List Signed) → has_no_truth T S ≡ true → (b : Bool) → meets T S (boolean b) ≡ true → ⊥
   no_boolean S e b m =
       let f = none_at (λ b. every (agrees T b) S) b (false ∷ true ∷ [])
       (not-true (some (λ b. every (agrees T b) S) (false ∷ true ∷ [])) e) (any_truth b) in
       let h = every_from (agrees T b) S
-      (λ x i. agrees_met b x (every_at (met (λ p. holds T p (boolean b))) x S m i)) in
-      both (every (agrees T b) S) h f
+      (λ x i. agrees_met T ok b x (every_at (met (λ p. holds T p (boolean b))) x S m i)) in
+      both_ways (every (agrees T b) S) f h
 
 abbrev pub kind_for : Purpose → Kind
 kind_for ForLengths = K.Text
@@ -160,12 +133,12 @@ module _ (T : List Position) (ok : IsTable T)
   clash_claim : (t : Kind) (S : List Signed) (p : ℕ) → (has (Plus p) S && has (Minus p) S) ≡ true → No t S
   clash_claim t S p e J good deep kind m =
       let (a, b) = and_parts (has (Plus p) S) (has (Minus p) S) e in
-      both (meets T S J) m (meets-clash T ok J S (Plus p) a b)
+      both_ways (meets T S J) (meets-clash T ok J S (Plus p) a b) m
 
   wrong_claim : (t : Kind) (S : List Signed) (x : Signed) → (has x S && is_wrong T t x) ≡ true → No t S
   wrong_claim t S x e J good deep kind m =
       let (a, b) = and_parts (has x S) (is_wrong T t x) e in
-      both (meets T S J) m (meets-wrong T ok J S x a (ap (λ u. is_wrong T u x) kind ∙ b))
+      both_ways (meets T S J) (meets-wrong T ok J S x a (ap (λ u. is_wrong T u x) kind ∙ b)) m
 
   by_boolean : (S : List Signed) → ((b : Bool) → meets T S (boolean b) ≡ true → ⊥) → No K.Boolean S
   by_boolean S h (boolean b) good deep kind m = h b m
@@ -199,11 +172,11 @@ module _ (T : List Position) (ok : IsTable T)
   open_string S w m =
       let (a, b) = wanted_from T ok S w m in
       let (c, d) = and_parts (every (W.wants T w) S) (nat_le (W.lower T S) (length w)) a in
-      not_crossed (W.lower T S) (length w) (W.below T S) (leb-true (W.lower T S) (length w) d) b
+      at_end_down (W.lower T S) (length w) (W.below T S) (leb-true (W.lower T S) (length w) d) b
 
   crossed_array : (S : List Signed) → is_at_end (A.lower T S) (A.below T S) ≡ true → No K.Array S
   crossed_array S h (array ds) good deep kind m =
-      both (is_at_end (A.lower T S) (A.below T S)) h (array_bounds T ok S ds m)
+      both_ways (is_at_end (A.lower T S) (A.below T S)) (array_bounds T ok S ds m) h
   crossed_array S h null good deep kind m = cc
   crossed_array S h (boolean b) good deep kind m = cc
   crossed_array S h (number x) good deep kind m = cc
@@ -212,7 +185,7 @@ module _ (T : List Position) (ok : IsTable T)
 
   crossed_object : (S : List Signed) → is_at_end (O.lower T S) (O.below T S) ≡ true → No K.Object S
   crossed_object S h (object ms) good deep kind m =
-      both (is_at_end (O.lower T S) (O.below T S)) h (object_bounds T ok S ms m)
+      both_ways (is_at_end (O.lower T S) (O.below T S)) (object_bounds T ok S ms m) h
   crossed_object S h null good deep kind m = cc
   crossed_object S h (boolean b) good deep kind m = cc
   crossed_object S h (number x) good deep kind m = cc
@@ -221,8 +194,9 @@ module _ (T : List Position) (ok : IsTable T)
 
   bounds_claim : (t : Kind) (S : List Signed) (es : List Duty) → by_bounds (crossed T S t) ≡ Ok es → No t S
   bounds_claim K.Text S es e =
-      by_string S (λ w good m. both (is_at_end (W.lower T S) (W.below T S))
-      (so bounds_meet (is_at_end (W.lower T S) (W.below T S)) [] es e).0 (open_string S w m))
+      by_string S
+      (λ w good m. both_ways (is_at_end (W.lower T S) (W.below T S)) (open_string S w m)
+      (so bounds_meet (is_at_end (W.lower T S) (W.below T S)) [] es e).0)
   bounds_claim K.Array S es e = crossed_array S (so bounds_meet (is_at_end (A.lower T S) (A.below T S)) [] es e).0
   bounds_claim K.Object S es e = crossed_object S (so bounds_meet (is_at_end (O.lower T S) (O.below T S)) [] es e).0
   bounds_claim K.Null S es e = cc
@@ -278,8 +252,8 @@ module _ (T : List Position) (ok : IsTable T)
         let past = (so wanted_left (least_past T S t ds) [] es e).0 in
         by_string S (λ w good m.
         let (a, b) = wanted_from T ok S w m in
-        both (is_at_end (length w) (W.below T S))
-        (wanted_past T S t k ds r past w (sym (scalars_same w) ∙ good) a) b)
+        both_ways (is_at_end (length w) (W.below T S)) b
+        (wanted_past T S t k ds r past w (sym (scalars_same w) ∙ good) a))
 
   bound_claim : (S : List Signed) (t : Table (List ℕ)) (left : ℕ) (bs : List Bound) (b : Bound) (es : List Duty)
       → after_bound T S t left bs b ≡ Ok es → Claims es → AreStated (atoms_of_names T S) t → Right S t bs

@@ -1,6 +1,6 @@
 -- Where a plan is shown to fit nothing, no array or object is arranged by it; and bounds of what meets a set aren't
 -- crossed.
-use Rattle.std.proofs.Common.{◌≡◌, ℕ, zero, suc, ◌<◌, ◌≤◌, inl, inr, ⊎_elim, Bool, true, false, ◌&&◌, not, List, [], length, Option, Some, None, refl, ap, sym, ◌∙◌, subst, arith, replicate}
+use Rattle.std.proofs.Common.{◌≡◌, ℕ, zero, suc, ◌<◌, ◌≤◌, inl, inr, ⊎_elim, Bool, true, false, ◌&&◌, List, [], length, Option, Some, None, refl, ap, sym, ◌∙◌, subst, arith, replicate}
 use Rattle.std.proofs.lemmas.Bool.{and_parts}
 use Rattle.std.proofs.lemmas.List.{length-replicate}
 use Rattle.std.specs.Option.{is_none}
@@ -11,10 +11,9 @@ use Rattle.documents.specs.Kind as K
 use Rattle.documents.specs.Kind.{Kind}
 use Rattle.documents.specs.Document.{Document, null, boolean, number, string, array, object, kind_of, elements, entries, depth, items_depth, members_depth, is_document, are_documents, are_members, is_before}
 use Rattle.documents.specs.Document as D
-use Rattle.positions.specs.Position.{Position, position_at}
+use Rattle.positions.specs.Position.{Position}
 use Rattle.positions.specs.Holds.{holds, IsTable}
-use Rattle.position_laws.proofs.Asks.{holds-asks}
-use Rattle.goals.specs.Signed.{Signed, Plus, Minus, met, meets}
+use Rattle.goals.specs.Signed.{Signed, met, meets}
 use Rattle.goals.specs.Goal.{form}
 use Rattle.goal_laws.specs.Formed.{meets_goal}
 use Rattle.goal_laws.proofs.Forms.{meets-form}
@@ -28,33 +27,21 @@ use Rattle.frames.specs.Plan.{Plan, empty_plan}
 use Rattle.frames.specs.PlanLines.{Ending, Clashes, Cites, is_cited, is_refuted}
 use Rattle.frames.specs.ArrayFrame as A
 use Rattle.frames.specs.ArrayFrame.{longest, array_frame}
-use Rattle.frames.specs.ObjectFrame as O
-use Rattle.frames.specs.ObjectFrame.{is_allowed, object_frame_with}
+use Rattle.frames.specs.ObjectFrame.{is_allowed}
 use Rattle.frame_laws.proofs.Arranged.{Arrangement, Meets, IsArranged, Fits, at_list}
 use Rattle.object_laws.proofs.Sets as OS
 use Rattle.object_laws.proofs.Numbered as ON
-use Rattle.object_laws.proofs.Literals.{IsPlus, IsMinus, is_plus, is_minus}
 use Rattle.array_laws.specs.ArrayValues.{doc_at}
 use Rattle.array_laws.proofs.Lists.{doc_in}
 use Rattle.array_laws.proofs.Sets as AS
-use Rattle.expansion_laws.proofs.PlanLeaf.{not_crossed}
 use Rattle.finders.specs.Names.{atoms_of_names}
 use Rattle.verdicts.specs.RowLines.{Table, stated}
 use Rattle.verdicts.specs.Bounds.{Bound, bounds_of, is_right}
 use Rattle.verdicts.specs.Leaves.{table_cells, stated_frame}
 use Rattle.verdict_laws.proofs.RowsTaken.{AreStated}
 use Rattle.verdict_laws.proofs.Cells.{stated_cells, stated_bounds}
-
-items_deep : (ds : D.Items) (J : Document) → IsIn J (elements ds) → depth J ≤ items_depth ds
-items_deep D.no_items J i = absurd i
-items_deep (D.item e ds) J (inl q) = let h : depth J ≡ depth e = ap depth q in omega (arith, h)
-items_deep (D.item e ds) J (inr i) = omega (arith, items_deep ds J i)
-
-items_good : (ds : D.Items) → are_documents ds ≡ true → (J : Document) → IsIn J (elements ds) → is_document J ≡ true
-items_good D.no_items a J i = absurd i
-items_good (D.item e ds) a J i =
-    let (own, more) = and_parts (is_document e) (are_documents ds) a in
-    ⊎_elim (λ q. subst (λ z. is_document z ≡ true) (sym q) own) (λ j. items_good ds more J j) i
+use Rattle.frame_laws.proofs.Ends.{at_end_down}
+use Rattle.array_laws.proofs.Halves.{items_deep, items_good}
 
 members_deep : (ms : D.Members) (m : List ℕ × Document) → IsIn m (entries ms) → depth m.1 ≤ members_depth ms
 members_deep D.no_members m i = absurd i
@@ -175,26 +162,4 @@ module _ (T : List Position) (ok : IsTable T) (S : List Signed) where
   pub array_bounds : (ds : D.Items) → meets T S (array ds) ≡ true → is_at_end (A.lower T S) (A.below T S) ≡ false
   array_bounds ds m =
       let r = AS.is_arranged T ok S ds (λ x i c. literal_met T (array ds) S m x i) in
-      not_crossed (A.lower T S) (length (elements ds)) (A.below T S) r.low r.high
-
-  module _ (ms : D.Members) (m : meets T S (object ms) ≡ true) where
-    plus_at : (p : ℕ) → IsIn (Plus p) S → IsPlus T (λ q. holds T q (object ms)) ms (position_at T p)
-    plus_at p i = is_plus T (λ q. holds T q (object ms)) ms (position_at T p)
-        (λ c. sym (holds-asks T ok p (object ms)) ∙ literal_met T (object ms) S m (Plus p) i)
-
-    minus_at : (p : ℕ) → IsIn (Minus p) S → IsMinus T (λ q. holds T q (object ms)) ms (position_at T p)
-    minus_at p i = is_minus T (λ q. holds T q (object ms)) ms (position_at T p)
-        (λ c. ap not (sym (holds-asks T ok p (object ms)))
-        ∙ literal_met T (object ms) S m (Minus p) i)
-
-    low_at : (x : Signed) → IsIn x S → O.lower_at T x ≤ length (entries ms)
-    low_at (Plus p) i = (plus_at p i).low
-    low_at (Minus p) i = (minus_at p i).low
-
-    high_at : (x : Signed) → IsIn x S → is_at_end (length (entries ms)) (O.below_at T x) ≡ false
-    high_at (Plus p) i = (plus_at p i).high
-    high_at (Minus p) i = (minus_at p i).high
-
-    pub object_bounds : is_at_end (O.lower T S) (O.below T S) ≡ false
-    object_bounds = not_crossed (O.lower T S) (length (entries ms)) (O.below T S)
-        (OS.lower_from T S (length (entries ms)) low_at) (OS.below_from T S (length (entries ms)) high_at)
+      at_end_down (A.lower T S) (length (elements ds)) (A.below T S) r.low r.high

@@ -1,25 +1,24 @@
 -- A group whose answer is that there is no number is met by none, whatever its bounds and divisors are.
-use Rattle.std.proofs.Common.{◌≡◌, ℕ, zero, suc, ◌*◌, ◌%◌, ◌^◌, ◌≤◌, ◌==◌, inl, inr, List, [], ◌∷◌, Bool, true, false, cond, ◌&&◌, ◌||◌, nat_lt, nat_le, Option, Some, None, Result, Ok, Err, ℤ, ◌≤ℤ◌, ◌<ℤ◌, unsigned_abs, int_lt, refl, ap, sym, ◌∙◌, subst, arith, if◌then◌else◌}
+use Rattle.std.proofs.Common.{◌≡◌, ℕ, zero, suc, ◌*◌, ◌%◌, ◌^◌, ◌==◌, inl, inr, List, [], ◌∷◌, Bool, true, false, cond, ◌&&◌, nat_lt, nat_le, Option, Some, None, Result, Ok, Err, ℤ, ◌≤ℤ◌, ◌<ℤ◌, unsigned_abs, refl, ap, sym, ◌∙◌, subst, arith, if◌then◌else◌}
 use Rattle.std.specs.List.{find, list_all, list_any}
 use Rattle.std.specs.Ordering.{int_eq}
 use Rattle.std.proofs.lemmas.Int.{ints}
-use Rattle.std.proofs.lemmas.Bool.{cases_lt, eqb-true, and_parts, or_cases, or_parts, not-false, not-true, true≢false, lt-ltb}
+use Rattle.std.proofs.lemmas.Bool.{cases_lt, and_parts, or_cases, or_parts, not-false, not-true, true≢false, lt-ltb}
 use Rattle.std.proofs.lemmas.Bool.Decides.{Decides-int_eq}
-use Rattle.std.proofs.lemmas.Nat.Gcd.{dvd_trans, dvd_of_mod-eq-zero}
-use Rattle.std.proofs.Math.Nat.{mul-le-mul_right, one-dvd}
+use Rattle.std.proofs.Math.Nat.{one-dvd}
 use Prim.Native.Nat.{◌∣◌}
 use Rattle.documents.specs.Numbers.{has}
 use Rattle.number_groups.specs.Cases.{Cases, Found, Empty, LimitMultiples, LimitCandidates}
 use Rattle.number_groups.specs.Multiples.{is_multiple, is_common, least_below, product_of, lcm_of}
 use Rattle.number_groups.specs.Group.{Group, is_above, is_below, is_crossed, is_met, is_struck}
-use Rattle.number_groups.specs.Outcome.{multiple_from, place, candidate, is_over, in_reach, reached, is_last, answer_at, answer_among, answer_of_multiples, answer_in, found, outcome}
+use Rattle.number_groups.specs.Outcome.{candidate, is_over, in_reach, reached, is_last, answer_at, answer_among, answer_of_multiples, answer_in, found, outcome}
 use Rattle.js_numbers.proofs.Least.{least_below-cases}
 use Rattle.js_numbers.proofs.CommonMultiples.{IsLcmOf-lcm_of}
-use Rattle.js_numbers.proofs.Sizes.{le_from, le_true}
+use Rattle.js_numbers.proofs.Sizes.{le_from, lt_from}
 use Rattle.js_numbers.proofs.Searching.{StruckBefore}
 use Rattle.js_numbers.proofs.Deciding.{lcm_of_positive, step}
-use Rattle.js_numbers.proofs.PlaceLaws.{is_multiple_from, place_below, some_place}
-use Rattle.js_numbers.proofs.AnswerLaws.{reached_Ok}
+use Rattle.js_numbers.proofs.PlaceLaws.{some_place}
+use Rattle.js_numbers.proofs.AnswerLaws.{reached_Ok, some_divides, below_before}
 
 -- what all divisors divide, their least common multiple divides; where one of them is 0 it is 1
 
@@ -41,19 +40,6 @@ lcm_divides ms x c = go (list_all (λ m. nat_lt 0 m) ms) refl where
   go true e = (IsLcmOf-lcm_of ms e).least x c
   go false e = subst (λ z. z ∣ x) (sym (lcm_one ms (no_product ms e))) (one-dvd x)
 
-struck_by_divisor : (bs : List ℕ) (m : ℕ) (x : ℤ) → m ∣ unsigned_abs x → list_any (λ b. m % b == 0) bs ≡ true
-    → list_any (λ b. is_multiple b x) bs ≡ true
-struck_by_divisor [] m x d h = cc
-struck_by_divisor (b ∷ bs) m x d h = elim (or_cases (m % b == 0) (list_any (λ c. m % c == 0) bs) h) [
-  | inl here ↦
-      ap (λ t. t || list_any (λ b. is_multiple b x) bs)
-      (is_multiple_from b x (dvd_trans b (dvd_of_mod-eq-zero b (eqb-true _ _ here)) d))
-  | inr later ↦ or_right (is_multiple b x) (list_any (λ b. is_multiple b x) bs) (struck_by_divisor bs m x d later)
-] where
-  or_right : (a b : Bool) → b ≡ true → (a || b) ≡ true
-  or_right true b h = refl
-  or_right false b h = h
-
 -- a value of a set that passes a test is found, or another one is
 found_in : (p : ℤ → Bool) (s : List ℤ) (x : ℤ) → p x ≡ true → has s x ≡ true → found (find p s) ≡ Empty → ⊥
 found_in p [] x e h f = cc
@@ -68,16 +54,6 @@ found_in p (y ∷ s) x e h f = go (p y) refl f (found_in p s x e) where
   go true q g more = let wrong : Found y ≡ Empty = sym (ap (λ b. found (cond b (Some y) (find p s))) q) ∙ g in cc
   go false q g more = more (rest q) (sym (ap (λ b. found (cond b (Some y) (find p s))) q) ∙ g)
 
--- before a candidate that isn't above the upper bound, none is
-below_before : (m : ℕ) (low high : Option ℤ) (k j : ℕ) → k ≤ j → is_below high (place m low high j) ≡ true
-    → is_below high (place m low high k) ≡ true
-below_before m (Some l) None k j le h = refl
-below_before m (Some l) (Some u) k j le h =
-    let a : multiple_from m l j ≤ℤ u = le_from (multiple_from m l j) u h in
-    let b : k * m ≤ j * m = mul-le-mul_right m le in
-    le_true (multiple_from m l k) u (omega (arith, ints))
-below_before m None high k j le h = place_below m high k
-
 -- where no candidate is left, the next one is above the upper bound
 none_left : (m : ℕ) (g : Group) (k : ℕ) → reached m g k ≡ Err Empty → is_below g.high (candidate m g k) ≡ false
 unfolding reached
@@ -90,9 +66,6 @@ none_left m g k e = go (is_below g.high (candidate m g k)) (is_over (candidate m
   go true false p q =
       let wrong : Ok (candidate m g k) ≡ Err Empty =
       sym (ap (λ t. if t then Err LimitMultiples else Ok (candidate m g k)) p) ∙ q in cc
-
-lt_from : (a b : ℤ) → int_lt a b ≡ true → a <ℤ b
-lt_from a b h = grind (arith, ints)
 
 module _ (limit : ℕ) (g : Group) (x : ℤ) (met : is_met g x ≡ true) where
   record Meets : Type 0 where
@@ -170,7 +143,7 @@ module _ (limit : ℕ) (g : Group) (x : ℤ) (met : is_met g x ≡ true) where
         go false true f e =
             let d = lcm_divides g.multiples (unsigned_abs x) meets.common in
             true≢false
-            (sym (struck_by_divisor g.not_multiples (lcm_of g.multiples) x d f)
+            (sym (some_divides g.not_multiples (lcm_of g.multiples) x d f)
             ∙ (or_parts (list_any (λ b. is_multiple b x) g.not_multiples) _ meets.spared).0)
         go false false f e = among_none e
 

@@ -1,7 +1,7 @@
 -- Least lengths that keep the rule bound the length of each word that leads to a row; so a word that is wanted has too
 -- many characters.
-use Rattle.std.proofs.Common.{◌≡◌, ℕ, suc, ◌+◌, ◌≤◌, Bool, true, ◌&&◌, ◌||◌, not, List, [], ◌∷◌, ◌++◌, length, get_or, nat_eq, nat_le, Option, Some, None, refl, sym, ◌∙◌, subst, arith}
-use Rattle.std.proofs.lemmas.Bool.{and_parts, and_from, leb-true, le-leb, eqb-true}
+use Rattle.std.proofs.Common.{◌≡◌, ℕ, suc, ◌+◌, ◌≤◌, Bool, true, ◌&&◌, ◌||◌, not, List, [], ◌∷◌, ◌++◌, length, get_or, nat_eq, nat_le, refl, sym, ◌∙◌, subst, arith}
+use Rattle.std.proofs.lemmas.Bool.{and_parts, and_from, leb-true, eqb-true}
 use Rattle.std.specs.List.{list_all, range_with_len}
 use Rattle.documents.specs.Tests.{every}
 use Rattle.patterns.specs.CharSet.{is_scalar}
@@ -19,10 +19,7 @@ use Rattle.finder_laws.proofs.Wanted.{wanted_same}
 use Rattle.verdicts.specs.RowLines.{Table, stated}
 use Rattle.verdicts.specs.Leaves.{least_right, least_past}
 use Rattle.verdict_laws.proofs.RowsTaken.{AreStated}
-
-at_end_up : (n m : ℕ) (o : Option ℕ) → n ≤ m → is_at_end n o ≡ true → is_at_end m o ≡ true
-at_end_up n m None l e = e
-at_end_up n m (Some b) l e = let h = leb-true b n e in le-leb b m (omega (arith, h, l))
+use Rattle.frame_laws.proofs.Ends.{at_end_up}
 
 module _ (T : List Position) (S : List Signed) (t : Table (List ℕ)) (h : AreStated (string_atoms T S) t) (ds : List ℕ)
     (right : least_right T S (string_atoms T S) t ds ≡ true) where

@@ -2,7 +2,6 @@ pub mod Limits
 pub mod Groups
 pub mod Numbers
 pub mod RowsTaken
-pub mod SameNames
 pub mod Cells
 pub mod Lengths
 pub mod Containers

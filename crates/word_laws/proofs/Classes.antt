@@ -11,6 +11,7 @@ use Rattle.word_laws.proofs.Mentions as M
 use Rattle.list_laws.proofs.Lists.{in_flat_map, from_flat_map, to_filter}
 use Rattle.list_laws.proofs.Tests.{from_filter, beq-true}
 use Rattle.list_laws.specs.In.{IsIn}
+use Rattle.list_laws.proofs.Booleans.{beq_comm}
 
 pub alike_at : (sets : List (List (ℕ × ℕ))) (c d : ℕ) (s : List (ℕ × ℕ)) → are_alike sets c d ≡ true → IsIn s sets
     → has s c ≡ has s d
@@ -41,15 +42,9 @@ alike_laws sets = record { refl = own sets; symm = turned sets; congr = joined s
   own [] c = refl
   own (s ∷ sets) c = and_from (beq (has s c) (has s c)) (are_alike sets c c) (beq_own (has s c)) (own sets c)
 
-  beq_turned : (x y : Bool) → beq x y ≡ beq y x
-  beq_turned true true = refl
-  beq_turned true false = refl
-  beq_turned false true = refl
-  beq_turned false false = refl
-
   turned : (sets : List (List (ℕ × ℕ))) (c d : ℕ) → are_alike sets c d ≡ are_alike sets d c
   turned [] c d = refl
-  turned (s ∷ sets) c d = ap₂ (λ x y. x && y) (beq_turned (has s c) (has s d)) (turned sets c d)
+  turned (s ∷ sets) c d = ap₂ (λ x y. x && y) (beq_comm (has s c) (has s d)) (turned sets c d)
 
   joined : (sets : List (List (ℕ × ℕ))) (c d f : ℕ) → are_alike sets c d ≡ true
       → are_alike sets c f ≡ are_alike sets d f

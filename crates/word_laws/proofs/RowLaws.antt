@@ -6,7 +6,7 @@ use Rattle.patterns.specs.CharSet.{is_scalar}
 use Rattle.word_states.specs.Atom.{Atom}
 use Rattle.word_states.specs.Classes.{are_alike, dividers, class_firsts, class_of}
 use Rattle.word_states.specs.WordState.{word_state, have_same_state}
-use Rattle.word_states.specs.Rows.{AreRows, row_of, targets_of, signature_of, HaveStates}
+use Rattle.word_states.specs.Rows.{AreRows, row_of, targets_of, signature_of, HaveStates, longer_by_one}
 use Rattle.word_laws.specs.Laws.{RowsHaveAll, RowsGoOn}
 use Rattle.word_laws.proofs.Mentions as M
 use Rattle.word_laws.proofs.Rows as R
@@ -156,3 +156,10 @@ rows_have atoms L rows = (
 pub rows_go_on : RowsGoOn
 rows_go_on atoms L rows w s =
     (row_below atoms L rows w s, row_truth atoms L rows w s, (λ c e. row_next atoms L rows w c s e))
+
+-- row 0 is of the empty word
+pub row_zero : (atoms : List Atom) (L : List (List ℕ)) → AreRows atoms L → get_or L 0 [] ≡ []
+row_zero atoms L rows =
+    let (X, e) = M.mentions_grow (have_same_state atoms) (same_laws atoms) ([] ∷ [])
+    (longer_by_one (class_firsts atoms) L) in
+    ap (λ z. get_or z 0 []) (rows ∙ e)

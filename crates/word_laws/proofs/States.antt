@@ -1,5 +1,5 @@
 -- The state of a word: the test of two states, what one more character makes of a state, and what a state determines.
-use Rattle.std.proofs.Common.{◌≡◌, ℕ, List, Bool, true, false, ◌&&◌, Option, Some, None, Decides, nat_eq, refl, ap, ap₂, eqb-true, eq-eqb}
+use Rattle.std.proofs.Common.{◌≡◌, ℕ, List, ◌&&◌, Option, Some, None, Decides, nat_eq, refl, ap, ap₂, eqb-true, eq-eqb}
 use Rattle.std.specs.Bool.{beq}
 use Rattle.std.specs.Cmp.{IsEquivalence, decided, unsigned_Decides}
 use Rattle.std.specs.Cmp.Lexicographic.{pointwise, pointwise_decides}
@@ -7,6 +7,7 @@ use Rattle.std.proofs.lemmas.Bool.{and_parts, and_from}
 use Rattle.word_states.specs.Atom.{Atom, same_word}
 use Rattle.word_states.specs.PatternState.{PatternState, done, reading}
 use Rattle.word_states.specs.WordState.{AtomState, matching, beginning, counting, WordState, word_state, same_pattern_state, same_length, same_atom_state, same_state, have_same_state}
+use Rattle.list_laws.proofs.Booleans.{beq-decides}
 
 -- ---- the tests decide equality
 pub word_decides : (v w : List ℕ) → Decides (same_word v w) (v ≡ w)
@@ -47,18 +48,12 @@ part_decides counting (matching y) = ((λ e. cc e), (λ e. cc e))
 part_decides counting (beginning ws n) = ((λ e. cc e), (λ e. cc e))
 part_decides counting counting = ((λ e. refl), (λ e. refl))
 
-bool_decides : (x y : Bool) → Decides (beq x y) (x ≡ y)
-bool_decides true true = ((λ e. refl), (λ e. refl))
-bool_decides true false = ((λ e. cc e), (λ e. cc e))
-bool_decides false true = ((λ e. cc e), (λ e. cc e))
-bool_decides false false = ((λ e. refl), (λ e. refl))
-
 pub whole_state : (x y : WordState) → x.is_empty ≡ y.is_empty → x.parts ≡ y.parts → x.length ≡ y.length → x ≡ y
 whole_state x y a b c = λ i. record { is_empty = a i; parts = b i; length = c i }
 
 pub state_decides : (x y : WordState) → Decides (same_state x y) (x ≡ y)
 state_decides x y =
-    let b = bool_decides x.is_empty y.is_empty in
+    let b = beq-decides x.is_empty y.is_empty in
     let p = pointwise_decides part_decides x.parts y.parts in
     let n = unsigned_Decides x.length y.length in
     let front = beq x.is_empty y.is_empty && pointwise same_atom_state x.parts y.parts in (

@@ -1,7 +1,7 @@
 -- The word of the alternative of that number.
 use Rattle.std.proofs.Common.{ap, ◌∙◌}
-use Rattle.alternative_table.proofs.Words.{names, one, there}
 use Rattle.alternative_table.proofs.text.push_word.Goals as goal
+use Rattle.js_expansion.proofs.TextWords.{names, one, there}
 
 pub words-requires-clause-branch : goal.words-requires-clause-branch
 words-requires-clause-branch g c =

@@ -7,10 +7,10 @@ use Rattle.goals.specs.Signed.{is_rising, add_all}
 use Rattle.goals.specs.Goal as G
 use Rattle.js_algebra.specs.View.{signed_view, are_in_table, is_in_table}
 use Rattle.js_algebra.specs.Close.{clashes_nearby}
-use Rattle.js_algebra.proofs.Sets.{rising-add_all, every-add_all}
 use Rattle.js_algebra.proofs.Closeness.{clashes-nearby}
 use Rattle.js_algebra.proofs.Meanings.{meets-formed}
 use Rattle.js_algebra.proofs.goal.form.Goals as goal
+use Rattle.goal_laws.proofs.Signs.{is_rising-add_all, every-add_all}
 
 set_in_table : (T : List Position) (xs ys : List S.Signed) → ys ≡ add_all xs [] → are_in_table T xs ≡ true
     → are_in_table T ys ≡ true
@@ -18,7 +18,7 @@ set_in_table T xs ys e h = subst (λ zs. are_in_table T zs ≡ true) (sym e)
     (every-add_all (is_in_table T) xs [] ∙ and_from _ _ h refl)
 
 set_rises : (xs ys : List S.Signed) → ys ≡ add_all xs [] → is_rising ys ≡ true
-set_rises xs ys e = subst (λ zs. is_rising zs ≡ true) (sym e) (rising-add_all xs [] refl)
+set_rises xs ys e = subst (λ zs. is_rising zs ≡ true) (sym e) (is_rising-add_all xs [] refl)
 
 formed : (T : List Position) (xs ys zs : List S.Signed) (b : Bool) → xs ≡ G.followed T zs → ys ≡ add_all xs []
     → b ≡ clashes_nearby T ys

@@ -1,8 +1,9 @@
 use Rattle.std.proofs.Common.{◌<◌, ◌+◌, inl, inr, length, sym, subst, arith}
 use Rattle.js_automaton.specs.Pieces.{AreRanges}
-use Rattle.js_automaton.proofs.PieceSetLemmas.{HaveFirst, has_next, next-above, skipped, pushed, same_test, other_test}
+use Rattle.js_automaton.proofs.PieceSetLemmas.{HaveFirst, has_next, next-above, skipped, pushed, other_test}
 use Rattle.js_automaton.proofs.class_set.ranges_of.Goals as goal
 use Rattle.js_automaton.proofs.class_set.ranges_of.Goals.{then-number-here+then-is_character+in_ok-push, else-number-here, else-number-here-via-then-number-here+else-is_character, else-number-here-via-else-number-here}
+use Rattle.std.proofs.lemmas.Bool.{eq-eqb}
 
 pub bounds-starts-i-then-is_character-2 : goal.bounds-starts-i-then-is_character-2
 bounds-starts-i-then-is_character-2 c =
@@ -29,7 +30,7 @@ loop-i-preserved c =
           c.loop-i-test.true c.loop-i.invariant.0 c.loop-i.invariant.1
           (has_next c.requires.0 c.args.starts.now c.loop-i.i n.rising n.places within (sym w.if-is_character.ensures))
           (sym w.if-is_character.ensures)
-          (same_test _ _ w.if-number-here.true) w.push.new.self.items w.in_ok-push.ensures.items)
+          (eq-eqb _ _ w.if-number-here.true) w.push.new.self.items w.in_ok-push.ensures.items)
       | else-number-here w ↦ elim w.else-number-here.branch [
         | else-number-here-via-then-number-here+else-is_character v ↦
             subst (λ v. AreRanges v.items

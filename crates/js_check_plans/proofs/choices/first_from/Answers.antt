@@ -3,8 +3,8 @@ use Rattle.std.proofs.Common.{◌++◌, get_or, arith, ap, sym, ◌∙◌}
 use Rattle.goals.specs.Signed as G
 use Rattle.js_plans.specs.Choosing.{serving_cells, open_cells}
 use Rattle.js_check_plans.specs.Slots.{choices_from}
-use Rattle.js_check_plans.proofs.Options.{range-from}
 use Rattle.js_check_plans.proofs.choices.first_from.Goals as goal
+use Rattle.js_plans.proofs.Options.{range-from}
 
 pub returns-then-k-heads-clause-choices : goal.returns-then-k-heads-clause-choices
 returns-then-k-heads-clause-choices g c =

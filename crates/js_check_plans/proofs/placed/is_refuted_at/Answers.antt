@@ -6,9 +6,9 @@ use Rattle.js_algebra.specs.View.{signed_view}
 use Rattle.verdicts.specs.Duties.{ending}
 use Rattle.verdicts.specs.Verdict.{cites}
 use Rattle.js_lines.specs.View.{end_view}
-use Rattle.js_check_plans.proofs.Served.{if_ok}
 use Rattle.js_check_plans.proofs.LineLemmas.{refuted-some, refuted-none}
 use Rattle.js_check_plans.proofs.placed.is_refuted_at.Goals as goal
+use Rattle.js_plans.proofs.Served.{if_ok}
 
 pub returns-in_ok-place-in-Some : goal.returns-in_ok-place-in-Some
 returns-in_ok-place-in-Some g c =

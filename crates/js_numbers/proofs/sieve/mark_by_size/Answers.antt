@@ -1,8 +1,8 @@
 use Rattle.std.proofs.Common.{◌*◌, ◌-◌, ap, ◌∙◌, get_or, false, ◌||◌, arith}
 use Rattle.js_numbers.specs.Marking.{is_on}
-use Rattle.js_numbers.proofs.MarkLaws.{or_assoc}
 use Rattle.js_numbers.proofs.SieveLaws.{is_on-alternate}
 use Rattle.js_numbers.proofs.sieve.mark_by_size.Goals as goal
+use Rattle.std.proofs.Math.Bool.{or_assoc}
 
 pub returns : goal.returns
 returns c = λ k l.

@@ -2,8 +2,8 @@
 use Rattle.std.proofs.Common.{◌+◌, ◌-◌, ◌++◌, [], ◌∷◌, map, ap, sym, ◌∙◌, append_assoc}
 use Rattle.std.specs.List.{range_with_len}
 use Rattle.js_plans.specs.declared.server.Server.TheVariants as V
-use Rattle.js_plan_lines.proofs.Options.{range-from}
 use Rattle.js_plan_lines.proofs.choices.add_heads.Goals as goal
+use Rattle.js_plans.proofs.Options.{range-from}
 
 pub loop-k-preserved : goal.loop-k-preserved
 loop-k-preserved c =

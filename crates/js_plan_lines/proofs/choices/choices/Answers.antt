@@ -3,8 +3,8 @@ use Rattle.std.proofs.Common.{◌++◌, map, arith, ap, ap₂, ◌∙◌}
 use Rattle.std.specs.List.{range_with_len}
 use Rattle.js_plans.specs.declared.server.Server.TheVariants as V
 use Rattle.js_plans.specs.Choosing.{next_demand, serving_cells, open_cells}
-use Rattle.js_plan_lines.proofs.Options.{choices-are}
 use Rattle.js_plan_lines.proofs.choices.choices.Goals as goal
+use Rattle.js_plans.proofs.Options.{choices-are}
 
 pub returns : goal.returns
 returns g c =

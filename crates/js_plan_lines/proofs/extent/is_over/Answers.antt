@@ -2,8 +2,8 @@
 use Rattle.std.proofs.Common.{ap₂, sym, ◌∙◌}
 use Rattle.frames.specs.Frame.{is_at_end}
 use Rattle.js_plans.specs.Walks.{size_of}
-use Rattle.js_plan_lines.proofs.Plans.{size-plan}
 use Rattle.js_plan_lines.proofs.extent.is_over.Goals as goal
+use Rattle.js_plans.proofs.Plans.{size-plan}
 
 pub returns : goal.returns
 returns g c =
@@ -11,5 +11,5 @@ returns g c =
     c.is_at_end.ensures
     ∙ ap₂ is_at_end
     (c.size.ensures ∙ ap₂ (size_of frame) c.of.ensures.used c.of.ensures.members
-    ∙ sym (size-plan frame c.args.path.now c.requires))
+    ∙ sym (size-plan frame c.args.path.now c.requires.few c.requires.valid))
     c.below.ensures

@@ -2,9 +2,10 @@
 use Rattle.std.proofs.Common.{◌≡◌, ◌+◌, ◌<◌, length, ◌++◌, drop, [], ◌∷◌, cond, map, arith, ap, sym, ◌∙◌, subst, append-nil}
 use Rattle.js_algebra.specs.View.{signed_view}
 use Rattle.js_plans.specs.Servers.{earlier, serves_too, members_after}
-use Rattle.js_plan_lines.proofs.Grown.{next_earlier, get_within, get_same, few_after}
 use Rattle.js_plan_lines.proofs.path.earlier.Goals as goal
 use Rattle.js_plan_lines.proofs.path.earlier.Goals.{then-serves_too+in_ok-push, else-serves_too}
+use Rattle.std.proofs.lemmas.List.{get_or_default}
+use Rattle.js_plans.proofs.Grown.{next_earlier-servers, get_within, few_after}
 
 pub loop-i-preserved : goal.loop-i-preserved
 loop-i-preserved c =
@@ -16,11 +17,12 @@ loop-i-preserved c =
     let (y, at) = get_within demands i l in
     let after : c.members_after-members.result ≡ members_after c.loop-i.members x =
     c.members_after-members.ensures
-    ∙ ap (members_after c.loop-i.members) (get_same path i _ x c.loop-i-test.true ∙ sym is) in
-    let next = next_earlier c.args.server path demands i c.loop-i.members x y c.serves_too.result c.loop-i.found.items
+    ∙ ap (members_after c.loop-i.members) (get_or_default path i _ x c.loop-i-test.true ∙ sym is) in
+    let next = next_earlier-servers c.args.server path demands i c.loop-i.members x y c.serves_too.result
+    c.loop-i.found.items
     c.if-serves_too.found.items _ c.loop-i-test.true l is at
     (c.serves_too.ensures
-    ∙ ap (λ w. serves_too c.args.server c.loop-i.members w) (get_same path i _ x c.loop-i-test.true ∙ sym is)) in
+    ∙ ap (λ w. serves_too c.args.server c.loop-i.members w) (get_or_default path i _ x c.loop-i-test.true ∙ sym is)) in
     record {
       found = subst (λ m. map signed_view c.if-serves_too.found.items
           ++ earlier c.args.server (map signed_view (drop (i + 1) demands)) m (drop (i + 1) path)
@@ -30,7 +32,7 @@ loop-i-preserved c =
             | then-serves_too+in_ok-push w ↦
                 next
                 (ap (λ v. v.items) w.found-is ∙ w.in_ok-push.ensures.items
-                ∙ ap (λ z. c.loop-i.found.items ++ z ∷ []) (get_same demands i _ y l ∙ sym at)
+                ∙ ap (λ z. c.loop-i.found.items ++ z ∷ []) (get_or_default demands i _ y l ∙ sym at)
                 ∙ ap (λ b. c.loop-i.found.items ++ cond b (y ∷ []) []) (sym w.if-serves_too.true))
                 c.loop-i.invariant.found
             | else-serves_too w ↦

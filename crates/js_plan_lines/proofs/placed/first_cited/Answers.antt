@@ -3,9 +3,9 @@ use Rattle.std.proofs.Common.{◌<◌, ◌+◌, suc, length, Some, None, refl, a
 use Rattle.frames.specs.Plan.{placed, goal_of}
 use Rattle.js_plans.specs.Serving.{plan_after}
 use Rattle.js_plan_lines.specs.Reach.{seen}
-use Rattle.js_plan_lines.proofs.Adding.{none_is}
 use Rattle.js_plan_lines.proofs.Firsts.{cited-next}
 use Rattle.js_plan_lines.proofs.placed.first_cited.Goals as goal
+use Rattle.list_laws.proofs.Options.{none_is}
 
 pub returns-in-Some : goal.returns-in-Some
 returns-in-Some g c =

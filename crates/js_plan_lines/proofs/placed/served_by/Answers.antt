@@ -1,8 +1,8 @@
 -- The demands, the latest first.
 use Rattle.std.proofs.Common.{◌≡◌, true, sym, subst}
 use Rattle.js_algebra.specs.View.{is_in_table, are_in_table}
-use Rattle.js_plan_lines.proofs.Served.{served_list, every-served}
 use Rattle.js_plan_lines.proofs.placed.served_by.Goals as goal
+use Rattle.js_plans.proofs.Served.{served_list, every-served}
 
 pub returns-clause-value : goal.returns-clause-value
 returns-clause-value g c =

@@ -10,10 +10,9 @@ use Rattle.js_plans.specs.Servers.{cells_of, servers_of}
 use Rattle.js_plans.specs.Walks.{size_of, placed_heads}
 use Rattle.js_plans.specs.Named.{naming_view, placed_from, filler_in}
 use Rattle.js_plans.specs.Placing.{put_heads, put_members}
-use Rattle.js_plans.proofs.Remaining.{size-plan}
-use Rattle.js_plans.proofs.Shown.{members-count}
 use Rattle.js_plans.proofs.Namings.{used-within, members-plan, placed-length, fillers-plan, alternative-is}
 use Rattle.js_plans.proofs.alternative_list.alternative.Goals as goal
+use Rattle.js_plans.proofs.Plans.{members-count, size-plan}
 
 pub need-need-requires-clause-used : goal.need-need-requires-clause-used
 need-need-requires-clause-used g c =
@@ -31,7 +30,7 @@ slice_bounds-placed-end g c =
     let count : c.min-count.result ≡ placed_heads frame ws =
     c.min-count.ensures
     ∙ ap₂ min (c.size-size.ensures ∙ ap₂ (size_of frame) c.of-extent.ensures.used c.of-extent.ensures.members
-    ∙ sym (size-plan T frame ws l c.requires.path.valid)) (c.from.ensures ∙ c.heads.ensures) in
+    ∙ sym (size-plan frame ws l c.requires.path.valid)) (c.from.ensures ∙ c.heads.ensures) in
     sym (length-take-le c.min-count.result c.args.first.now (omega (arith, count, c.requires.placed)))
 
 pub returns : goal.returns
@@ -45,7 +44,7 @@ returns g c =
     let l : length ws ≤ length frame.demands = omega (arith, c.requires.path.few, length-map es (λ e. e.server)) in
     let long : c.size-size.result ≡ size frame q =
     c.size-size.ensures ∙ ap₂ (size_of frame) c.of-extent.ensures.used c.of-extent.ensures.members
-    ∙ sym (size-plan T frame ws l c.requires.path.valid) in
+    ∙ sym (size-plan frame ws l c.requires.path.valid) in
     let count : c.min-count.result ≡ placed_heads frame ws =
     c.min-count.ensures ∙ ap₂ min long (c.from.ensures ∙ c.heads.ensures) in
     let short : length (take c.min-count.result c.args.first.now) ≡ c.min-count.result =
@@ -53,7 +52,7 @@ returns g c =
     let wanted : c.need-need.result ≡ need frame q =
     c.need-need.ensures
     ∙ ap₂ (λ n m. max frame.lower n - (frame.heads + m)) long
-    (c.of-extent.ensures.members ∙ sym (members-count T frame ws l)) in
+    (c.of-extent.ensures.members ∙ sym (members-count frame ws l)) in
     let placed_all : c.min-count.result + c.of-extent.result.members ≡ length (placed frame q) =
     ap₂ (λ n m. n + m) count c.of-extent.ensures.members ∙ sym (placed-length T frame ws l) in
     alternative-is N (kind_view c.args.branch.kind) c.args.branch.number T frame q _ _ _ _ c.shape.ensures

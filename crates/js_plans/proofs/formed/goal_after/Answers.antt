@@ -4,8 +4,9 @@ use Rattle.std.proofs.lemmas.List.{length-map}
 use Rattle.frames.specs.Plan.{goal_of}
 use Rattle.js_algebra.specs.View.{signed_view, is_in_table, are_in_table}
 use Rattle.js_plans.specs.Servers.{servers_of}
-use Rattle.js_plans.proofs.Forming.{served_list, every-served, if_ok}
+use Rattle.js_plans.proofs.Forming.{served_list, every-served}
 use Rattle.js_plans.proofs.formed.goal_after.Goals as goal
+use Rattle.js_plans.proofs.Served.{if_ok}
 
 pub goal_at-requires : goal.goal_at-requires
 goal_at-requires g c =

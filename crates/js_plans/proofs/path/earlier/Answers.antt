@@ -2,9 +2,10 @@
 use Rattle.std.proofs.Common.{◌≡◌, ◌+◌, ◌<◌, length, ◌++◌, drop, [], ◌∷◌, cond, map, arith, ap, sym, ◌∙◌, subst, append-nil}
 use Rattle.js_algebra.specs.View.{signed_view}
 use Rattle.js_plans.specs.Servers.{earlier, servers_of}
-use Rattle.js_plans.proofs.Grown.{next_earlier, get_within, get_same, few_after}
+use Rattle.js_plans.proofs.Grown.{next_earlier, get_within, few_after}
 use Rattle.js_plans.proofs.path.earlier.Goals as goal
 use Rattle.js_plans.proofs.path.earlier.Goals.{then-serves_too+in_ok-push, else-serves_too}
+use Rattle.std.proofs.lemmas.List.{get_or_default}
 
 pub loop-i-preserved : goal.loop-i-preserved
 loop-i-preserved c =
@@ -24,7 +25,7 @@ loop-i-preserved c =
             | then-serves_too+in_ok-push w ↦
                 next
                 (ap (λ v. v.items) w.found-is ∙ w.in_ok-push.ensures.items
-                ∙ ap (λ z. c.loop-i.found.items ++ z ∷ []) (get_same c.args.demands.now c.loop-i.i _ y l ∙ sym at)
+                ∙ ap (λ z. c.loop-i.found.items ++ z ∷ []) (get_or_default c.args.demands.now c.loop-i.i _ y l ∙ sym at)
                 ∙ ap (λ b. c.loop-i.found.items ++ cond b (y ∷ []) []) (sym w.if-serves_too.true))
                 c.loop-i.invariant.found
             | else-serves_too w ↦

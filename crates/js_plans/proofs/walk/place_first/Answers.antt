@@ -5,9 +5,10 @@ use Rattle.frames.specs.Plan.{size}
 use Rattle.js_plans.specs.Serving.{plan_after}
 use Rattle.js_plans.specs.Servers.{servers_of}
 use Rattle.js_plans.specs.Walks.{listed, size_of, placed_heads}
-use Rattle.js_plans.proofs.Remaining.{after-fits, size-plan, steps-over, steps-clash}
+use Rattle.js_plans.proofs.Remaining.{after-fits, steps-over, steps-clash}
 use Rattle.js_plans.proofs.Shown.{first-clash}
 use Rattle.js_plans.proofs.walk.place_first.Goals as goal
+use Rattle.js_plans.proofs.Plans.{size-plan}
 
 pub returns-then-is_at_end-clause-dropped : goal.returns-then-is_at_end-clause-dropped
 returns-then-is_at_end-clause-dropped g c =
@@ -17,7 +18,7 @@ returns-then-is_at_end-clause-dropped g c =
     let (l, v) = after-fits T frame c.args.path.now c.args.server c.requires.path c.requires.fits in
     let long : c.size-size.result ≡ size frame (plan_after frame ws) =
     c.size-size.ensures ∙ ap₂ (size_of frame) c.extent_after.ensures.used c.extent_after.ensures.members
-    ∙ sym (size-plan T frame ws l v) in
+    ∙ sym (size-plan frame ws l v) in
     steps-over T frame ws l
     (ap₂ is_at_end (sym long) (sym c.below.ensures) ∙ sym c.is_at_end.ensures ∙ c.if-is_at_end.true)
 
@@ -29,7 +30,7 @@ returns-then-branch-clause-kept g c = λ _.
     let (l, v) = after-fits T frame c.args.path.now c.args.server c.requires.path c.requires.fits in
     let long : c.size-size.result ≡ size frame (plan_after frame ws) =
     c.size-size.ensures ∙ ap₂ (size_of frame) c.extent_after.ensures.used c.extent_after.ensures.members
-    ∙ sym (size-plan T frame ws l v) in (
+    ∙ sym (size-plan frame ws l v) in (
       ap₂ is_at_end (sym long) (sym c.below.ensures) ∙ sym c.is_at_end.ensures ∙ c.if-is_at_end.false,
       subst (λ n. n ≤ length c.form_first.new.first.items)
           (c.min-count.ensures ∙ ap₂ min long (c.from.ensures ∙ c.heads.ensures))
@@ -44,7 +45,7 @@ returns-else-branch-clause-dropped g c =
     let (l, v) = after-fits T frame c.args.path.now c.args.server c.requires.path c.requires.fits in
     let long : c.size-size.result ≡ size frame (plan_after frame ws) =
     c.size-size.ensures ∙ ap₂ (size_of frame) c.extent_after.ensures.used c.extent_after.ensures.members
-    ∙ sym (size-plan T frame ws l v) in
+    ∙ sym (size-plan frame ws l v) in
     let (k, m, e) = c.in_ok-form_first.ensures.clash c.if-branch.false in
     let count : c.min-count.result ≡ placed_heads frame ws =
     c.min-count.ensures ∙ ap₂ min long (c.from.ensures ∙ c.heads.ensures) in

@@ -4,8 +4,9 @@ use Rattle.std.proofs.lemmas.List.{get_or_read}
 use Rattle.patterns.specs.CharSet.{is_scalar}
 use Rattle.js_automaton.specs.AutomatonView.{atoms_of, rows_of}
 use Rattle.js_row_words.specs.Counts.{word_by, Chooses}
-use Rattle.js_row_words.proofs.WordSteps.{rest, word_more, word_ends, scalar_more}
+use Rattle.js_row_words.proofs.WordSteps.{rest, word_more, word_ends}
 use Rattle.js_row_words.proofs.words.letters_by.Goals as goal
+use Rattle.word_laws.proofs.RowLaws.{all_end}
 
 pub loop-left-preserved : goal.loop-left-preserved
 loop-left-preserved c =
@@ -29,7 +30,7 @@ loop-left-preserved c =
           (word_by atoms L c.args.lengths.now c.args.number) c.loop-left.left (c.loop-left.left - 1)
           c.loop-left.row c.loop-left.number x (omega (arith, c.loop-left-test.true)) chosen v.word);
       scalar = subst (λ z. list_all is_scalar z ≡ true) (sym c.in_ok-push-in-Some.ensures.items)
-          (scalar_more c.loop-left.letters.items x.letter v.scalar chosen.3);
+          (all_end c.loop-left.letters.items x.letter v.scalar chosen.3);
     }
 
 pub returns-in-None-clause-letters : goal.returns-in-None-clause-letters

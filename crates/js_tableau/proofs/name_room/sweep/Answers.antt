@@ -8,8 +8,10 @@ use Rattle.name_laws.proofs.Telling.{inner-next-right}
 use Rattle.js_algebra.specs.View.{node_view}
 use Rattle.js_tableau.specs.NamePlans.{places_of}
 use Rattle.js_tableau.specs.declared.name_plan.Ranked.{Ranked}
-use Rattle.js_tableau.proofs.Places.{at-map, every-at, inside-at, inside-room, is-false}
+use Rattle.js_tableau.proofs.Places.{at-map, every-at, inside-at}
 use Rattle.js_tableau.proofs.name_room.sweep.Goals as goal
+use Rattle.std.proofs.lemmas.Bool.{not-true}
+use Rattle.js_doc.proofs.NumbersAbove.{every-more}
 
 none : Ranked
 none = record { rank = 0; pos = record { 0 = 0 } }
@@ -24,12 +26,13 @@ pub is_met-is_held-requires-clause-inner : goal.is_met-is_held-requires-clause-i
 unfolding none
 is_met-is_held-requires-clause-inner c =
     ap is_leaf c.node.ensures.value
-    ∙ is-false _ (every-at (λ (r : Ranked). r.pos.0) _ c.args.inner.now c.loop-r.r-index none c.requires.inner
+    ∙ not-true _ (every-at (λ (r : Ranked). r.pos.0) _ c.args.inner.now c.loop-r.r-index none c.requires.inner
     c.loop-r-test.true)
 
 pub is_met-is_held-requires-clause-places : goal.is_met-is_held-requires-clause-places
 is_met-is_held-requires-clause-places c =
-    inside-room (length c.args.core.now.positions) (length c.loop-r.room) _ (omega (arith, c.requires.room, c.loop-r.auto.room))
+    every-more (length c.args.core.now.positions) (length c.loop-r.room) _
+    (omega (arith, c.requires.room, c.loop-r.auto.room))
     (asked_named (length c.args.core.now.positions) (node_view c.node.result.now) c.node.ensures.named)
 
 pub bounds-room-r : goal.bounds-room-r

@@ -1,10 +1,10 @@
 -- The next entry goes before those that were added.
-use Rattle.std.proofs.Common.{◌≡◌, ℕ, suc, ◌-◌, ◌++◌, ◌∷◌, List, reverse, arith, ap, sym, ◌∙◌}
+use Rattle.std.proofs.Common.{◌≡◌, ℕ, suc, ◌-◌, ◌++◌, ◌∷◌, List, arith, ap, sym, ◌∙◌}
 use Rattle.js_algebra.specs.declared.signed.Signed.{Signed}
 use Rattle.js_tableau.specs.declared.visits.Pending.{Pending}
 use Rattle.js_tableau.specs.Progress.{entries}
-use Rattle.js_tableau.proofs.Remaining.{reverse-push}
 use Rattle.js_tableau.proofs.visits.add_choices.Goals as goal
+use Rattle.list_laws.proofs.Lists.{reverse-last}
 
 one_before : (m s : ℕ) (x : Signed) (i j n k : ℕ) (es : List Pending) → j ≡ suc i → n ≡ suc k
     → record { members = m; settled = s; rule = x; index = i } ∷ (entries m s x j k ++ es) ≡ entries m s x i n ++ es
@@ -15,7 +15,7 @@ one_before m s x i j n k es e f =
 pub loop-index-preserved : goal.loop-index-preserved
 loop-index-preserved c = (
   omega (arith, c.loop-index.invariant.0),
-  ap reverse c.in_ok-push.ensures.items ∙ reverse-push c.loop-index.pending.items _
+  reverse-last c.loop-index.pending.items _ _ c.in_ok-push.ensures.items
       ∙ ap (λ es. (let e : Pending = record {
         members = c.args.members;
         settled = c.args.settled;

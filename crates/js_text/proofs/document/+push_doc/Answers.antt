@@ -3,8 +3,9 @@ use Rattle.std.specs.String.{string_bytes}
 use Rattle.document_texts.specs.Scalars.{string_text, enclosed}
 use Rattle.document_texts.specs.DocumentText.{document_text, item_texts, member_texts}
 use Rattle.js_doc.specs.View.{view, member_view}
-use Rattle.js_text.proofs.ListLemmas.{begun-next, begun-end, map-twice, member_text, member-written, item_texts-items_of, member_texts-members_of}
+use Rattle.js_text.proofs.ListLemmas.{begun-next, begun-end, member_text, member-written, item_texts-items_of, member_texts-members_of}
 use Rattle.js_text.proofs.document.+push_doc.Goals as goal
+use Rattle.std.proofs.lemmas.Simd.{map-map}
 
 pub push_items-loop-doc-preserved : goal.push_items-loop-doc-preserved
 push_items-loop-doc-preserved t c =
@@ -20,7 +21,7 @@ push_items-returns t c =
     (string_bytes c.push_str.new.self) c.loop-doc.first 91 93 c.loop-doc-test.false
     c.in_ok-push_str.ensures.bytes c.loop-doc.invariant
     ∙ ap (λ xs. string_bytes c.args.out.now ++ enclosed 91 xs 93)
-    (map-twice document_text view c.as_slice-doc-items.result.now
+    (sym (map-map document_text view c.as_slice-doc-items.result.now)
     ∙ sym (item_texts-items_of (map view c.as_slice-doc-items.result.now))
     ∙ ap item_texts c.as_slice-doc-items.ensures.view)
 
@@ -44,6 +45,6 @@ push_members-returns t c =
     (string_bytes c.push_str.new.self) c.loop-member.first 123 125 c.loop-member-test.false
     c.in_ok-push_str.ensures.bytes c.loop-member.invariant
     ∙ ap (λ xs. string_bytes c.args.out.now ++ enclosed 123 xs 125)
-    (map-twice member_text member_view c.as_slice-member-items.result.now
+    (sym (map-map member_text member_view c.as_slice-member-items.result.now)
     ∙ sym (member_texts-members_of (map member_view c.as_slice-member-items.result.now))
     ∙ ap member_texts c.as_slice-member-items.ensures.view)

@@ -1,9 +1,9 @@
 use Rattle.std.proofs.Common.{◌<◌, length, map, get_or, ap, sym, ◌∙◌, rules, subst, refl}
 use Rattle.js_text.specs.Kept.{measure_at}
 use Rattle.js_text.specs.Summed.{measure_view, added, ids_measure}
-use Rattle.js_text.proofs.ListLemmas.{item-same}
 use Rattle.js_text.proofs.MeasureLemmas.{id_entry, ids-entries-of, id-below, kept-at, summed-more, summed-end}
 use Rattle.js_text.proofs.measures.measure_ids.Goals as goal
+use Rattle.std.proofs.lemmas.List.{get_or_default}
 
 pub bounds-below-index : goal.bounds-below-index
 bounds-below-index c =
@@ -30,7 +30,7 @@ loop-id-preserved c =
     c.as_slice-numbers.ensures c.requires c.loop-id-test.true) in
     summed-more (id_entry kept) ids c.loop-id.id-index id (measure_view c.loop-id.sum)
     (measure_view c.with-sum.result) _
-    c.loop-id-test.true (item-same ids c.loop-id.id-index (record { 0 = 0 }) id c.loop-id-test.true)
+    c.loop-id-test.true (get_or_default ids c.loop-id.id-index (record { 0 = 0 }) id c.loop-id-test.true)
     (c.with-sum.ensures
     ∙ ap (added (measure_view c.loop-id.sum) 0)
     (kept-at c.args.below.now c.index.result _ within ∙ ap (measure_at kept) c.index.ensures))

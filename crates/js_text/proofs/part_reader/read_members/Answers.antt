@@ -6,12 +6,12 @@ use Rattle.documents.specs.Tests.{every}
 use Rattle.document_texts.specs.PartsRead.{is_member}
 use Rattle.document_texts.specs.PartsText.{named_text}
 use Rattle.document_text_laws.proofs.PartLaws.{members, object_end}
-use Rattle.document_text_laws.proofs.ReadLaws.{every-join}
 use Rattle.js_doc.specs.declared.parts.PartMember.{PartMember}
 use Rattle.js_doc.specs.PartMembers.{member_view}
 use Rattle.js_text.specs.Reads.{Reads, Takes}
 use Rattle.js_text.proofs.ListReading.{Listing, listing-step, listing-stuck, listing-end}
 use Rattle.js_text.proofs.part_reader.read_members.Goals as goal
+use Rattle.list_laws.proofs.Every.{every-append}
 
 abbrev members_left : PartMember × Bor (List ℕ) → (List ℕ × ℕ) × List ℕ
 members_left p = (member_view p.0, p.1.now)
@@ -40,7 +40,7 @@ loop-left-preserved c =
           (subst (λ r. Reads named_text is_member c.behind_comma.result.now (option_map members_left r)) c.in-Some.is
           c.in_ok-member.ensures.reads));
       fine = subst (λ ds. every is_member ds ≡ true) all
-          (every-join is_member done ((member_view c.in-Some.member) ∷ []) c.loop-left.invariant.fine
+          (every-append is_member done ((member_view c.in-Some.member) ∷ []) c.loop-left.invariant.fine
           (and_from (is_member (member_view c.in-Some.member)) true takes.0 refl));
     }
 

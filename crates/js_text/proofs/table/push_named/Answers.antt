@@ -1,10 +1,11 @@
-use Rattle.std.proofs.Common.{◌∙◌, ap, ◌++◌, ◌∷◌, [], map}
+use Rattle.std.proofs.Common.{◌∙◌, ap, ◌++◌, ◌∷◌, [], map, sym}
 use Rattle.std.specs.String.{string_bytes}
 use Rattle.document_texts.specs.Scalars.{enclosed}
 use Rattle.document_texts.specs.PartsText.{named_text}
 use Rattle.js_doc.specs.PartMembers.{member_view}
-use Rattle.js_text.proofs.ListLemmas.{begun-next, begun-end, map-twice}
+use Rattle.js_text.proofs.ListLemmas.{begun-next, begun-end}
 use Rattle.js_text.proofs.table.push_named.Goals as goal
+use Rattle.std.proofs.lemmas.Simd.{map-map}
 
 pub loop-member-preserved : goal.loop-member-preserved
 loop-member-preserved c =
@@ -21,5 +22,5 @@ returns c =
     (string_bytes c.push_str.new.self) c.loop-member.first 123 125 c.loop-member-test.false
     c.in_ok-push_str.ensures.bytes c.loop-member.invariant
     ∙ ap (λ xs. string_bytes c.args.out.now ++ enclosed 123 xs 125)
-    (map-twice named_text member_view c.as_slice-member-items.result.now
+    (sym (map-map named_text member_view c.as_slice-member-items.result.now)
     ∙ ap (map named_text) c.as_slice-member-items.ensures.list)

@@ -1,7 +1,7 @@
 -- The word of the alternative that was chosen.
 use Rattle.std.proofs.Common.{ap, ◌∙◌}
-use Rattle.search_tests.proofs.TestWords.{names, one, there}
 use Rattle.search_tests.proofs.expander.text.Goals as goal
+use Rattle.js_expansion.proofs.TextWords.{names, one, there}
 
 pub words-requires-clause-branch : goal.words-requires-clause-branch
 words-requires-clause-branch g c =

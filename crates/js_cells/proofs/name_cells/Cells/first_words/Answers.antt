@@ -6,8 +6,9 @@ use Rattle.js_automaton.specs.AutomatonView.{atoms_of, rows_of}
 use Rattle.cell_laws.proofs.Rows.{first_row}
 use Rattle.js_row_words.specs.RowWords.{words_from}
 use Rattle.js_cells.specs.View.{cells_view}
-use Rattle.js_cells.proofs.RowMarks.{words_in_first, first_is_empty}
+use Rattle.js_cells.proofs.RowMarks.{words_in_first}
 use Rattle.js_cells.proofs.name_cells.Cells.first_words.Goals as goal
+use Rattle.word_laws.proofs.RowLaws.{row_zero}
 
 pub first_words-requires-clause-count : goal.first_words-requires-clause-count
 first_words-requires-clause-count c =
@@ -19,7 +20,7 @@ first_words-requires-clause-count c =
     subst (λ ws. c.args.count ≤ length ws)
     (sym (words_in_first T (naming T (map signed_view x.set.now)) atoms rows are x.same x.places.items x.placed
     c.args.cell c.deref.result.now (c.deref.ensures.value ∙ c.in_ok-marks.ensures) (first_row atoms rows are).0
-    (first_is_empty atoms rows are)))
+    (row_zero atoms rows are)))
     c.requires.count
 
 pub returns : goal.returns
@@ -37,5 +38,5 @@ returns c =
     ∙ ap (take c.args.count)
     (words_in_first T (naming T (map signed_view x.set.now)) atoms rows are x.same x.places.items x.placed
     c.args.cell c.deref.result.now (c.deref.ensures.value ∙ c.in_ok-marks.ensures) (first_row atoms rows are).0
-    (first_is_empty atoms rows are)))
+    (row_zero atoms rows are)))
     c.first_words.ensures

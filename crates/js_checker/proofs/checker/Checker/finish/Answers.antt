@@ -1,13 +1,11 @@
 -- The stage decides, and some lines led to it.
-use Rattle.std.proofs.Common.{◌≡◌, true, false, refl, arith}
+use Rattle.std.proofs.Common.{refl, arith}
 use Rattle.position_laws.proofs.Tables.{is_table-IsTable}
 use Rattle.verdicts.specs.Verdict.{at_end, at_part}
 use Rattle.js_checker.specs.JudgeView.{stage_of}
 use Rattle.js_checker.proofs.CheckerLemmas.{told_again, ended_accepted, ended_part, open_rejected, open_part, ended_sound}
 use Rattle.js_checker.proofs.checker.Checker.finish.Goals as goal
-
-open_test : false ≡ true → ⊥
-open_test e = cc
+use Rattle.std.proofs.lemmas.Bool.{false≢true}
 
 pub returns-in-Some-clause-broken : goal.returns-in-Some-clause-broken
 returns-in-Some-clause-broken c =
@@ -51,11 +49,11 @@ returns-clause-broken c =
     let x = c.args.self.now in
     let q = x.question in
     open_rejected q.core.now.positions q.premise.0 q.conclusion.0 x.fault (stage_of x.judge) x.lines c.in_default.is
-    (λ e. open_test (c.if-is_ended.ensures.1 e)) c.number.result c.number.ensures
+    (λ e. false≢true (c.if-is_ended.ensures.1 e)) c.number.result c.number.ensures
 
 pub returns-clause-before_end : goal.returns-clause-before_end
 returns-clause-before_end c =
     let x = c.args.self.now in
     let q = x.question in
     open_part q.core.now.positions q.premise.0 q.conclusion.0 x.fault (stage_of x.judge) x.lines c.in_default.is
-    (λ e. open_test (c.if-is_ended.ensures.1 e)) c.number.result c.number.ensures
+    (λ e. false≢true (c.if-is_ended.ensures.1 e)) c.number.result c.number.ensures

@@ -6,9 +6,10 @@ use Rattle.js_plans.specs.declared.walk.PlanStep.TheVariants as V
 use Rattle.js_plans.specs.Serving.{plan_after}
 use Rattle.js_plans.specs.Servers.{servers_of}
 use Rattle.js_plans.specs.Walks.{listed, left, steps_left, placed_heads, IsDropped, IsPath, AreFine, Opens}
-use Rattle.js_plans.proofs.Forming.{if_ok}
-use Rattle.js_plans.proofs.Remaining.{dropped, not_dropped, opened, clashed, none_is}
+use Rattle.js_plans.proofs.Remaining.{dropped, not_dropped, opened, clashed}
 use Rattle.js_plans.proofs.walk.PlanWalk.visit.Goals as goal
+use Rattle.js_plans.proofs.Served.{if_ok}
+use Rattle.list_laws.proofs.Options.{none_is}
 
 pub returns-in-Some-clause-visits : goal.returns-in-Some-clause-visits
 returns-in-Some-clause-visits g c =

@@ -11,8 +11,9 @@ use Rattle.js_explore.specs.ExploredView.{explored_view}
 use Rattle.js_rounds.specs.State.{IsRoomy, contents_at}
 use Rattle.js_rounds.specs.declared.rounds.Rounds.{Rounds}
 use Rattle.js_rounds.proofs.Answered.{answered_most, length_take}
-use Rattle.js_rounds.proofs.Using.{Back, turn, ended, get_take, get_any, written, contents_same}
+use Rattle.js_rounds.proofs.Using.{Back, turn, ended, get_take, written, contents_same}
 use Rattle.js_rounds.proofs.rounds.Rounds.used.Goals as goal
+use Rattle.std.proofs.lemmas.List.{get_or_default}
 
 within : (n : ℕ) (r : Rounds) → IsRoomy n r → r.count ≤ length r.order.items
 within n r h = let l = answered_most r.known.items in omega (arith, l, h.known, h.order, h.count)
@@ -48,7 +49,7 @@ loop-place-preserved c =
           ap length (sym first) ∙ length_take r.count r.order.items few in
           let low : j < length (U.in_order X e.found (length e.found.goals)) = omega (arith, all, m, now) in
           let at : c.index.result.now ≡ get_or (U.in_order X e.found (length e.found.goals)) j 0 =
-          c.index.ensures ∙ get_any r.order.items j c.index.result.now 0 (omega (arith, few, m, now))
+          c.index.ensures ∙ get_or_default r.order.items j c.index.result.now 0 (omega (arith, few, m, now))
           ∙ sym (get_take r.count r.order.items j 0 (omega (arith, m, now))) ∙ ap (λ z. get_or z j 0) first in
           let has : round X e.found (length e.found.goals) c.index.result.now ≡ true =
           has_order X e.found (length e.found.goals) c.index.result.now

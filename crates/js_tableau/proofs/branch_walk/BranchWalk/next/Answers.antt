@@ -3,8 +3,8 @@ use Rattle.std.proofs.Common.{[], ap, ◌∙◌, refl}
 use Rattle.std.proofs.lemmas.Bool.{and_from}
 use Rattle.goals.specs.Signed.{is_rising}
 use Rattle.js_algebra.specs.View.{is_in_table, are_in_table}
-use Rattle.js_algebra.proofs.Sets.{rising-add_all, every-add_all}
 use Rattle.js_tableau.proofs.branch_walk.BranchWalk.next.Goals as goal
+use Rattle.goal_laws.proofs.Signs.{is_rising-add_all, every-add_all}
 
 pub returns-in-Saturated-clause-in_table : goal.returns-in-Saturated-clause-in_table
 returns-in-Saturated-clause-in_table c =
@@ -15,4 +15,4 @@ returns-in-Saturated-clause-in_table c =
 
 pub returns-in-Saturated-clause-rising : goal.returns-in-Saturated-clause-rising
 returns-in-Saturated-clause-rising c =
-    ap is_rising c.in_ok-set.ensures ∙ rising-add_all c.step.new.self.tree.walk.trail [] refl
+    ap is_rising c.in_ok-set.ensures ∙ is_rising-add_all c.step.new.self.tree.walk.trail [] refl

@@ -1,5 +1,5 @@
--- The word of an alternative that is a text may be requested.
-use Rattle.std.proofs.Common.{◌≡◌, ℕ, zero, suc, ◌<◌, ◌≤◌, true, ◌&&◌, nat_eq, List, [], ◌∷◌, map, length, get_or, refl, ap, ◌∙◌, subst, arith}
+-- The word of an alternative that is a text may be requested: its branch is named, and has a first cell with a word.
+use Rattle.std.proofs.Common.{◌≡◌, ℕ, ◌<◌, ◌≤◌, true, ◌&&◌, nat_eq, List, [], ◌∷◌, map, length, get_or, refl, ap, ◌∙◌, subst, arith}
 use Rattle.std.proofs.lemmas.Bool.{and_parts, and_from, eq-eqb, ltb-true}
 use Rattle.documents.specs.Tests.{every}
 use Rattle.documents.specs.Kind as K
@@ -14,24 +14,12 @@ use Rattle.js_expansion.specs.AlternativeView.{alternative_view}
 use Rattle.js_expansion.specs.View.{shape_view}
 use Rattle.js_expansion.specs.declared.alternative.Alternative.{Alternative}
 use Rattle.js_expansion.specs.declared.alternative.Shape.TheVariants as H
-
-same_self : (t : Kind) → same_kind t t ≡ true
-same_self K.Null = refl
-same_self K.Boolean = refl
-same_self K.Number = refl
-same_self K.Text = refl
-same_self K.Array = refl
-same_self K.Object = refl
+use Rattle.std.proofs.lemmas.List.{get_or_default}
+use Rattle.position_laws.proofs.SameKind.{same_kind-refl}
 
 filled : (cells : List (List (List ℕ))) → 0 < capacity (cell_at cells 0) → 0 < length cells
 filled [] l = absurd (omega (arith, l))
 filled (c ∷ cells) l = omega arith
-
--- which value stands past the end doesn't matter
-same_at : {X : Type 0} (xs : List X) (i : ℕ) (d e : X) → i < length xs → get_or xs i d ≡ get_or xs i e
-same_at [] i d e l = absurd (omega (arith, l))
-same_at (x ∷ xs) zero d e l = refl
-same_at (x ∷ xs) (suc i) d e l = same_at xs i d e (omega (arith, l))
 
 module _ (ex : Expansion) (xs : List Alternative) (all : map alternative_view xs ≡ ex.alternatives) (i : ℕ)
     (d : Alternative) (within : i < length xs) where
@@ -44,7 +32,7 @@ module _ (ex : Expansion) (xs : List Alternative) (all : map alternative_view xs
   pub names : names_branch ex chosen.kind chosen.branch ≡ true
   names =
       some_from (λ a. same_kind chosen.kind a.kind && nat_eq chosen.branch a.branch) chosen ex.alternatives is_in
-      (and_from (same_kind chosen.kind chosen.kind) (nat_eq chosen.branch chosen.branch) (same_self chosen.kind)
+      (and_from (same_kind chosen.kind chosen.kind) (nat_eq chosen.branch chosen.branch) (same_kind-refl chosen.kind)
       (eq-eqb chosen.branch chosen.branch refl))
 
   module _ (cells : Kind → ℕ → List (List (List ℕ)))
@@ -62,7 +50,7 @@ module _ (ex : Expansion) (xs : List Alternative) (all : map alternative_view xs
         (every (λ f. has_room own f.slot f.room) chosen.fillers) has in
         let (first, members) =
         and_parts (has_text own chosen.shape) (every (λ m. has_room own m.slot 1) chosen.members) front in
-        let is : (get_or xs i d).shape ≡ H.Text = ap (λ a. a.shape) (same_at xs i d e within) ∙ text in
+        let is : (get_or xs i d).shape ≡ H.Text = ap (λ a. a.shape) (get_or_default xs i d e within) ∙ text in
         ltb-true 0 (capacity (cell_at own 0)) (subst (λ s. has_text own (shape_view s) ≡ true) is first)
 
     pub there : 0 < length own

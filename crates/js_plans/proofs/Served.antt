@@ -1,21 +1,16 @@
--- What serves a demand serves demands of the table, the latest first.
-use Rattle.std.proofs.Common.{◌≡◌, Result, Ok, Err, IfOk, ℕ, List, [], ◌∷◌, ◌++◌, map, reverse, Bool, true, false, cond, refl, ap, sym, ◌∙◌, subst}
+-- The demands that a server serves after a path, the latest first: what their list is made of, and that each passes a
+-- test that all demands pass.
+use Rattle.std.proofs.Common.{◌≡◌, Result, Ok, Err, IfOk, ℕ, List, [], ◌∷◌, map, reverse, Bool, true, false, cond, refl, ap, sym, ◌∙◌, subst}
 use Rattle.std.proofs.lemmas.Bool.{and_parts, and_from}
-use Rattle.std.proofs.lemmas.List.{map-append, reverse-append}
+use Rattle.std.proofs.lemmas.List.{reverse-append}
 use Rattle.documents.specs.Tests.{every}
+use Rattle.list_laws.proofs.Lists.{map-reverse}
+use Rattle.list_laws.proofs.Every.{every-append}
 use Rattle.goals.specs.Signed.{Signed}
 use Rattle.js_algebra.specs.View.{signed_view}
 use Rattle.js_algebra.specs.declared.signed.Signed as C
 use Rattle.js_plans.specs.declared.server.Server.{Server}
 use Rattle.js_plans.specs.Servers.{earlier, serves_too, members_after}
-
-pub map-reverse : {A B : Type 0} (f : A → B) (xs : List A) → map f (reverse xs) ≡ reverse (map f xs)
-map-reverse f [] = refl
-map-reverse f (x ∷ xs) =
-    ap (map f) (reverse-append (x ∷ []) xs)
-    ∙ map-append f (reverse xs) (x ∷ [])
-    ∙ ap (λ ys. ys ++ f x ∷ []) (map-reverse f xs)
-    ∙ sym (reverse-append (f x ∷ []) (map f xs))
 
 pub served_list : (s : Server) (ds xs ys : List C.Signed) (D : List Signed) (ws : List Server)
     → map signed_view ds ≡ D → map signed_view xs ≡ earlier s (map signed_view ds) 0 ws → ys ≡ reverse xs
@@ -30,19 +25,14 @@ if_ok P Q (Ok x) f h = f x h
 if_ok P Q (Err e) f h = tt
 
 module _ (p : Signed → Bool) where
-  every-append : (xs ys : List Signed) → every p xs ≡ true → every p ys ≡ true → every p (xs ++ ys) ≡ true
-  every-append [] ys a b = b
-  every-append (x ∷ xs) ys a b =
-      let (h, t) = and_parts (p x) (every p xs) a in and_from _ _ h (every-append xs ys t b)
-
-  every-reverse : (xs : List Signed) → every p xs ≡ true → every p (reverse xs) ≡ true
+  pub every-reverse : (xs : List Signed) → every p xs ≡ true → every p (reverse xs) ≡ true
   every-reverse [] a = refl
   every-reverse (x ∷ xs) a =
       let (h, t) = and_parts (p x) (every p xs) a in
       subst (λ ys. every p ys ≡ true) (sym (reverse-append (x ∷ []) xs))
-      (every-append (reverse xs) (x ∷ []) (every-reverse xs t) (and_from _ _ h refl))
+      (every-append p (reverse xs) (x ∷ []) (every-reverse xs t) (and_from _ _ h refl))
 
-  every-earlier : (s : Server) (ds : List Signed) (m : ℕ) (ws : List Server) → every p ds ≡ true
+  pub every-earlier : (s : Server) (ds : List Signed) (m : ℕ) (ws : List Server) → every p ds ≡ true
       → every p (earlier s ds m ws) ≡ true
   every-earlier s ds m [] a = refl
   every-earlier s [] m (w ∷ ws) a = refl
