@@ -8,4 +8,3 @@ mod InOrder
 pub mod RowOrder
 pub mod FirstRow
 pub mod Names
-pub mod NoObjects

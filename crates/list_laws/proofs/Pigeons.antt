@@ -1,4 +1,4 @@
--- Lists without repeats: one that lies in a range is no longer than the range.
+-- The pigeonhole principle: a list without repeats that lies in a range is no longer than the range.
 use Rattle.std.proofs.Common.{◌≡◌, ℕ, zero, suc, ◌+◌, ◌<◌, ◌≤◌, ◌⊎◌, inl, inr, ⊎_elim, Bool, true, false, cond, List, [], ◌∷◌, length, nat_eq, refl, ap, sym, ◌∙◌, subst, arith}
 use Rattle.std.proofs.lemmas.Bool.{cases_eq, eqb-true, eqb-false}
 use Rattle.list_laws.specs.In.{IsIn, Distinct}

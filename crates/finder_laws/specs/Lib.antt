@@ -1,2 +1,0 @@
--- Tables without positions of objects: no name has to be distinguished from another one.
-pub mod Objects
