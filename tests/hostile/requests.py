@@ -14,7 +14,11 @@ import tempfile
 from memory import SMALL
 
 HERE = os.path.dirname(os.path.abspath(__file__))
+VERSION = ('{"$schema":"http://json-schema.org/draft-06/schema#","title":"v%d","type":"object","required":["name"],'
+           '"properties":{"name":{"type":"string","minLength":1,"format":"hostname"}%s},"additionalProperties":false}')
 FILES = {
+    'before': VERSION % (1, ''),
+    'after': VERSION % (2, ',"tags":{"type":"array","items":{"type":"string"}}'),
     'string': '{"type":"string"}',
     'text': '{"type":["string","null"]}',
     'false': 'false',
@@ -28,7 +32,8 @@ FILES = {
 }
 COMMANDS = [
     ('sat', 'endless'), ('sat', 'patterns'), ('sat', 'named'), ('sat', 'chain'), ('sat', '--workers', '4', 'chain'),
-    ('include', 'string', 'text'), ('include', 'text', 'string'), ('check', 'endless', 'false', 'certificate'),
+    ('include', 'string', 'text'), ('include', 'text', 'string'), ('include', 'before', 'after'),
+    ('include', 'after', 'before'), ('check', 'endless', 'false', 'certificate'),
     ('valid', 'named', 'document'), ('norm', 'patterns'), ('gen', 'tree', '5'),
 ]
 
