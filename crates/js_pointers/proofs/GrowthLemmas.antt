@@ -1,22 +1,19 @@
 -- A table with one more word, or with one more step: no word and no pointer stands there twice.
-use Rattle.std.proofs.Common.{◌≡◌, ℕ, zero, suc, ◌+◌, ◌≤◌, ◌<◌, List, [], ◌∷◌, ◌++◌, map, length, get_or, Bool, true, false, cond, ◌&&◌, nat_lt, nat_eq, Some, None, position, chars, string_bytes, bytes_eq, refl, sym, ap, subst, ◌∙◌, add-one, inl, inr, Result, Ok, Err, arith}
+use Rattle.std.proofs.Common.{◌≡◌, ℕ, suc, ◌+◌, ◌<◌, List, [], ◌∷◌, ◌++◌, map, length, get_or, Bool, true, false, cond, ◌&&◌, nat_lt, nat_eq, None, position, refl, sym, ap, subst, ◌∙◌, add-one, inl, inr, Result, Ok, Err, arith}
 use Rattle.std.specs.Prelude.{String, IfOk, OnErr, ◌⊎◌}
-use Rattle.std.specs.List.{position_or_len, list_any, slice_get}
-use Rattle.std.proofs.lemmas.Option.{none-some, same_Some}
-use Rattle.std.proofs.lemmas.List.{append-nil, length_push, map-append}
+use Rattle.std.specs.List.{position_or_len, list_any}
+use Rattle.std.proofs.lemmas.List.{append-nil, length_push, length-map, map-append}
 use Rattle.std.proofs.Math.ListN.{get_or-append}
 use Rattle.std.proofs.Math.Seq.{get_or-append_seam}
 use Rattle.std.proofs.lemmas.Bool.{ltb-true, ltb-false}
 use Rattle.std.proofs.lemmas.List.Sums.{passes_at_first}
 use Rattle.indexmap.specs.IndexSet.{insert_key}
 use Rattle.schemas.specs.Places.{Pointer}
-use Rattle.js_doc.proofs.Lookups.{same_word-bytes_eq}
 use Rattle.js_pointers.specs.Table.{IsTable, IsStep, IsWord, AreNames, Keeps, Grows, gone_on, numbered, word}
 use Rattle.js_pointers.proofs.WordLemmas.{distinct_more, name_word, more_names, keeps-more}
 use Rattle.js_pointers.proofs.PositionLemmas.{position_or_len-all_fail, position_or_len-passes, position-all_fail}
 use Rattle.js_pointers.proofs.SameStepLemmas.{pair, same_step-true}
 use Rattle.js_pointers.proofs.TableLemmas.{below-missing, text}
-use Rattle.list_laws.proofs.Tests.{same_word-true}
 
 -- More words.
 
@@ -149,12 +146,6 @@ pub inserted : {A R E : Type 0} (eq : A → A → Bool) (old new : List A) (x : 
 inserted eq old new x (Ok a) ok err = subst (λ xs. Inserted (eq x) old xs x) (sym ok) (insert_key-either eq old x)
 inserted eq old new x (Err e) ok err = inl err
 
-pub inserted-length : {A : Type 0} (test : A → Bool) (old new : List A) (x : A) → Inserted test old new x
-    → length new ≤ suc (length old)
-inserted-length test old new x (inl e) = let same = ap length e in omega (arith, same)
-inserted-length test old new x (inr e) =
-    let same = ap length e.1 in let longer = length_push old x in omega (arith, same, longer)
-
 -- The program's tables.
 
 module _ (names : List (List ℕ)) (steps : List (ℕ × ℕ)) (table : IsTable names steps (numbered names steps))
@@ -224,35 +215,22 @@ module _ (names : List (List ℕ)) (steps : List (ℕ × ℕ)) (table : IsTable 
 
 -- The program's names.
 
-module _ {Z : Type 0} (ts : List (String Z)) (are : AreNames (map text ts)) (t : String Z)
-    (new : (k : ℕ) → IsWord (map text ts) k (text t) → ⊥) where
-  pub name-table : (us : List (String Z)) → Inserted (λ k. bytes_eq (string_bytes t) (string_bytes k)) ts us t
-      → AreNames (map text us)
-  name-table us (inl e) = subst (λ vs. AreNames (map text vs)) (sym e) are
-  name-table us (inr e) =
-      subst AreNames (sym (ap (map text) e.1 ∙ map-append text ts (t ∷ []))) (more_names (map text ts) (text t) are new)
+module _ {Z : Type 0} (ts : List (String Z)) (t : String Z) where
+  more_texts : map text (ts ++ t ∷ []) ≡ map text ts ++ text t ∷ []
+  more_texts = map-append text ts (t ∷ [])
 
-  pub name-keeps : (us : List (String Z)) → Inserted (λ k. bytes_eq (string_bytes t) (string_bytes k)) ts us t
-      → Keeps (map text ts) (map text us)
-  name-keeps us (inl e) =
-      subst (λ vs. Keeps (map text ts) (map text vs)) (sym e) (omega arith, λ k l. refl)
-  name-keeps us (inr e) =
-      subst (Keeps (map text ts)) (sym (ap (map text) e.1 ∙ map-append text ts (t ∷ [])))
-      (keeps-more (map text ts) (text t))
+  pub name-table : AreNames (map text ts) → ((k : ℕ) → IsWord (map text ts) k (text t) → ⊥)
+      → AreNames (map text (ts ++ t ∷ []))
+  name-table are new = subst AreNames (sym more_texts) (more_names (map text ts) (text t) are new)
 
-module _ {Z : Type 0} (t k : String Z) (same : bytes_eq (string_bytes t) (string_bytes k) ≡ true) where
-  same_text : text k ≡ text t
-  same_text =
-      ap chars (sym (same_word-true _ _ (same_word-bytes_eq (string_bytes t) (string_bytes k) ∙ same)))
+  pub name-keeps : Keeps (map text ts) (map text (ts ++ t ∷ []))
+  name-keeps = subst (Keeps (map text ts)) (sym more_texts) (keeps-more (map text ts) (text t))
 
-  at_stored : (us : List (String Z)) (i : ℕ) → slice_get us i ≡ Some k
-      → (i < length (map text us)) × (get_or (map text us) i [] ≡ text k)
-  at_stored [] zero h = absurd (none-some k h)
-  at_stored [] (suc i) h = absurd (none-some k h)
-  at_stored (u ∷ us) zero h = (omega arith, ap text (same_Some u k h))
-  at_stored (u ∷ us) (suc i) h = let later = at_stored us i h in let less = later.0 in (omega (arith, less), later.1)
-
-  pub stored-word : (us : List (String Z)) (i : ℕ) → slice_get us i ≡ Some k
-      → IsWord (map text us) (2147483648 + i) (text t)
-  stored-word us i h =
-      let at = at_stored us i h in name_word (map text us) (text t) i at.0 (at.1 ∙ same_text)
+  pub name-last : IsWord (map text (ts ++ t ∷ [])) (2147483648 + length ts) (text t)
+  name-last =
+      let long = length_push (map text ts) (text t) in
+      let count : length (map text ts) ≡ length ts = length-map ts text in
+      subst (λ ws. IsWord ws (2147483648 + length ts) (text t)) (sym more_texts)
+      (name_word (map text ts ++ text t ∷ []) (text t) (length ts) (omega (arith, long, count))
+      (ap (λ i. get_or (map text ts ++ text t ∷ []) i []) (sym count)
+      ∙ get_or-append_seam (map text ts) (text t) [] []))

@@ -2,6 +2,7 @@ pub mod PositionLemmas
 pub mod SameStepLemmas
 pub mod NumberedLemmas
 pub mod PlacesLemmas
+pub mod NamesLemmas
 pub mod WordLemmas
 pub mod TableLemmas
 pub mod GrowthLemmas

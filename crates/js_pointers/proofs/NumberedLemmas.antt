@@ -9,7 +9,7 @@ use Rattle.std.proofs.Math.ListN.{get_or-append}
 use Rattle.std.proofs.Math.Seq.{get_or-append_seam}
 use Rattle.indexmap.specs.IndexSet.{insert_key}
 use Rattle.js_pointers.specs.Numbered.{IsNumbered, same_step}
-use Rattle.js_pointers.proofs.PositionLemmas.{position_or_len-all_fail, position_or_len-passes}
+use Rattle.js_pointers.proofs.PositionLemmas.{position-within, position-beyond, position_or_len-all_fail, position_or_len-passes}
 use Rattle.js_pointers.proofs.SameStepLemmas.{pair, same_step-true, same_step-refl}
 
 -- A set of keys.
@@ -29,22 +29,6 @@ insert-last eq xs x all = go (list_any (eq x) xs) refl
     go : (b : Bool) → list_any (eq x) xs ≡ b → xs ++ x ∷ [] ≡ cond b xs (xs ++ x ∷ [])
     go true e = let less = position_or_len-passes (eq x) xs e in absurd (omega (arith, all, less))
     go false e = refl
-
--- Positions.
-
-within : (n m i : ℕ) → n ≡ i → i < m → Some i ≡ cond (nat_lt n m) (Some n) None
-within n m i e less = go (nat_lt n m) refl
-  where
-    go : (b : Bool) → nat_lt n m ≡ b → Some i ≡ cond b (Some n) None
-    go true h = ap Some (sym e)
-    go false h = let most = ltb-false n m h in absurd (omega (arith, e, less, most))
-
-beyond : (n m : ℕ) → n ≡ m → None ≡ cond (nat_lt n m) (Some n) None
-beyond n m e = go (nat_lt n m) refl
-  where
-    go : (b : Bool) → nat_lt n m ≡ b → None ≡ cond b (Some n) None
-    go true h = let less = ltb-true n m h in absurd (omega (arith, e, less))
-    go false h = refl
 
 module _ (steps : List (ℕ × ℕ)) (found : ℕ → ℕ → Option ℕ) (numbered : IsNumbered steps found) where
   -- Steps that are there, and others.
@@ -102,8 +86,8 @@ module _ (steps : List (ℕ × ℕ)) (found : ℕ → ℕ → Option ℕ) (numbe
     found-position = go (found of token) refl
       where
         go : (o : Option ℕ) → found of token ≡ o → o ≡ position (same_step (of, token)) steps
-        go (Some i) h = within _ _ i (sym (index-there i h)) (within-there i h)
-        go None h = beyond _ _ (sym (index-new h))
+        go (Some i) h = position-within _ _ i (sym (index-there i h)) (within-there i h)
+        go None h = position-beyond _ _ (sym (index-new h))
 
   -- Changes.
 

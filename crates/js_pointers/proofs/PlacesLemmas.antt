@@ -4,8 +4,10 @@ use Rattle.std.proofs.lemmas.Option.{none-some}
 use Rattle.std.proofs.lemmas.Bool.{false≢true, eqb-true, eq-eqb}
 use Rattle.std.specs.Prelude.{Result, Ok, Err, OnOk, OnErr}
 use Rattle.std.specs.Map.{lookup}
-use Rattle.indexmap.specs.IndexMap.{IndexMap, Updates, IsUnchanged, get}
-use Rattle.js_pointers.specs.Numbered.{same_step}
+use Rattle.std.specs.Ordering.{is_eq, nat_cmp}
+use Rattle.std.specs.Cmp.{both_tied, unsigned_tied}
+use Rattle.std.specs.BTreeMap.{BTreeMap, Updates, IsUnchanged, get}
+use Rattle.js_pointers.specs.Numbered.{same_step, step_order}
 use Rattle.js_pointers.specs.BlocksView.{block_of, found_in}
 use Rattle.js_pointers.specs.declared.blocks.Block.{Block}
 use Rattle.js_pointers.proofs.SameStepLemmas.{same_step-true}
@@ -20,12 +22,22 @@ found-other block o token n = go (nat_lt token block.count)
     go true h = absurd (none-some (block.first + token) (sym h))
     go false h = refl
 
+-- the map's order tells steps apart
+same_order : (a b : ℕ × ℕ) → is_eq (step_order a b) ≡ same_step a b
+same_order a b =
+    sym (both_tied (nat_eq a.0 b.0) (nat_eq a.1 b.1) (nat_cmp a.0 b.0) (nat_cmp a.1 b.1)
+    (sym (unsigned_tied a.0 b.0)) (sym (unsigned_tied a.1 b.1)))
+
 -- a change to the map at a step leaves the others
-pub keeps-others : {S R E : Type 0} (m n : IndexMap (ℕ × ℕ) ℕ S) (k : ℕ × ℕ) (w : Option ℕ) (r : Result R E)
-    → OnOk r (Updates same_step m n k w) → OnErr r (IsUnchanged m n)
-    → (q : ℕ × ℕ) → same_step k q ≡ false → get same_step n q ≡ get same_step m q
-keeps-others m n k w (Ok a) ok err q h = ok.2 q h
-keeps-others m n k w (Err e) ok err q h = ap (lookup (same_step q)) err
+pub keeps-others : {R E : Type 0} (m n : BTreeMap (ℕ × ℕ) ℕ) (k : ℕ × ℕ) (w : Option ℕ) (r : Result R E)
+    → OnOk r (Updates step_order m n k w) → OnErr r (IsUnchanged m n)
+    → (q : ℕ × ℕ) → same_step k q ≡ false → get step_order n q ≡ get step_order m q
+keeps-others m n k w (Ok a) ok err q h = ok.2 q (same_order k q ∙ h)
+keeps-others m n k w (Err e) ok err q h = ap (lookup (λ s. is_eq (step_order q s))) err
+
+pub gets-others : (m n : BTreeMap (ℕ × ℕ) ℕ) (k : ℕ × ℕ) (w : Option ℕ) → Updates step_order m n k w
+    → (q : ℕ × ℕ) → get step_order n q ≡ cond (same_step k q) w (get step_order m q)
+gets-others m n k w updates q = updates.0 q ∙ ap (λ b. cond b w (get step_order m q)) (same_order k q)
 
 abbrev pub mark : Block → Block
 mark b = record { first = b.first; count = b.count; others = true }

@@ -7,7 +7,7 @@ use Rattle.js_pointers.specs.declared.tokens.Token.TheVariants.{Index, Name}
 
 -- the names, in the order of their numbers
 abbrev pub names_of : Tokens → List (List ℕ)
-names_of t = map (λ w. chars (string_bytes w)) t.names.keys
+names_of t = map (λ w. chars (string_bytes w)) t.names.items
 
 abbrev pub token_text : Token → List ℕ
 token_text (Index i) = decimal i

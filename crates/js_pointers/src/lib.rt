@@ -3,8 +3,9 @@
 //! A pointer takes two numbers, however long it is: that of the pointer from which it goes on, and that of its last
 //! token. `Tokens` numbers the tokens, and `Steps` the pairs, in the order in which they were added. The tokens of a
 //! list's elements are their indices, which are mostly added one after another, so for each pointer a block says where
-//! they stand: they are found and added by looks at lists alone. Only other steps take a hash. The walk of a schema,
-//! `js_walk`, stands on this crate, and so does what is looked up in its places, `js_schema`.
+//! they stand: they are found and added by looks at lists alone. Other steps, and names, stand in maps by order, in
+//! which no file can make a look-up slow. The walk of a schema, `js_walk`, stands on this crate, and so does what is
+//! looked up in its places, `js_schema`.
 #![tactic(auto)]
 
 mod blocks;

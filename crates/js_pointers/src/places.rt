@@ -1,22 +1,25 @@
 //! Where steps stand: in the block of the number from which they go on, or in a map.
+//!
+//! A member's name may be a number, which is then that of its token. So the map is one by order, as that of the names
+//! is: a file could make steps collide in one by a hash without a secret.
 
 ghost use Rattle.std.specs.Prelude.{◌≡◌, ◌<◌, ℕ, None, Some, false, if◌then◌else◌, nat_eq, ◌&&◌, OnOk, OnErr};
-ghost use Rattle.indexmap.specs.IndexMap.{get};
+ghost use Rattle.std.specs.BTreeMap.{get};
 ghost use Rattle.js_pointers.specs.BlocksView.{block_of};
-ghost use Rattle.js_pointers.specs.Numbered.{same_step};
+ghost use Rattle.js_pointers.specs.Numbered.{step_order};
 
 use crate::blocks::{Block, block_at, note_block};
-use indexmap::IndexMap;
 use js_doc::Memory;
 use std::alloc::Global;
+use std::collections::BTreeMap;
 
 /// The numbers at which steps stand. The map has those alone that have no place in a block.
 #[derive(Drop)]
 pub(crate) struct Places {
     blocks: Vec<Block>,
-    others: IndexMap<(u32, u32), u32>,
+    others: BTreeMap<(u32, u32), u32>,
     ghost marked: { (of token : ℕ) → (block_of blocks.items of).others ≡ false
-        → get same_step others (of, token) ≡ None },
+        → get step_order others (of, token) ≡ None },
 }
 
 impl Places {
@@ -28,12 +31,12 @@ impl Places {
     {
         Places {
             blocks: Vec::new(alloc),
-            others: IndexMap::new(alloc),
+            others: BTreeMap::new(alloc),
         }
     }
 
-    /// Where a step stands. It takes a hash only where the step is in no block, and others beside a block go on from
-    /// the same number.
+    /// Where a step stands. It takes a look at the map only where the step is in no block, and others beside a block go
+    /// on from the same number.
     pub(crate) fn number(&self, of: u32, token: u32) -> Option<usize>
         ensures { result ≡ found self.now of token }
     {
@@ -48,7 +51,7 @@ impl Places {
         Some(*number as usize)
     }
 
-    /// Notes where a step stands that has stood nowhere. It takes a hash only where the block of `of` doesn't go on
+    /// Notes where a step stands that has stood nowhere. The map changes only where the block of `of` doesn't go on
     /// with the step. An error is memory that is wanting, and then each step is found where it was.
     pub(crate) fn note(&mut self, of: u32, token: u32, number: u32) -> Result<(), Memory>
         requires new { found self.old of token ≡ None }

@@ -1,9 +1,10 @@
 //! The pointers of a file's places, by number.
 //!
 //! Pointer 0 is the root, and each other is an earlier one with one more token. So a pointer takes two numbers, however
-//! long it is, and each name in it is kept once. To go down by a name takes time in proportion to that name. To go down
-//! by an index needs no text, nor a hash where the elements of the list were added in turn. A whole pointer is made
-//! only on request.
+//! long it is, and each name is kept twice, in the list of names and in the map by which it is found. To go down by a
+//! name takes comparisons with names in proportion to the logarithm of their count. To go down by an index needs no
+//! text, nor a look at a map where the elements of the list were added in turn. A whole pointer is made only on
+//! request.
 
 ghost use Rattle.std.specs.Prelude.{◌≡◌, ◌<◌, ◌++◌, ◌∷◌, [], map, reverse, length, get_or, chars, Some, IfOk, OnOk};
 ghost use Rattle.schemas.specs.Places.{Pointer as P, index_token};

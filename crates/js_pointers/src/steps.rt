@@ -60,7 +60,8 @@ impl Steps {
     }
 
     /// The number of a step, where it is there. Where it and those by the lower tokens were added in turn it takes no
-    /// hash, nor where all that go on from `of` were so added; else one.
+    /// look at the map, nor where all that go on from `of` were so added; else one, in time in proportion to the
+    /// logarithm of what stands there.
     pub fn number(&self, of: u32, token: u32) -> Option<usize>
         ensures index { result ≡ position (λ s. nat_eq of s.0 && nat_eq token s.1) self.now }
         ensures few { length self.now < 4294967295 }
@@ -69,9 +70,9 @@ impl Steps {
     }
 
     /// The number of a step, which is added after the others where it isn't there. Where those by the lower tokens were
-    /// added just before, in turn, it takes no hash; else one, and one more where other steps out of turn go on from
-    /// `of`. It takes the memory of the step, and room up to the number `of`, by doubling. An error is memory that is
-    /// wanting, as it is where there would be more than 2^32 - 2 steps.
+    /// added just before, in turn, it takes no look at the map; else one, and one more where other steps out of turn go
+    /// on from `of`. It takes the memory of the step, and room up to the number `of`, by doubling. An error is memory
+    /// that is wanting, as it is where there would be more than 2^32 - 2 steps.
     pub fn add(&mut self, of: u32, token: u32) -> Result<usize, Memory>
         ensures keys { OnOk result (self.new ≡ insert_key same_step self.old (of, token)) }
         ensures index { IfOk result (λ i. i ≡ position_or_len (λ s. nat_eq of s.0 && nat_eq token s.1) self.old) }

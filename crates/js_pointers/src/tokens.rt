@@ -1,16 +1,19 @@
 //! The tokens of pointers, by number.
 //!
 //! The token of an element's index is numbered by that index, below 2³¹: it needs no text, and nothing is kept for it.
-//! Every other text is a name. Names are numbered from 2³¹ on, and each is kept once and found by its hash.
+//! Every other text is a name. Names are numbered from 2³¹ on. They stand in a list in the order of their numbers, and
+//! a map by order has the place of each: a file chooses them, and could make them collide in a map by a hash without a
+//! secret.
 
 ghost use Rattle.std.specs.Prelude.{◌≡◌, ◌≤◌, ◌<◌, ◌++◌, ◌∷◌, ℕ, [], length, get_or, map, chars, string_bytes, IfOk, OnOk, MatchOption};
 ghost use Rattle.schemas.specs.Places.{index_token};
 ghost use Rattle.js_pointers.specs.Table.{first_name, word, IsKnown, IsWord, AreNames, Keeps};
+ghost use Rattle.js_pointers.specs.NamePlaces.{ArePlaces};
 
-use indexmap::IndexSet;
 use js_doc::{Memory, Str};
 use js_json::{Pointer, element_index};
 use std::alloc::Global;
+use std::collections::BTreeMap;
 
 /// The number of the first name.
 const FIRST_NAME: u32 = 2_147_483_648;
@@ -21,9 +24,11 @@ const MOST_NAMES: usize = 2_147_483_648;
 /// Names, no two of them the same, and none of them an index that has a number without a name.
 #[derive(Drop)]
 pub struct Tokens {
-    names: IndexSet<String>,
-    ghost are_names: { AreNames (map (λ w. chars (string_bytes w)) names.keys) },
-    ghost few: { length names.keys ≤ 2147483648 },
+    names: Vec<String>,
+    places: BTreeMap<String, u32>,
+    ghost are_names: { AreNames (map (λ w. chars (string_bytes w)) names.items) },
+    ghost few: { length names.items ≤ 2147483648 },
+    ghost are_places: { ArePlaces names.items places },
 }
 
 /// What a token's number stands for.
@@ -55,11 +60,13 @@ impl Tokens {
         ensures { names_of result ≡ [] }
     {
         Tokens {
-            names: IndexSet::new(alloc),
+            names: Vec::new(alloc),
+            places: BTreeMap::new(alloc),
         }
     }
 
-    /// The number of a token, where it has one, in time in proportion to its text.
+    /// The number of a token, where it has one. It takes comparisons with names in proportion to the logarithm of their
+    /// count, whatever they are.
     pub fn number(&self, text: &str) -> Option<u32>
         ensures { MatchOption result ((k : ℕ) → IsWord (names_of self.now) k (chars text.now) → ⊥)
             (λ k. IsWord (names_of self.now) k (chars text.now)) }
@@ -67,11 +74,11 @@ impl Tokens {
         if let Some(index) = numbered_index(text) {
             return Some(index);
         }
-        let name = self.names.get_index_of(text)?;
-        Some(FIRST_NAME + name as u32)
+        let place = self.places.get(text)?;
+        Some(FIRST_NAME + *place)
     }
 
-    /// The number of a token, in time in proportion to its text. A name is added where it isn't there.
+    /// The number of a token, as by `number`. A name is added where it isn't there.
     pub fn add(&mut self, text: &str) -> Result<u32, Memory>
         ensures keeps { Keeps (names_of self.old) (names_of self.new) }
         ensures word { IfOk result (λ k. IsWord (names_of self.new) k (chars text.now)) }
@@ -79,12 +86,19 @@ impl Tokens {
         if let Some(number) = self.number(text) {
             return Ok(number);
         }
-        if self.names.len() >= MOST_NAMES {
+        let place = self.names.len();
+        if place >= MOST_NAMES {
             return Err(Memory);
         }
-        let name = String::from_str(*self.names.allocator(), text)?;
-        let (index, _) = self.names.insert_full(name)?;
-        Ok(FIRST_NAME + index as u32)
+        let alloc = *self.names.allocator();
+        let name = String::from_str(alloc, text)?;
+        let key = String::from_str(alloc, text)?;
+        self.names.push(name)?;
+        if let Err(_) = self.places.insert(key, place as u32) {
+            self.names.truncate(place);
+            return Err(Memory);
+        }
+        Ok(FIRST_NAME + place as u32)
     }
 
     /// The token with that number.
@@ -109,10 +123,7 @@ impl Tokens {
         requires { index < length (names_of self.now) }
         ensures { chars result.now ≡ get_or (names_of self.now) index [] }
     {
-        match self.names.get_index(index) {
-            Some(name) => name.as_str(),
-            None => unreachable!(),
-        }
+        self.names[index].as_str()
     }
 }
 

@@ -6,3 +6,4 @@ pub mod SinkLemmas
 pub mod GroupLemmas
 -- Values that are kept once.
 pub mod OnceLaws
+pub mod SetLemmas

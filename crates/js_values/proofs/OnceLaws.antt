@@ -1,7 +1,7 @@
 -- Values that are added one after another are those that are kept once, where each stands first.
-use Rattle.std.proofs.Common.{◌≡◌, ℕ, ◌+◌, ◌<◌, List, [], ◌∷◌, ◌++◌, map, length, drop, get_or, Option, Some, None, Bool, true, false, cond, ◌||◌, if◌then◌else◌, refl, sym, ap, ◌∙◌, append_assoc}
-use Rattle.std.proofs.lemmas.List.{append-nil, map-append, drop_more}
-use Rattle.std.specs.List.{list_any, filter_map}
+use Rattle.std.proofs.Common.{◌≡◌, ℕ, ◌+◌, ◌<◌, List, [], ◌∷◌, ◌++◌, map, length, drop, get_or, Option, Some, None, Bool, true, false, cond, ◌||◌, refl, sym, ap, ◌∙◌, append_assoc}
+use Rattle.std.proofs.lemmas.List.{append-nil, drop_more}
+use Rattle.std.specs.List.{filter_map}
 use Rattle.documents.specs.Tests.{some}
 use Rattle.normal_forms.specs.KeywordNodes.{once_among, once}
 use Rattle.js_values.specs.Distinct.{add_once, add_all}
@@ -13,7 +13,7 @@ or-end true false d e = e
 or-end false true d e = refl
 or-end false false d e = e
 
-some-end : {A : Type 0} (p : A → Bool) (ks : List A) (x : A) → some p (ks ++ x ∷ []) ≡ (some p ks || (p x || false))
+pub some-end : {A : Type 0} (p : A → Bool) (ks : List A) (x : A) → some p (ks ++ x ∷ []) ≡ (some p ks || (p x || false))
 some-end p [] x = refl
 some-end p (k ∷ ks) x = ap (λ b. p k || b) (some-end p ks x) ∙ sym (or_assoc (p k) (some p ks) (p x || false))
 
@@ -37,19 +37,14 @@ add_all-among {A} same ks done (x ∷ xs) h =
 pub add_all-once : {A : Type 0} (same : A → A → Bool) (xs : List A) → add_all same [] xs ≡ once same xs
 add_all-once same xs = add_all-among same [] [] xs (λ y. refl)
 
-some-list_any : {A B : Type 0} (p : B → Bool) (v : A → B) (xs : List A) → some p (map v xs) ≡ list_any (λ x. p (v x)) xs
-some-list_any p v [] = refl
-some-list_any p v (x ∷ xs) = ap (λ b. p (v x) || b) (some-list_any p v xs)
+-- a value that is among them, and one that isn't
+pub added-there : {A : Type 0} (same : A → A → Bool) (ks : List A) (x : A) → some (same x) ks ≡ true
+    → ks ≡ add_once same ks x
+added-there same ks x e = rw e refl
 
--- a key that is inserted is added once
-pub inserted-added : {A B : Type 0} (same : B → B → Bool) (v : A → B) (ks : List A) (k : A)
-    → map v (if list_any (λ x. same (v k) (v x)) ks then ks else ks ++ k ∷ []) ≡ add_once same (map v ks) (v k)
-inserted-added same v ks k =
-    by_test (list_any (λ x. same (v k) (v x)) ks) refl where
-      by_test : (t : Bool) → list_any (λ x. same (v k) (v x)) ks ≡ t
-          → map v (if t then ks else ks ++ k ∷ []) ≡ add_once same (map v ks) (v k)
-      by_test true e = rw (some-list_any (same (v k)) v ks ∙ e) refl
-      by_test false e = rw (some-list_any (same (v k)) v ks ∙ e) (map-append v ks (k ∷ []))
+pub added-new : {A : Type 0} (same : A → A → Bool) (ks : List A) (x : A) → some (same x) ks ≡ false
+    → ks ++ x ∷ [] ≡ add_once same ks x
+added-new same ks x e = rw e refl
 
 add_all-append : {A : Type 0} (same : A → A → Bool) (ks xs ys : List A)
     → add_all same (add_all same ks xs) ys ≡ add_all same ks (xs ++ ys)

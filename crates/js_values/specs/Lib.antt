@@ -4,4 +4,4 @@ pub mod Runs
 pub mod MemberMaker
 pub mod GroupMakers
 pub mod Distinct
-pub mod WordLaws
+pub mod Sets

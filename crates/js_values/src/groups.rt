@@ -14,13 +14,13 @@ ghost use Rattle.normal_forms.specs.Nodes as M;
 ghost use Rattle.normal_forms.specs.Values as V;
 ghost use Rattle.normal_forms.specs.KeywordNodes as W;
 ghost use Rattle.js_values.specs.Runs.{run};
-ghost use Rattle.js_values.specs.Distinct.{add_all, words_of};
+ghost use Rattle.js_values.specs.Distinct.{add_all, numbers_of, words_of};
 ghost use Rattle.js_values.specs.GroupMakers.{null_maker, truth_maker, container_maker};
 
+use crate::numbers::Numbers;
 use crate::sink::Sink;
 use crate::values::{of_kind, one_kind, value_node};
 use crate::words::Words;
-use indexmap::IndexSet;
 use js_algebra::{JsonKind, Node};
 use js_doc::{Doc, DocList, Memory, NumList, Str, StrList};
 use std::alloc::Global;
@@ -135,22 +135,19 @@ fn has_truth(values: &DocList, truth: bool) -> bool
 fn numbers_in(alloc: Global, values: &DocList) -> Result<NumList, Memory>
     ensures { IfOk result (λ l. l ≡ W.once int_eq (filter_map W.number_in (D.elements (list_view values.now)))) }
 {
-    let mut numbers = IndexSet::new(alloc);
+    let mut numbers = Numbers::new(alloc);
     for doc in values.as_slice() {
         add_number(doc, &mut numbers)?;
     }
-    NumList::from_vec(numbers.as_slice().to_vec(alloc)?)
+    numbers.into_list()
 }
 
-fn add_number(doc: &Doc, numbers: &mut IndexSet<i128>) -> Result<(), Memory>
-    ensures { OnOk result (numbers.new.keys
-        ≡ add_all int_eq numbers.old.keys (filter_map W.number_in (view doc.now ∷ []))) }
+fn add_number(doc: &Doc, numbers: &mut Numbers) -> Result<(), Memory>
+    ensures { OnOk result (numbers_of numbers.new
+        ≡ add_all int_eq (numbers_of numbers.old) (filter_map W.number_in (view doc.now ∷ []))) }
 {
     match number_in(doc) {
-        Some(number) => {
-            numbers.insert(number)?;
-            Ok(())
-        }
+        Some(number) => numbers.add(number),
         None => Ok(()),
     }
 }
@@ -163,7 +160,7 @@ fn words_in(alloc: Global, values: &DocList) -> Result<StrList, Memory>
     for doc in values.as_slice() {
         add_word(alloc, doc, &mut words)?;
     }
-    words.to_list(alloc)
+    Ok(words.into_list())
 }
 
 fn add_word(alloc: Global, doc: &Doc, words: &mut Words) -> Result<(), Memory>

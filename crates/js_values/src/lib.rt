@@ -6,6 +6,7 @@
 
 mod below;
 mod groups;
+mod numbers;
 mod sink;
 mod values;
 mod words;

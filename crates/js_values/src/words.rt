@@ -1,81 +1,59 @@
 //! Words, each once, in the order in which they come first.
 //!
-//! A word is found by hashing, in time in proportion to its length.
+//! They stand in a list, and in a set by order, which says whether one is there: a file chooses them, and could make
+//! them collide in a set by a hash without a secret.
 
 ghost use Rattle.std.specs.Prelude.{◌≡◌, [], IfOk, OnOk};
-ghost use Rattle.std.specs.Cmp.{on_equiv, on_per, partial_equiv_from_equiv};
 ghost use Rattle.documents.specs.Tests.{same_word};
 ghost use Rattle.normal_forms.specs.KeywordNodes as W;
-ghost use Rattle.js_values.specs.Distinct.{add_once, hashed, text_of, words_of};
-ghost use Rattle.js_values.specs.WordLaws.{hashed-same, same_word-equivalence};
+ghost use Rattle.js_values.specs.Sets.{AreWords};
 
-use indexmap::IndexSet;
 use js_doc::{Memory, Str, StrList};
 use std::alloc::Global;
-use std::hash::{Hash, Hasher};
-
-/// A word, by which it is looked up.
-#[derive(Drop)]
-pub(crate) struct Word {
-    text: Str,
-}
-
-impl PartialEq for Word {
-    ghost eq = { λ a b. same_word (text_of a) (text_of b) };
-
-    ghost laws = { on_per text_of (partial_equiv_from_equiv same_word-equivalence) };
-
-    fn eq(&self, other: &Word) -> bool {
-        other.text.as_text() == self.text.as_text()
-    }
-}
-
-impl Eq for Word {
-    ghost laws = { on_equiv text_of same_word-equivalence };
-}
-
-impl Hash for Word {
-    ghost hash_input = { λ w. hashed (text_of w) };
-
-    ghost respects_eq = { hashed-same };
-
-    fn hash<H: Hasher>(&self, state: &mut H) {
-        self.text.as_text().hash(state);
-    }
-}
+use std::collections::BTreeSet;
 
 /// Words, no two of them the same.
 #[derive(Drop)]
 pub(crate) struct Words {
-    set: IndexSet<Word>,
+    list: Vec<Str>,
+    set: BTreeSet<String>,
+    ghost are_words: { AreWords list.items set },
 }
 
 impl Words {
+    ghost use Rattle.js_values.specs.Distinct.{add_once, words_of};
+
     pub(crate) fn new(alloc: Global) -> Words
         ensures { words_of result ≡ [] }
     {
         Words {
-            set: IndexSet::new(alloc),
+            list: Vec::new(alloc),
+            set: BTreeSet::new(alloc),
         }
     }
 
-    /// Adds a word that isn't there.
+    /// Adds a word that isn't there. It takes comparisons with words in proportion to the logarithm of their count.
     pub(crate) fn add(&mut self, alloc: Global, text: &Str) -> Result<(), Memory>
         ensures { OnOk result (words_of self.new ≡ add_once same_word (words_of self.old) text.now) }
     {
-        let text = text.copy(alloc)?;
-        self.set.insert(Word { text })?;
+        if self.set.contains(text.as_text()) {
+            return Ok(());
+        }
+        let count = self.list.len();
+        let key = String::from_str(alloc, text.as_text())?;
+        self.list.push(text.copy(alloc)?)?;
+        if let Err(_) = self.set.insert(key) {
+            self.list.truncate(count);
+            return Err(Memory);
+        }
         Ok(())
     }
 
-    pub(crate) fn to_list(&self, alloc: Global) -> Result<StrList, Memory>
-        ensures { IfOk result (λ l. l ≡ words_of self.now) }
+    pub(crate) fn into_list(self) -> StrList
+        ensures { result ≡ words_of self }
     {
-        let mut list = Vec::with_capacity(alloc, self.set.len())?;
-        for word in self.set.as_slice() {
-            list.push(word.text.copy(alloc)?)?;
-        }
-        Ok(StrList::from_vec(list))
+        let Words { list, .. } = self;
+        StrList::from_vec(list)
     }
 }
 
@@ -87,5 +65,5 @@ pub fn distinct(alloc: Global, words: &StrList) -> Result<StrList, Memory>
     for word in words.as_slice() {
         kept.add(alloc, word)?;
     }
-    kept.to_list(alloc)
+    Ok(kept.into_list())
 }
