@@ -2,5 +2,8 @@ mod Plans
 mod Placing
 mod Keeping
 mod Firsts
+mod Extents
+mod Skipping
+mod Starting
 mod Walking
 mod Adding

@@ -217,6 +217,11 @@ module _ (number : List Signed → Option ℕ) (form : Form) (T : List Position)
         (ap (λ us. before ++ us)
         (ap₂ (λ us es. after us ++ left us (reverse es)) none no ∙ append-nil (after [])))
 
+  -- it goes on from a part of the path
+  pub next-level : (path : List Server) (es old : List Pending) (e : Pending) → old ≡ es ++ e ∷ []
+      → AreFine frame path (reverse old) → e.level ≤ length path
+  next-level path es old e q fine = (subst (λ us. AreFine frame path us) (reverse-last es old e q) fine).0
+
   -- the next plan
   module _ (path path' : List Server) (es old : List Pending) (e : Pending)
       (q : old ≡ es ++ e ∷ []) (cut : path' ≡ take e.level path ++ e.server ∷ [])

@@ -1,5 +1,5 @@
 -- What was placed before the last server of a path served, where nothing clashed.
-use Rattle.std.specs.Prelude.{◌≡◌, ℕ, ◌-◌, ◌<◌, List, [], ◌∷◌, ◌++◌, take, length, Bool, false, ◌&&◌, not, nat_lt, Option, Some, None, ⊤}
+use Rattle.std.specs.Prelude.{◌≡◌, ℕ, ◌+◌, ◌-◌, ◌^◌, ◌<◌, min, max, List, [], ◌∷◌, ◌++◌, take, length, Bool, false, ◌&&◌, not, nat_lt, cond, Option, Some, None, ⊤}
 use Rattle.positions.specs.Position.{Position}
 use Rattle.frames.specs.Frame.{Frame}
 use Rattle.frames.specs.Plan.{first_clash}
@@ -28,6 +28,32 @@ is_among h m (V.New c) = false
 abbrev pub is_kept : Option Before → Server → Bool
 is_kept None s = false
 is_kept (Some b) s = is_among b.heads b.members s && not (serves_too s b.members b.last)
+
+-- the first place that a server serves, or n
+abbrev pub head_or : ℕ → Server → ℕ
+head_or n (V.Head k) = k
+head_or n (V.Member k) = n
+head_or n (V.New c) = n
+
+-- the member that a server serves, or n
+abbrev pub member_or : ℕ → Server → ℕ
+member_or n (V.Head k) = n
+member_or n (V.Member k) = k
+member_or n (V.New c) = n
+
+-- from n on, what stands below e goes on to there, or to the last server
+abbrev pub end_before : ℕ → ℕ → ℕ → ℕ
+end_before n e last = cond (nat_lt last n) e (min e last)
+
+-- the numbers from n on that are below this one are kept, where h first places are placed
+abbrev pub skip_kept : Before → ℕ → ℕ → ℕ
+skip_kept b h n =
+    cond (nat_lt n h) (max n (end_before n (min b.heads h) (head_or b.heads b.last)))
+    (max n (min (h + end_before (n - h) b.members (member_or b.members b.last)) (2 ^ 64 - 1)))
+
+abbrev pub skip : Option Before → ℕ → ℕ → ℕ
+skip None h n = n
+skip (Some b) h n = skip_kept b h n
 
 -- so many were placed before the last server of the path, and none of them clashed
 pub record IsBefore (T : List Position) (frame : Frame) (ws : List Server) (b : Before) : Type 0 where

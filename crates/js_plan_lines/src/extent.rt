@@ -1,13 +1,13 @@
 //! How far plans reach, and how many they have.
 
-ghost use Rattle.std.specs.Prelude.{◌≡◌, ◌≤◌, ◌^◌, length};
+ghost use Rattle.std.specs.Prelude.{◌≡◌, ◌<◌, ◌≤◌, ◌^◌, [], length};
 ghost use Rattle.frames.specs.Frame.{is_at_end};
 ghost use Rattle.frames.specs.Plan.{size, placed};
 ghost use Rattle.verdicts.specs.Duties.{heads_placed};
-ghost use Rattle.js_plans.specs.Servers.{used_after, most_used, cells_of};
+ghost use Rattle.js_plans.specs.Servers.{members_after, used_after, most_used, cells_of};
 ghost use Rattle.js_plans.specs.Serving.{plan_after};
 ghost use Rattle.js_plans.specs.Walks.{size_of};
-ghost use Rattle.js_plan_lines.specs.Reach.{heads_of, IsPath};
+ghost use Rattle.js_plan_lines.specs.Reach.{heads_of, IsPath, AreExtents};
 
 use crate::path::members_after;
 use js_plans::{PlanFrame, Server};
@@ -33,19 +33,35 @@ fn used_after(used: u64, server: Server) -> u64
 }
 
 impl Extent {
-    pub(crate) fn of(path: &[Server]) -> Extent
+    /// That of the last server, where these are those of all; before the first one nothing is reached.
+    pub(crate) fn of(path: &[Server], extents: &[Extent]) -> Extent
+        requires { AreExtents [] path.now extents.now }
         ensures used { result.used ≡ most_used 0 path.now }
         ensures members { result.members ≡ length (cells_of path.now) }
         ensures few { result.members ≤ length path.now }
         ensures bound { result.used ≤ 2 ^ 32 }
     {
-        let mut used = 0;
-        let mut members = 0;
-        for server in path {
-            used = used_after(used, *server);
-            members = members_after(members, *server);
+        match path.split_last() {
+            Some((_, before)) => extents[before.len()],
+            None => Extent {
+                used: 0,
+                members: 0,
+            },
         }
-        Extent { used, members }
+    }
+
+    /// The extent when one more demand is served.
+    pub(crate) fn with(self, server: Server) -> Extent
+        requires members { self.members < 2 ^ 63 }
+        requires used { self.used ≤ 2 ^ 32 }
+        ensures used { result.used ≡ used_after self.used server }
+        ensures members { result.members ≡ members_after self.members server }
+        ensures bound { result.used ≤ 2 ^ 32 }
+    {
+        Extent {
+            used: used_after(self.used, server),
+            members: members_after(self.members, server),
+        }
     }
 }
 
@@ -71,12 +87,13 @@ fn size<F: PlanFrame>(frame: &F, extent: Extent) -> u64
 }
 
 /// Whether the plan of the path has too many.
-pub(crate) fn is_over<F: PlanFrame>(frame: &F, path: &[Server]) -> bool
-    requires { IsPath (F.frame frame.now) path.now }
+pub(crate) fn is_over<F: PlanFrame>(frame: &F, path: &[Server], extents: &[Extent]) -> bool
+    requires path { IsPath (F.frame frame.now) path.now }
+    requires extents { AreExtents [] path.now extents.now }
     ensures { result ≡ is_at_end (size (F.frame frame.now) (plan_after (F.frame frame.now) path.now))
         (F.frame frame.now).below }
 {
-    is_at_end(size(frame, Extent::of(path)), frame.below())
+    is_at_end(size(frame, Extent::of(path, extents)), frame.below())
 }
 
 /// How many of the first places a plan of that extent places.
@@ -97,15 +114,16 @@ pub(crate) struct Placed {
 }
 
 impl Placed {
-    pub(crate) fn of<F: PlanFrame>(frame: &F, path: &[Server]) -> Placed
-        requires { IsPath (F.frame frame.now) path.now }
+    pub(crate) fn of<F: PlanFrame>(frame: &F, path: &[Server], extents: &[Extent]) -> Placed
+        requires path { IsPath (F.frame frame.now) path.now }
+        requires extents { AreExtents [] path.now extents.now }
         ensures heads { result.heads ≡ heads_placed (F.frame frame.now) (plan_after (F.frame frame.now) path.now) }
         ensures members { result.members ≡ length (cells_of path.now) }
         ensures count { result.count
             ≡ length (placed (F.frame frame.now) (plan_after (F.frame frame.now) path.now)) }
         ensures bound { result.heads ≤ 2 ^ 32 }
     {
-        let extent = Extent::of(path);
+        let extent = Extent::of(path, extents);
         let heads = heads_placed(frame, extent);
         Placed {
             heads,

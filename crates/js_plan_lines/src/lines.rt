@@ -6,11 +6,11 @@ ghost use Rattle.refutations.specs.PlanTreeLines.{at_line, entry_at, kept_unless
 ghost use Rattle.js_lines.specs.View.{line_view, end_view, entry_view};
 ghost use Rattle.js_plans.specs.Serving.{plan_after};
 ghost use Rattle.js_plan_lines.specs.FormView.{form_view};
-ghost use Rattle.js_plan_lines.specs.Reach.{IsPath};
+ghost use Rattle.js_plan_lines.specs.Reach.{IsPath, AreExtents};
 ghost use Rattle.js_plan_lines.specs.Cited.{entry_in};
 
 use crate::choices::count;
-use crate::extent::Placed;
+use crate::extent::{Extent, Placed};
 use crate::form::PlanForm;
 use crate::path;
 use crate::placed::{first_cited, goal_of};
@@ -62,11 +62,13 @@ pub(crate) fn add_at<F: PlanFrame>(
     frame: &F,
     form: PlanForm,
     path: &[Server],
+    extents: &[Extent],
     number: u64,
     end: CertEnd,
     lines: &mut Vec<CertLine>,
 ) -> Result<(), Memory>
-    requires { IsPath (F.frame frame.now) path.now }
+    requires path { IsPath (F.frame frame.now) path.now }
+    requires extents { AreExtents [] path.now extents.now }
     ensures { OnOk result (map line_view lines.new.items ≡ map line_view lines.old.items
         ++ at_line (form_view form) (F.frame frame.now) (plan_after (F.frame frame.now) path.now) number
         (end_view end) ∷ []) }
@@ -74,7 +76,7 @@ pub(crate) fn add_at<F: PlanFrame>(
     match form {
         PlanForm::OfObjects => add_member(number, end, lines),
         PlanForm::OfArrays => {
-            let heads = Placed::of(frame, path).heads;
+            let heads = Placed::of(frame, path, extents).heads;
             if number < heads {
                 add_index(number, end, lines)
             } else {
@@ -155,15 +157,20 @@ pub(crate) fn add_complete<F: PlanFrame, D: Dead>(
     form: PlanForm,
     dead: &D,
     path: &[Server],
+    extents: &[Extent],
     lines: &mut Vec<CertLine>,
 ) -> Result<(), Memory>
-    requires { IsPath (F.frame frame.now) path.now }
+    requires path { IsPath (F.frame frame.now) path.now }
+    requires extents { AreExtents [] path.now extents.now }
     ensures { OnOk result (map line_view lines.new.items ≡ map line_view lines.old.items
         ++ complete_line (D.number_of dead.now) (form_view form) (F.table frame.now) (F.frame frame.now)
         (plan_after (F.frame frame.now) path.now) ∷ []) }
 {
-    match first_cited(alloc, frame, dead, path)? {
-        Some((number, cited)) => { add_at(frame, form, path, number, CertEnd::Goal(cited), lines) }
+    match first_cited(alloc, frame, dead, path, extents)? {
+        Some((number, cited)) => {
+            let end = CertEnd::Goal(cited);
+            add_at(frame, form, path, extents, number, end, lines)
+        }
         None => add_short(alloc, frame, dead, path, lines),
     }
 }

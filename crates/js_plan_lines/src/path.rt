@@ -1,10 +1,11 @@
 //! What serves the demands of a plan one after another.
 
-ghost use Rattle.std.specs.Prelude.{◌≡◌, ◌<◌, ◌≤◌, ◌^◌, map, length, get_or, IfOk};
+ghost use Rattle.std.specs.Prelude.{◌≡◌, ◌<◌, ◌≤◌, ◌^◌, drop, map, length, get_or, IfOk};
 ghost use Rattle.js_algebra.specs.View.{signed_view};
 ghost use Rattle.js_plans.specs.Serving.{place_view};
 ghost use Rattle.js_plans.specs.Servers.{serves_too, members_after, cells_of, earlier};
 ghost use Rattle.js_plans.specs.Goals.{place_after};
+ghost use Rattle.js_plan_lines.specs.Kept.{member_or};
 
 use js_algebra::Signed;
 use js_doc::Memory;
@@ -34,24 +35,40 @@ pub(crate) fn serves_too(server: Server, members: usize, earlier: Server) -> boo
     }
 }
 
-/// The demands of the path that `server` serves, the earliest first.
+/// No demand before that of this number is served: each member before this one was new when it came.
+pub(crate) fn start_of(server: Server) -> usize
+    ensures { result ≡ member_or 0 server }
+{
+    match server {
+        Server::Member(k) => k,
+        _ => 0,
+    }
+}
+
+/// The demands of the path from number `start` on that `server` serves, the earliest first. Before them so many members
+/// came.
 pub(crate) fn earlier(
     alloc: Global,
     path: &[Server],
     demands: &[Signed],
+    start: usize,
+    before: usize,
     server: Server,
 ) -> Result<Vec<Signed>, Memory>
-    requires { length path.now ≤ length demands.now }
+    requires long { length path.now ≤ length demands.now }
+    requires start { start ≤ length path.now }
+    requires few { before ≤ start }
     ensures { IfOk result (λ v. map signed_view v.items
-        ≡ earlier server (map signed_view demands.now) 0 path.now) }
+        ≡ earlier server (map signed_view (drop start demands.now)) before (drop start path.now)) }
 {
     let mut found = Vec::new(alloc);
-    let mut members = 0;
-    for (i, other) in path.iter().enumerate() {
-        if serves_too(server, members, *other) {
+    let mut members = before;
+    for i in start..path.len() {
+        let other = path[i];
+        if serves_too(server, members, other) {
             found.push(demands[i])?;
         }
-        members = members_after(members, *other);
+        members = members_after(members, other);
     }
     Ok(found)
 }
@@ -60,7 +77,7 @@ pub(crate) fn earlier(
 pub(crate) fn cells(alloc: Global, path: &[Server]) -> Result<Vec<u32>, Memory>
     ensures { IfOk result (λ v. v.items ≡ cells_of path.now) }
 {
-    let mut cells = Vec::new(alloc);
+    let mut cells = Vec::with_capacity(alloc, path.len())?;
     for server in path {
         if let Server::New(cell) = *server {
             cells.push(cell)?;

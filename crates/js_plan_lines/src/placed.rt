@@ -1,18 +1,18 @@
 //! What a plan places, by its number: the first that clashes, and the first that no document meets.
 
-ghost use Rattle.std.specs.Prelude.{◌≡◌, ◌≤◌, ◌^◌, map, true, length, IfOk};
+ghost use Rattle.std.specs.Prelude.{◌≡◌, ◌≤◌, ◌^◌, [], map, true, length, IfOk};
 ghost use Rattle.std.specs.Option.{is_none};
 ghost use Rattle.frames.specs.Plan.{goal_of, first_clash, placed};
 ghost use Rattle.refutations.specs.PlanTreeLines.{number_of};
 ghost use Rattle.js_algebra.specs.View.{signed_view, are_in_table};
 ghost use Rattle.js_plans.specs.Serving.{place_view, plan_after};
-ghost use Rattle.js_plan_lines.specs.Reach.{server_at, served_at, seen, IsPath};
+ghost use Rattle.js_plan_lines.specs.Reach.{server_at, served_at, seen, IsPath, AreExtents};
 ghost use Rattle.js_plan_lines.specs.Kept.{WasClear, AreBefore};
 ghost use Rattle.js_plan_lines.specs.Cited.{cited_from};
 
-use crate::before::{Before, is_kept};
-use crate::extent::Placed;
-use crate::path::{self, place_of};
+use crate::before::{Before, is_kept, skip};
+use crate::extent::{Extent, Placed};
+use crate::path::{self, place_of, start_of};
 use js_algebra::{Goal, Signed, form};
 use js_doc::Memory;
 use js_expansion::Dead;
@@ -55,13 +55,17 @@ fn served_by<F: PlanFrame>(
     alloc: Global,
     frame: &F,
     path: &[Server],
+    extents: &[Extent],
     server: Server,
 ) -> Result<Vec<Signed>, Memory>
-    requires { length path.now ≤ length (F.frame frame.now).demands }
+    requires path { IsPath (F.frame frame.now) path.now }
+    requires extents { AreExtents [] path.now extents.now }
     ensures value { IfOk result (λ v. map signed_view v.items ≡ served_at (F.frame frame.now) path.now server) }
     ensures in_table { IfOk result (λ v. are_in_table (F.table frame.now) (map signed_view v.items) ≡ true) }
 {
-    let mut served = path::earlier(alloc, path, frame.demands(), server)?;
+    let start = start_of(server).min(path.len());
+    let members = Extent::of(&path[..start], extents).members;
+    let mut served = path::earlier(alloc, path, frame.demands(), start, members, server)?;
     served.reverse();
     Ok(served)
 }
@@ -71,13 +75,15 @@ fn goal_at<F: PlanFrame>(
     alloc: Global,
     frame: &F,
     path: &[Server],
+    extents: &[Extent],
     server: Server,
 ) -> Result<Option<Goal>, Memory>
-    requires { length path.now ≤ length (F.frame frame.now).demands }
+    requires path { IsPath (F.frame frame.now) path.now }
+    requires extents { AreExtents [] path.now extents.now }
     ensures { IfOk result (λ o. o ≡ goal_of (F.table frame.now) (F.frame frame.now)
         (seen (F.frame frame.now) path.now server)) }
 {
-    let served = served_by(alloc, frame, path, server)?;
+    let served = served_by(alloc, frame, path, extents, server)?;
     let place = place_of(path, server);
     goal_of(alloc, frame, place, served.as_slice())
 }
@@ -87,10 +93,12 @@ fn is_clash<F: PlanFrame>(
     alloc: Global,
     frame: &F,
     path: &[Server],
+    extents: &[Extent],
     before: Option<Before>,
     server: Server,
 ) -> Result<bool, Memory>
     requires path { IsPath (F.frame frame.now) path.now }
+    requires extents { AreExtents [] path.now extents.now }
     requires before { AreBefore (F.table frame.now) (F.frame frame.now) path.now before }
     ensures { IfOk result (λ b. b ≡ is_none (goal_of (F.table frame.now) (F.frame frame.now)
         (seen (F.frame frame.now) path.now server))) }
@@ -98,7 +106,7 @@ fn is_clash<F: PlanFrame>(
     if is_kept(before, server) {
         return Ok(false);
     }
-    let goal = goal_at(alloc, frame, path, server)?;
+    let goal = goal_at(alloc, frame, path, extents, server)?;
     Ok(goal.is_none())
 }
 
@@ -107,19 +115,23 @@ pub(crate) fn first_clash<F: PlanFrame>(
     alloc: Global,
     frame: &F,
     path: &[Server],
+    extents: &[Extent],
 ) -> Result<Option<u64>, Memory>
     requires path { IsPath (F.frame frame.now) path.now }
+    requires extents { AreExtents [] path.now extents.now }
     requires clear { WasClear (F.table frame.now) (F.frame frame.now) path.now }
     ensures { IfOk result (λ o. o ≡ first_clash (F.table frame.now) (F.frame frame.now)
         (plan_after (F.frame frame.now) path.now)) }
 {
-    let before = Before::of(frame, path);
-    let placed = Placed::of(frame, path);
-    for number in 0..placed.count {
+    let before = Before::of(frame, path, extents);
+    let placed = Placed::of(frame, path, extents);
+    let mut number = skip(before, placed.heads, 0);
+    while number < placed.count {
         let server = server_at(placed.heads, number);
-        if is_clash(alloc, frame, path, before, server)? {
+        if is_clash(alloc, frame, path, extents, before, server)? {
             return Ok(Some(number));
         }
+        number = skip(before, placed.heads, number + 1);
     }
     Ok(None)
 }
@@ -140,15 +152,17 @@ pub(crate) fn first_cited<F: PlanFrame, D: Dead>(
     frame: &F,
     dead: &D,
     path: &[Server],
+    extents: &[Extent],
 ) -> Result<Option<(u64, u32)>, Memory>
-    requires { IsPath (F.frame frame.now) path.now }
+    requires path { IsPath (F.frame frame.now) path.now }
+    requires extents { AreExtents [] path.now extents.now }
     ensures { IfOk result (λ o. o ≡ cited_from (D.number_of dead.now) (F.table frame.now) (F.frame frame.now) 0
         (placed (F.frame frame.now) (plan_after (F.frame frame.now) path.now))) }
 {
-    let placed = Placed::of(frame, path);
+    let placed = Placed::of(frame, path, extents);
     for number in 0..placed.count {
         let server = server_at(placed.heads, number);
-        let goal = goal_at(alloc, frame, path, server)?;
+        let goal = goal_at(alloc, frame, path, extents, server)?;
         if let Some(cited) = number_of(dead, goal) {
             return Ok(Some((number, cited)));
         }

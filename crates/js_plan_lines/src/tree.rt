@@ -3,18 +3,18 @@
 //! Plans still to be visited stand in a list, the next one last, each as what serves the next demand after the first
 //! part of the path.
 
-ghost use Rattle.std.specs.Prelude.{◌≡◌, ◌++◌, ◌∷◌, [], ◌<◌, length, map, reverse, take, OnOk};
+ghost use Rattle.std.specs.Prelude.{◌≡◌, ◌++◌, ◌∷◌, [], ◌<◌, ◌≤◌, length, map, reverse, take, OnOk};
 ghost use Rattle.certificate_lines.specs.Line as L;
 ghost use Rattle.refutations.specs.PlanTreeLines.{plan_lines};
 ghost use Rattle.js_lines.specs.View.{line_view};
 ghost use Rattle.js_plans.specs.Choosing.{choices_after};
 ghost use Rattle.js_plan_lines.specs.FormView.{form_view};
-ghost use Rattle.js_plan_lines.specs.Reach.{IsPath};
+ghost use Rattle.js_plan_lines.specs.Reach.{IsPath, AreExtents};
 ghost use Rattle.js_plan_lines.specs.Kept.{WasClear};
 ghost use Rattle.js_plan_lines.specs.Left.{entry, Visits};
 
 use crate::choices::choices;
-use crate::extent::is_over;
+use crate::extent::{Extent, is_over};
 use crate::form::PlanForm;
 use crate::lines::{add_at, add_complete};
 use crate::placed::first_clash;
@@ -44,6 +44,7 @@ pub fn add_plan_lines<F: PlanFrame, D: Dead>(
         ++ plan_lines (D.number_of dead.now) (form_view form) (F.table frame.now) (F.frame frame.now)) }
 {
     let mut path = Vec::new(alloc);
+    let mut extents = Vec::new(alloc);
     let mut pending = Vec::new(alloc);
     visit(
         alloc,
@@ -51,17 +52,19 @@ pub fn add_plan_lines<F: PlanFrame, D: Dead>(
         form,
         dead,
         path.as_slice(),
+        extents.as_slice(),
         &mut pending,
         lines,
     )?;
     while let Some(next) = pending.pop() {
-        go_to(next, &mut path)?;
+        go_to(next, &mut path, &mut extents)?;
         visit(
             alloc,
             frame,
             form,
             dead,
             path.as_slice(),
+            extents.as_slice(),
             &mut pending,
             lines,
         )?;
@@ -69,12 +72,18 @@ pub fn add_plan_lines<F: PlanFrame, D: Dead>(
     Ok(())
 }
 
-/// The path to a plan to come.
-fn go_to(next: Pending, path: &mut Vec<Server>) -> Result<(), Memory>
-    ensures { OnOk result (path.new.items ≡ take next.level path.old.items ++ next.server ∷ []) }
+/// The path to a plan to come, and how far the plans along it reach.
+fn go_to(next: Pending, path: &mut Vec<Server>, extents: &mut Vec<Extent>) -> Result<(), Memory>
+    requires level { next.level ≤ length path.old.items }
+    requires extents { AreExtents [] path.old.items extents.old.items }
+    ensures path { OnOk result (path.new.items ≡ take next.level path.old.items ++ next.server ∷ []) }
+    ensures extents { OnOk result (AreExtents [] path.new.items extents.new.items) }
 {
     path.truncate(next.level);
+    extents.truncate(next.level);
+    let extent = Extent::of(path.as_slice(), extents.as_slice()).with(next.server);
     path.push(next.server)?;
+    extents.push(extent)?;
     Ok(())
 }
 
@@ -85,26 +94,28 @@ fn visit<F: PlanFrame, D: Dead>(
     form: PlanForm,
     dead: &D,
     path: &[Server],
+    extents: &[Extent],
     pending: &mut Vec<Pending>,
     lines: &mut Vec<CertLine>,
 ) -> Result<(), Memory>
+    requires extents { AreExtents [] path.now extents.now }
     requires path { IsPath (F.frame frame.now) path.now }
     requires clear { WasClear (F.table frame.now) (F.frame frame.now) path.now }
     ensures { OnOk result (Visits (D.number_of dead.now) (form_view form) (F.table frame.now) (F.frame frame.now)
         path.now pending.old.items pending.new.items (map line_view lines.old.items)
         (map line_view lines.new.items)) }
 {
-    if is_over(frame, path) {
+    if is_over(frame, path, extents) {
         lines.push(CertLine::Count)?;
         return Ok(());
     }
-    if let Some(number) = first_clash(alloc, frame, path)? {
-        return add_at(frame, form, path, number, CertEnd::Clash, lines);
+    if let Some(number) = first_clash(alloc, frame, path, extents)? {
+        return add_at(frame, form, path, extents, number, CertEnd::Clash, lines);
     }
     if path.len() < frame.demands().len() {
         return split(alloc, frame, path, pending, lines);
     }
-    add_complete(alloc, frame, form, dead, path, lines)
+    add_complete(alloc, frame, form, dead, path, extents, lines)
 }
 
 /// Adds the line of a plan that is split into its options, which are still to be visited.

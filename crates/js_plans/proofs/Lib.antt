@@ -6,6 +6,7 @@ pub mod Served
 pub mod Options
 mod Opening
 mod Forming
-mod Shown
+pub mod Shown
+mod Extents
 mod Remaining
 mod Namings

@@ -7,7 +7,6 @@ use Rattle.goals.specs.Signed.{Signed, Plus}
 use Rattle.frames.specs.Frame.{Frame}
 use Rattle.frames.specs.Plan.{Plan, Split, Complete, steps, unless_dropped}
 use Rattle.js_plans.specs.declared.server.Server.{Server}
-use Rattle.js_plans.specs.declared.server.Server.TheVariants as V
 use Rattle.js_plans.specs.Serving.{serve, choices, serve_all}
 use Rattle.js_plans.proofs.Options.{options-choices}
 

@@ -16,7 +16,7 @@ use Rattle.js_plans.specs.declared.walk.Pending.{Pending}
 use Rattle.js_plans.specs.declared.walk.PlanStep as C
 use Rattle.js_plans.specs.declared.walk.PlanStep.TheVariants as W
 use Rattle.js_plans.specs.Serving.{plan_after, steps_after}
-use Rattle.js_plans.specs.Servers.{cells_of, is_valid, are_valid, servers_of}
+use Rattle.js_plans.specs.Servers.{cells_of, is_valid, are_valid, servers_of, IsExtent}
 use Rattle.js_plans.specs.Goals.{goal_after, AreFirst, AreGoals}
 use Rattle.js_plans.specs.Placing.{put_heads, put_members}
 use Rattle.js_plans.specs.Choosing.{choices_after}
@@ -24,6 +24,7 @@ use Rattle.js_plans.specs.Walks.{listed, placed_heads, IsClash, IsDropped, GoesO
 use Rattle.js_plans.proofs.Opening.{steps-split, steps-complete}
 use Rattle.js_plans.proofs.Options.{choices-valid}
 use Rattle.js_plans.proofs.Shown.{no-clash, shown-placed, server-clash}
+use Rattle.js_plans.proofs.Extents.{extents-take, extents-push}
 use Rattle.js_plans.proofs.Plans.{valid-before, valid-push}
 use Rattle.list_laws.proofs.Lists.{reverse-last}
 
@@ -164,17 +165,20 @@ module _ (T : List Position) (frame : Frame) where
         (valid-before frame.heads 0 (take n (servers_of es)) (drop n (servers_of es))
         (subst (λ us. are_valid frame.heads 0 us ≡ true) (sym (take-append-drop n (servers_of es))) path.valid));
     goals = goals-take n [] es path.goals;
+    extents = extents-take n [] es path.extents;
   }
 
   pub path-push : (es : List Served) (e : Served) → IsPath T frame es → Fits frame (servers_of es) (Some e.server)
-      → goal_after T frame (servers_of es) e.server ≡ Some e.goal → IsPath T frame (es ++ e ∷ [])
-  path-push es e path (l, v) g = record {
+      → goal_after T frame (servers_of es) e.server ≡ Some e.goal → IsExtent (servers_of es ++ e.server ∷ []) e.extent
+      → IsPath T frame (es ++ e ∷ [])
+  path-push es e path (l, v) g x = record {
     few = omega (arith, l, length-append es (e ∷ []), length-map es (λ e. e.server));
     valid =
         subst (λ us. are_valid frame.heads 0 us ≡ true) (sym (map-append (λ e. e.server) es (e ∷ [])))
         (valid-push frame.heads 0 (servers_of es) e.server path.valid
         (subst (λ m. is_valid frame.heads m e.server ≡ true) (omega arith) v));
     goals = goals-push [] es e path.goals g;
+    extents = extents-push [] es e path.extents x;
   }
 
   pub matches-end : (ws : List Server) (s : C.PlanStep) (step : PlanStep) → Matches frame ws s step

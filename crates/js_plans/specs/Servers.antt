@@ -1,9 +1,10 @@
 -- What a list of servers says of the plan that it makes.
-use Rattle.std.specs.Prelude.{ℕ, ◌+◌, max, List, [], ◌∷◌, map, Bool, true, false, ◌&&◌, cond, nat_eq, nat_lt}
+use Rattle.std.specs.Prelude.{◌≡◌, ℕ, ◌+◌, ◌≤◌, ◌^◌, max, List, [], ◌∷◌, ◌++◌, map, length, Bool, true, false, ◌&&◌, cond, nat_eq, nat_lt, ⊤}
 use Rattle.goals.specs.Signed.{Signed}
 use Rattle.js_plans.specs.declared.server.Server.{Server}
 use Rattle.js_plans.specs.declared.server.Server.TheVariants as V
 use Rattle.js_plans.specs.declared.path.Served.{Served}
+use Rattle.js_plans.specs.declared.path.Extent.{Extent}
 
 abbrev pub servers_of : List Served → List Server
 servers_of es = map (λ e. e.server) es
@@ -32,6 +33,17 @@ used_after n (V.New c) = n
 abbrev pub most_used : ℕ → List Server → ℕ
 most_used n [] = n
 most_used n (s ∷ ss) = most_used (used_after n s) ss
+
+-- how far the plan of these servers reaches
+pub record IsExtent (ws : List Server) (x : Extent) : Type 0 where
+  pub used : x.used ≡ most_used 0 ws
+  pub members : x.members ≡ length (cells_of ws)
+  pub bound : x.used ≤ 2 ^ 32
+
+-- each server of a path came with how far the plan reaches with it
+abbrev pub AreExtents : List Server → List Served → Type 0
+AreExtents ws [] = ⊤
+AreExtents ws (e ∷ es) = IsExtent (ws ++ e.server ∷ []) e.extent × AreExtents (ws ++ e.server ∷ []) es
 
 -- what serves a demand serves an earlier one too, before which there were m members
 abbrev pub serves_too : Server → ℕ → Server → Bool

@@ -12,7 +12,7 @@ use Rattle.js_plans.specs.declared.walk.Pending.{Pending}
 use Rattle.js_plans.specs.declared.walk.PlanWalk.{PlanWalk}
 use Rattle.js_plans.specs.Serving.{plan_after, steps_after}
 use Rattle.js_plans.specs.Choosing.{choices_after}
-use Rattle.js_plans.specs.Servers.{servers_of, cells_of, is_valid, are_valid}
+use Rattle.js_plans.specs.Servers.{servers_of, cells_of, is_valid, are_valid, AreExtents}
 use Rattle.js_plans.specs.Goals.{AreFirst, AreGoals, goal_after}
 
 -- the most ends that a tree may have
@@ -35,11 +35,12 @@ listed (Some s) = s ∷ []
 abbrev pub placed_heads : Frame → List Server → ℕ
 placed_heads frame ws = min (size frame (plan_after frame ws)) frame.heads
 
--- each server is there, and came with its goal
+-- each server is there, and came with its goal and with how far the plan reaches
 pub record IsPath (T : List Position) (frame : Frame) (es : List Served) : Type 0 where
   pub few : length es ≤ length frame.demands
   pub valid : are_valid frame.heads 0 (servers_of es) ≡ true
   pub goals : AreGoals T frame [] es
+  pub extents : AreExtents [] es
 
 -- it can serve the next demand
 abbrev pub Fits : Frame → List Server → Option Server → Type 0
@@ -70,6 +71,7 @@ left T frame walk = steps_left T frame (servers_of walk.path.items) (reverse wal
 
 pub record IsWalk (T : List Position) (frame : Frame) (walk : PlanWalk) : Type 0 where
   pub path : IsPath T frame walk.path.items
+  pub cells : walk.cells.items ≡ cells_of (servers_of walk.path.items)
   pub first : AreFirst T frame 0 walk.first.items
   pub fine : AreFine frame (servers_of walk.path.items) (reverse walk.pending.items)
   pub few : walk.ends + length walk.pending.items ≤ most_plans
@@ -126,6 +128,7 @@ pub record Visits (T : List Position) (frame : Frame) (server : Option Server) (
   pub told : steps_after T frame (servers_of old.path.items ++ listed server) ++ left T frame old
       ≡ step ∷ left T frame new
   pub path : IsPath T frame new.path.items
+  pub cells : new.cells.items ≡ cells_of (servers_of new.path.items)
   pub first : AreFirst T frame 0 new.first.items
   pub fine : AreFine frame (servers_of new.path.items) (reverse new.pending.items)
   pub complete : s ≡ V.Complete → placed_heads frame (servers_of new.path.items) ≤ length new.first.items

@@ -9,26 +9,28 @@ ghost use Rattle.js_plans.specs.declared.server.Server.TheVariants as V;
 ghost use Rattle.js_plans.specs.Servers.{cells_of, servers_of};
 ghost use Rattle.js_plans.specs.Choosing.{serving_cells, open_cells, choices_after};
 
-use crate::path::{self, Served};
+use crate::path::Served;
 use crate::plan_frame::PlanFrame;
 use crate::server::Server;
 use js_doc::Memory;
 use std::alloc::Global;
 
-/// What stands at each first place, each member inside, and a new member in each cell inside that has room.
+/// What stands at each first place, each member inside, and a new member in each cell inside that has room. The members
+/// are those of the path, by their cells.
 pub(crate) fn choices<F: PlanFrame>(
     alloc: Global,
     frame: &F,
     path: &[Served],
+    members: &[u32],
 ) -> Result<Vec<Server>, Memory>
-    requires { length path.now < length (F.frame frame.now).demands }
+    requires left { length path.now < length (F.frame frame.now).demands }
+    requires members { members.now ≡ cells_of (servers_of path.now) }
     ensures { IfOk result (λ v. v.items ≡ choices_after (F.frame frame.now) (servers_of path.now)) }
 {
-    let members = path::cells(alloc, path)?;
     let mut choices = Vec::new(alloc);
     add_heads(frame.heads(), &mut choices)?;
-    add_members(frame, path.len(), members.as_slice(), &mut choices)?;
-    add_new(frame, path.len(), members.as_slice(), &mut choices)?;
+    add_members(frame, path.len(), members, &mut choices)?;
+    add_new(frame, path.len(), members, &mut choices)?;
     Ok(choices)
 }
 

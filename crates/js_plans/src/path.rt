@@ -1,30 +1,32 @@
 //! Demands that are served one after another, each with the goal of what serves it.
 //!
-//! The plan is not kept: what a place serves, how many members there are and how far the plan reaches are read off the
-//! path, in as many steps as it has demands. A goal costs more to form.
+//! The plan is not kept: each demand comes with how far the plan reaches once it is served, and what a first place or a
+//! member serves is read off the path, in as many steps as it has demands. A new member serves no earlier one.
 
-ghost use Rattle.std.specs.Prelude.{◌≡◌, ◌<◌, ◌≤◌, ◌^◌, map, length, get_or, IfOk};
+ghost use Rattle.std.specs.Prelude.{◌≡◌, ◌<◌, ◌≤◌, ◌^◌, [], map, length, get_or, IfOk};
 ghost use Rattle.js_algebra.specs.View.{signed_view};
-ghost use Rattle.js_plans.specs.Servers.{serves_too, members_after, used_after, most_used, cells_of, earlier, servers_of};
+ghost use Rattle.js_plans.specs.Servers.{serves_too, members_after, used_after, most_used, cells_of, earlier, servers_of, AreExtents};
 
 use crate::server::Server;
 use js_algebra::{Goal, Signed};
 use js_doc::Memory;
 use std::alloc::Global;
 
-/// A demand that is served: what serves it, and the goal of that, for this demand and the earlier ones that it serves.
+/// How far a plan reaches.
+#[derive(Clone, Copy)]
+pub struct Extent {
+    /// One more than the last first place that serves.
+    pub used: u64,
+    pub members: usize,
+}
+
+/// A demand that is served: what serves it, the goal of that, for this demand and the earlier ones that it serves, and
+/// how far the plan reaches with it.
 #[derive(Drop)]
 pub struct Served {
     pub server: Server,
     pub goal: Goal,
-}
-
-/// How far a plan reaches.
-#[derive(Clone, Copy)]
-pub(crate) struct Extent {
-    /// One more than the last first place that serves.
-    pub used: u64,
-    pub members: usize,
+    pub extent: Extent,
 }
 
 /// How many members there are when one more demand is served.
@@ -51,19 +53,21 @@ fn used_after(used: u64, server: Server) -> u64
 }
 
 impl Extent {
+    /// That of the last server; before the first one nothing is reached.
     pub(crate) fn of(path: &[Served]) -> Extent
+        requires { AreExtents [] path.now }
         ensures used { result.used ≡ most_used 0 (servers_of path.now) }
         ensures members { result.members ≡ length (cells_of (servers_of path.now)) }
         ensures few { result.members ≤ length path.now }
         ensures bound { result.used ≤ 2 ^ 32 }
     {
-        let mut used = 0;
-        let mut members = 0;
-        for served in path {
-            used = used_after(used, served.server);
-            members = members_after(members, served.server);
+        match path.split_last() {
+            Some((last, _)) => last.extent,
+            None => Extent {
+                used: 0,
+                members: 0,
+            },
         }
-        Extent { used, members }
     }
 
     /// The extent when one more demand is served.
@@ -105,6 +109,9 @@ pub(crate) fn earlier(
         ≡ earlier server (map signed_view demands.now) 0 (servers_of path.now)) }
 {
     let mut found = Vec::new(alloc);
+    if let Server::New(_) = server {
+        return Ok(found);
+    }
     let mut members = 0;
     for (i, served) in path.iter().enumerate() {
         if serves_too(server, members, served.server) {

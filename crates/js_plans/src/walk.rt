@@ -9,7 +9,7 @@ ghost use Rattle.positions.specs.Position.{Position};
 ghost use Rattle.frames.specs.Frame.{Frame, is_at_end};
 ghost use Rattle.frames.specs.Plan.{size, ends, plan_steps};
 ghost use Rattle.js_plans.specs.Serving.{plan_after, steps_after};
-ghost use Rattle.js_plans.specs.Servers.{most_used, cells_of, servers_of};
+ghost use Rattle.js_plans.specs.Servers.{with_cell, most_used, cells_of, servers_of, AreExtents};
 ghost use Rattle.js_plans.specs.Goals.{AreFirst};
 ghost use Rattle.js_plans.specs.Walks.{most_plans, size_of, listed, placed_heads, IsPath, Fits, entries, left, IsWalk, is_end, one_more, entry, AreFine, IsDropped, IsClash, GoesOn, Opens, Visits, Tells, IsCounted, AfterStep};
 
@@ -51,6 +51,8 @@ struct Pending {
 #[derive(Drop)]
 pub struct PlanWalk {
     path: Vec<Served>,
+    /// The cells of the members of the path, in order.
+    cells: Vec<u32>,
     /// The goals of the first places that serve nothing, as far as they were formed.
     first: Vec<Goal>,
     pending: Vec<Pending>,
@@ -66,6 +68,7 @@ impl PlanWalk {
     {
         let mut walk = PlanWalk {
             path: Vec::new(alloc),
+            cells: Vec::new(alloc),
             first: Vec::new(alloc),
             pending: Vec::new(alloc),
             ends: 0,
@@ -82,6 +85,7 @@ impl PlanWalk {
         ensures ends { OnOk result (self.new.ends ≡ 0) }
     {
         self.path.clear();
+        self.cells.clear();
         self.pending.clear();
         self.ends = 0;
         self.pending.push(Pending {
@@ -113,6 +117,8 @@ impl PlanWalk {
             None => return Ok(None),
         };
         self.path.truncate(next.level);
+        let extent = Extent::of(self.path.as_slice());
+        self.cells.truncate(extent.members);
         let step = self.visit(alloc, frame, next.server)?;
         self.ends = with_end(self.ends, step);
         if self.ends + self.pending.len() > MOST_PLANS {
@@ -160,6 +166,7 @@ impl PlanWalk {
         server: Option<Server>,
     ) -> Result<PlanStep, Memory>
         requires path { IsPath (F.table frame.now) (F.frame frame.now) self.old.path.items }
+        requires cells { self.old.cells.items ≡ cells_of (servers_of self.old.path.items) }
         requires first { AreFirst (F.table frame.now) (F.frame frame.now) 0 self.old.first.items }
         requires fits { Fits (F.frame frame.now) (servers_of self.old.path.items) server }
         requires fine { AreFine (F.frame frame.now) (servers_of self.old.path.items) (reverse self.old.pending.items) }
@@ -170,10 +177,17 @@ impl PlanWalk {
         if let Some(step) = place_first(alloc, frame, path, server, &mut self.first)? {
             return Ok(step);
         }
-        if !serve(alloc, frame, &mut self.path, server)? {
+        if !serve(alloc, frame, &mut self.path, &mut self.cells, server)? {
             return Ok(PlanStep::Clashing);
         }
-        open(alloc, frame, self.path.as_slice(), &mut self.pending)
+        let members = self.cells.as_slice();
+        open(
+            alloc,
+            frame,
+            self.path.as_slice(),
+            members,
+            &mut self.pending,
+        )
     }
 }
 
@@ -188,7 +202,8 @@ fn is_at_end(count: u64, below: Option<u128>) -> bool
 
 /// How far the plan of a path and a server reaches.
 fn extent_after(path: &[Served], server: Option<Server>) -> Extent
-    requires { length path.now < 2 ^ 63 }
+    requires few { length path.now < 2 ^ 63 }
+    requires extents { AreExtents [] path.now }
     ensures used { result.used ≡ most_used 0 (servers_of path.now ++ listed server) }
     ensures members { result.members ≡ length (cells_of (servers_of path.now ++ listed server)) }
     ensures few { result.members ≤ length path.now + 1 }
@@ -244,19 +259,32 @@ fn place_first<F: PlanFrame>(
     }
 }
 
-/// Adds the server to the path with its goal. False says that its list clashes.
+/// Adds the cell of a new member.
+fn add_cell(cells: &mut Vec<u32>, server: Server) -> Result<(), Memory>
+    ensures { OnOk result (cells.new.items ≡ cells.old.items ++ with_cell server []) }
+{
+    if let Server::New(cell) = server {
+        cells.push(cell)?;
+    }
+    Ok(())
+}
+
+/// Adds the server to the path with its goal, and the cell of a new member. False says that its list clashes.
 fn serve<F: PlanFrame>(
     alloc: Global,
     frame: &F,
     path: &mut Vec<Served>,
+    cells: &mut Vec<u32>,
     server: Option<Server>,
 ) -> Result<bool, Memory>
     requires path { IsPath (F.table frame.now) (F.frame frame.now) path.old.items }
+    requires cells { cells.old.items ≡ cells_of (servers_of path.old.items) }
     requires fits { Fits (F.frame frame.now) (servers_of path.old.items) server }
     ensures served { IfOk result (λ b. b ≡ true
         → GoesOn (F.table frame.now) (F.frame frame.now) path.old.items path.new.items server) }
     ensures clash { IfOk result (λ b. b ≡ false → (path.new ≡ path.old)
         × IsClash (F.table frame.now) (F.frame frame.now) (servers_of path.old.items) server) }
+    ensures cells { OnOk result (cells.new.items ≡ cells_of (servers_of path.new.items)) }
 {
     let server = match server {
         Some(server) => server,
@@ -264,7 +292,13 @@ fn serve<F: PlanFrame>(
     };
     match goal_after(alloc, frame, path.as_slice(), server)? {
         Some(goal) => {
-            path.push(Served { server, goal })?;
+            let extent = Extent::of(path.as_slice()).with(server);
+            path.push(Served {
+                server,
+                goal,
+                extent,
+            })?;
+            add_cell(cells, server)?;
             Ok(true)
         }
         None => Ok(false),
@@ -276,15 +310,17 @@ fn open<F: PlanFrame>(
     alloc: Global,
     frame: &F,
     path: &[Served],
+    members: &[u32],
     pending: &mut Vec<Pending>,
 ) -> Result<PlanStep, Memory>
-    requires { length path.now ≤ length (F.frame frame.now).demands }
+    requires few { length path.now ≤ length (F.frame frame.now).demands }
+    requires members { members.now ≡ cells_of (servers_of path.now) }
     ensures { IfOk result (λ s. Opens (F.frame frame.now) (servers_of path.now) pending.old.items pending.new.items s) }
 {
     if path.len() == frame.demands().len() {
         return Ok(PlanStep::Complete);
     }
-    let choices = choices(alloc, frame, path)?;
+    let choices = choices(alloc, frame, path, members)?;
     let count = choices.len();
     add_pending(path.len(), choices, pending)?;
     Ok(PlanStep::Split(count))

@@ -11,5 +11,5 @@ returns g c =
     c.is_at_end.ensures
     ∙ ap₂ is_at_end
     (c.size.ensures ∙ ap₂ (size_of frame) c.of.ensures.used c.of.ensures.members
-    ∙ sym (size-plan frame c.args.path.now c.requires.few c.requires.valid))
+    ∙ sym (size-plan frame c.args.path.now c.requires.path.few c.requires.path.valid))
     c.below.ensures

@@ -8,6 +8,6 @@ abbrev pub invariant-loop-i : goal.invariant-loop-i
 invariant-loop-i l = record {
   found : map signed_view l.found.items
       ++ earlier l.server (map signed_view (drop l.i l.demands)) l.members (drop l.i l.path)
-      ≡ earlier l.server (map signed_view l.demands) 0 l.path;
+      ≡ earlier l.server (map signed_view (drop l.start l.demands)) l.before (drop l.start l.path);
   few : l.members ≤ l.i;
 }

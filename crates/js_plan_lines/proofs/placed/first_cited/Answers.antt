@@ -13,8 +13,8 @@ returns-in-Some g c =
     let k = c.loop-number.number in
     let less : k < length (placed frame (plan_after frame c.args.path.now)) =
     omega (arith, c.loop-number-test.true, c.of-placed.ensures.count) in
-    sym (cited-next (g.F.PlanFrame.table c.args.frame.now) frame c.args.path.now c.requires c.of-placed.result.heads k
-    (suc k) c.of-placed.ensures.heads less refl c.in_ok-goal.goal
+    sym (cited-next (g.F.PlanFrame.table c.args.frame.now) frame c.args.path.now c.requires.path
+    c.of-placed.result.heads k (suc k) c.of-placed.ensures.heads less refl c.in_ok-goal.goal
     (c.in_ok-goal.ensures
     ∙ ap (λ s. goal_of (g.F.PlanFrame.table c.args.frame.now) frame (seen frame c.args.path.now s))
     c.server_at-server.ensures)
@@ -27,8 +27,8 @@ loop-number-preserved g c =
     let k = c.loop-number.number in
     let less : k < length (placed frame (plan_after frame c.args.path.now)) =
     omega (arith, c.loop-number-test.true, c.of-placed.ensures.count) in
-    sym (cited-next (g.F.PlanFrame.table c.args.frame.now) frame c.args.path.now c.requires c.of-placed.result.heads k
-    (k + 1) c.of-placed.ensures.heads less (omega arith) c.in_ok-goal.goal
+    sym (cited-next (g.F.PlanFrame.table c.args.frame.now) frame c.args.path.now c.requires.path
+    c.of-placed.result.heads k (k + 1) c.of-placed.ensures.heads less (omega arith) c.in_ok-goal.goal
     (c.in_ok-goal.ensures
     ∙ ap (λ s. goal_of (g.F.PlanFrame.table c.args.frame.now) frame (seen frame c.args.path.now s))
     c.server_at-server.ensures)

@@ -1,11 +1,12 @@
 -- The lines so far, and those of the plans that are left.
-use Rattle.std.proofs.Common.{map, sym, subst}
+use Rattle.std.proofs.Common.{[], map, sym, ◌∙◌, subst}
 use Rattle.js_lines.specs.View.{line_view}
 use Rattle.js_plan_lines.specs.FormView.{form_view}
-use Rattle.js_plan_lines.specs.Reach.{IsPath}
+use Rattle.js_plan_lines.specs.Reach.{IsPath, AreExtents}
 use Rattle.js_plan_lines.specs.Kept.{WasClear}
 use Rattle.js_plan_lines.specs.Left.{Visits}
-use Rattle.js_plan_lines.proofs.Walking.{empty-path, first-fine, first-clear, first-lines, next-path, next-was, next-fine, next-clear, next-lines, next-fewer}
+use Rattle.js_plan_lines.proofs.Extents.{extents-none}
+use Rattle.js_plan_lines.proofs.Walking.{empty-path, next-level, first-fine, first-clear, first-lines, next-path, next-was, next-fine, next-clear, next-lines, next-fewer}
 use Rattle.js_plan_lines.proofs.tree.add_plan_lines.Goals as goal
 
 pub loop-next-init : goal.loop-next-init
@@ -23,6 +24,7 @@ loop-next-init g c =
     subst (λ us. Visits number form T frame us ps qs before now) c.as_slice.ensures.value c.in_ok-visit.ensures in
     record {
       path = empty-path frame ws c.new-path.ensures.items;
+      extents = extents-none [] ws c.new-extents.result.items c.new-path.ensures.items;
       fine = first-fine number form T frame ws ps qs before now c.new-path.ensures.items c.new-pending.ensures.items v;
       clear =
           first-clear number form T frame ws ps qs before now c.new-path.ensures.items c.new-pending.ensures.items v;
@@ -30,13 +32,29 @@ loop-next-init g c =
           first-lines number form T frame ws ps qs before now c.new-path.ensures.items c.new-pending.ensures.items v;
     }
 
+pub visit-requires-clause-extents : goal.visit-requires-clause-extents
+visit-requires-clause-extents g c =
+    extents-none [] c.as_slice.result.now c.as_slice-2.result.now (c.as_slice.ensures.value ∙ c.new-path.ensures.items)
+
+pub go_to-requires-clause-level : goal.go_to-requires-clause-level
+go_to-requires-clause-level g c =
+    next-level (g.D.Dead.number_of c.args.dead.now) (form_view c.args.form) (g.F.PlanFrame.table c.args.frame.now)
+    (g.F.PlanFrame.frame c.args.frame.now) c.loop-next.path.items c.pop.new.self.items c.loop-next.pending.items
+    c.in-Some.next c.in-Some.ensures.items c.loop-next.invariant.fine
+
+pub visit-requires-in-Some-clause-extents : goal.visit-requires-in-Some-clause-extents
+visit-requires-in-Some-clause-extents g c =
+    subst (λ us. AreExtents [] us c.as_slice-in-Some-2.result.now) (sym c.as_slice-in-Some.ensures.value)
+    (subst (λ xs. AreExtents [] c.go_to.new.path.items xs) (sym c.as_slice-in-Some-2.ensures.value)
+    c.in_ok-go_to.ensures.extents)
+
 pub visit-requires-in-Some-clause-path : goal.visit-requires-in-Some-clause-path
 visit-requires-in-Some-clause-path g c =
     let frame = g.F.PlanFrame.frame c.args.frame.now in
     subst (IsPath frame) (sym c.as_slice-in-Some.ensures.value)
     (next-path (g.D.Dead.number_of c.args.dead.now) (form_view c.args.form) (g.F.PlanFrame.table c.args.frame.now)
     frame c.loop-next.path.items c.go_to.new.path.items c.pop.new.self.items c.loop-next.pending.items c.in-Some.next
-    c.in-Some.ensures.items c.in_ok-go_to.ensures c.loop-next.invariant.fine c.loop-next.invariant.path)
+    c.in-Some.ensures.items c.in_ok-go_to.ensures.path c.loop-next.invariant.fine c.loop-next.invariant.path)
 
 pub visit-requires-in-Some-clause-clear : goal.visit-requires-in-Some-clause-clear
 visit-requires-in-Some-clause-clear g c =
@@ -45,7 +63,7 @@ visit-requires-in-Some-clause-clear g c =
     subst (WasClear T frame) (sym c.as_slice-in-Some.ensures.value)
     (next-was (g.D.Dead.number_of c.args.dead.now) (form_view c.args.form) T
     frame c.loop-next.path.items c.go_to.new.path.items c.pop.new.self.items c.loop-next.pending.items c.in-Some.next
-    c.in-Some.ensures.items c.in_ok-go_to.ensures c.loop-next.invariant.fine c.loop-next.invariant.clear)
+    c.in-Some.ensures.items c.in_ok-go_to.ensures.path c.loop-next.invariant.fine c.loop-next.invariant.clear)
 
 pub loop-next-smaller : goal.loop-next-smaller
 loop-next-smaller g c =
@@ -61,7 +79,7 @@ loop-next-smaller g c =
     subst (λ us. Visits number form T frame us es qs before now) c.as_slice-in-Some.ensures.value
     c.in_ok-visit-2.ensures in
     next-fewer number form T frame c.loop-next.path.items c.go_to.new.path.items es c.loop-next.pending.items
-    c.in-Some.next c.in-Some.ensures.items c.in_ok-go_to.ensures c.loop-next.invariant.fine qs before now now v
+    c.in-Some.next c.in-Some.ensures.items c.in_ok-go_to.ensures.path c.loop-next.invariant.fine qs before now now v
 
 pub loop-next-preserved : goal.loop-next-preserved
 loop-next-preserved g c =
@@ -81,11 +99,12 @@ loop-next-preserved g c =
     c.in_ok-visit-2.ensures in
     record {
       path = next-path number form T frame path path' es old c.in-Some.next c.in-Some.ensures.items
-          c.in_ok-go_to.ensures c.loop-next.invariant.fine c.loop-next.invariant.path;
+          c.in_ok-go_to.ensures.path c.loop-next.invariant.fine c.loop-next.invariant.path;
+      extents = c.in_ok-go_to.ensures.extents;
       fine = next-fine number form T frame path path' es old c.in-Some.next c.in-Some.ensures.items
-          c.in_ok-go_to.ensures c.loop-next.invariant.fine qs before now now v;
+          c.in_ok-go_to.ensures.path c.loop-next.invariant.fine qs before now now v;
       clear = next-clear number form T frame path path' es old c.in-Some.next c.in-Some.ensures.items
-          c.in_ok-go_to.ensures c.loop-next.invariant.fine qs before now now v c.loop-next.invariant.clear;
+          c.in_ok-go_to.ensures.path c.loop-next.invariant.fine qs before now now v c.loop-next.invariant.clear;
       lines = next-lines number form T frame path path' es old c.in-Some.next c.in-Some.ensures.items
-          c.in_ok-go_to.ensures c.loop-next.invariant.fine qs before now _ v c.loop-next.invariant.lines;
+          c.in_ok-go_to.ensures.path c.loop-next.invariant.fine qs before now _ v c.loop-next.invariant.lines;
     }

@@ -1,9 +1,9 @@
 -- The lines so far, and those of the plans that are left.
-use Rattle.std.proofs.Common.{◌≡◌, ◌++◌, length, map, reverse}
+use Rattle.std.proofs.Common.{◌≡◌, ◌++◌, [], length, map, reverse}
 use Rattle.refutations.specs.PlanTreeLines.{plan_lines}
 use Rattle.js_lines.specs.View.{line_view}
 use Rattle.js_plan_lines.specs.FormView.{form_view}
-use Rattle.js_plan_lines.specs.Reach.{IsPath}
+use Rattle.js_plan_lines.specs.Reach.{IsPath, AreExtents}
 use Rattle.js_plan_lines.specs.Left.{lines_left, AreFine, AreClear}
 use Rattle.js_plan_lines.proofs.tree.add_plan_lines.Given as goal
 
@@ -14,6 +14,7 @@ invariant-loop-next g l =
     let frame = g.F.PlanFrame.frame l.frame in
     record {
       path : IsPath frame l.path.items;
+      extents : AreExtents [] l.path.items l.extents.items;
       fine : AreFine frame l.path.items (reverse l.pending.items);
       clear : AreClear T frame l.path.items (reverse l.pending.items);
       lines : map line_view l.lines.items

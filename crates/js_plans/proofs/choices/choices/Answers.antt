@@ -21,6 +21,6 @@ returns g c =
     ∙ ap₂ (λ xs ys. xs ++ ys)
     (c.in_ok-add_heads.ensures
     ∙ ap₂ (λ xs h. xs ++ map V.Head (range_with_len 0 h)) c.new-choices.ensures.items c.heads.ensures)
-    (ap₂ (λ x cs. serving_cells frame x 0 cs) d (c.as_slice.ensures.value ∙ c.in_ok-members.ensures)))
-    (ap₂ (λ x cs. open_cells frame x cs frame.cells) d (c.as_slice-2.ensures.value ∙ c.in_ok-members.ensures))
-    ∙ choices-are frame ws (omega (arith, c.requires, count))
+    (ap₂ (λ x cs. serving_cells frame x 0 cs) d c.requires.members))
+    (ap₂ (λ x cs. open_cells frame x cs frame.cells) d c.requires.members)
+    ∙ choices-are frame ws (omega (arith, c.requires.left, count))

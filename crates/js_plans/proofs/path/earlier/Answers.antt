@@ -3,9 +3,17 @@ use Rattle.std.proofs.Common.{◌≡◌, ◌+◌, ◌<◌, length, ◌++◌, dro
 use Rattle.js_algebra.specs.View.{signed_view}
 use Rattle.js_plans.specs.Servers.{earlier, servers_of}
 use Rattle.js_plans.proofs.Grown.{next_earlier, get_within, few_after}
+use Rattle.js_plans.proofs.Extents.{earlier-new}
 use Rattle.js_plans.proofs.path.earlier.Goals as goal
 use Rattle.js_plans.proofs.path.earlier.Goals.{then-serves_too+in_ok-push, else-serves_too}
 use Rattle.std.proofs.lemmas.List.{get_or_default}
+
+pub returns-in-New : goal.returns-in-New
+returns-in-New c =
+    let ds = map signed_view c.args.demands.now in
+    let ws = servers_of c.args.path.now in
+    ap (map signed_view) c.new-found.ensures.items
+    ∙ sym (ap (λ s. earlier s ds 0 ws) c.in-New.is ∙ earlier-new c.in-New.field-0 ds 0 ws)
 
 pub loop-i-preserved : goal.loop-i-preserved
 loop-i-preserved c =

@@ -1,13 +1,19 @@
 -- The path stands before its last server.
 use Rattle.std.proofs.Common.{◌<◌, length, arith, subst}
 use Rattle.js_plan_lines.specs.Kept.{IsClear}
+use Rattle.js_plan_lines.proofs.Extents.{before-last}
 use Rattle.js_plan_lines.proofs.Keeping.{cut-last, path-before}
 use Rattle.js_plan_lines.proofs.before.Before.of.Goals as goal
 
-pub of-placed-requires : goal.of-placed-requires
-of-placed-requires g c =
+pub of-placed-requires-clause-path : goal.of-placed-requires-clause-path
+of-placed-requires-clause-path g c =
     path-before (g.F.PlanFrame.frame c.args.frame.now) c.args.path.now c.in-Some.before.now c.in-Some.last.now
     c.in-Some.ensures.cases.0 c.requires.path
+
+pub of-placed-requires-clause-extents : goal.of-placed-requires-clause-extents
+of-placed-requires-clause-extents g c =
+    before-last c.args.path.now c.in-Some.before.now c.in-Some.last.now c.args.extents.now c.in-Some.ensures.cases.0
+    c.requires.extents
 
 pub returns-in-Some : goal.returns-in-Some
 returns-in-Some g c =

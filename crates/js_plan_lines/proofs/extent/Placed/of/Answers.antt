@@ -9,7 +9,7 @@ returns-clause-heads g c =
     let frame = g.F.PlanFrame.frame c.args.frame.now in
     c.heads_placed-heads.ensures.value
     ∙ ap₂ (heads_of frame) c.of-extent.ensures.used c.of-extent.ensures.members
-    ∙ sym (heads-are frame c.args.path.now c.requires)
+    ∙ sym (heads-are frame c.args.path.now c.requires.path)
 
 pub returns-clause-count : goal.returns-clause-count
 returns-clause-count g c =
@@ -17,4 +17,4 @@ returns-clause-count g c =
     ap₂ (λ h m. h + m)
     (c.heads_placed-heads.ensures.value
     ∙ ap₂ (heads_of frame) c.of-extent.ensures.used c.of-extent.ensures.members) c.of-extent.ensures.members
-    ∙ sym (placed-count frame c.args.path.now c.requires)
+    ∙ sym (placed-count frame c.args.path.now c.requires.path)

@@ -9,5 +9,5 @@ pub returns-clause-left : goal.returns-clause-left
 unfolding plan_steps
 returns-clause-left c = λ T frame.
     ap₂ (λ es ps. steps_left T frame (servers_of es) (reverse ps)) c.clear.ensures.items
-    (c.in_ok-push.ensures.items ∙ ap (λ ps. ps ++ _ ∷ []) c.clear-2.ensures.items)
+    (c.in_ok-push.ensures.items ∙ ap (λ ps. ps ++ _ ∷ []) c.clear-3.ensures.items)
     ∙ append-nil (plan_steps T frame)

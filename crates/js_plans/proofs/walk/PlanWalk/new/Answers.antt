@@ -5,4 +5,4 @@ use Rattle.js_plans.proofs.walk.PlanWalk.new.Goals as goal
 
 pub returns-clause-walk : goal.returns-clause-walk
 returns-clause-walk c = λ T frame.
-    c.in_ok-begin.ensures.walk T frame (subst (λ gs. AreFirst T frame 0 gs) (sym c.new-2.ensures.items) tt)
+    c.in_ok-begin.ensures.walk T frame (subst (λ gs. AreFirst T frame 0 gs) (sym c.new-3.ensures.items) tt)

@@ -1,11 +1,18 @@
 -- The next plan.
-use Rattle.std.proofs.Common.{◌≡◌, ◌+◌, reverse, arith, ap, sym, ◌∙◌, subst}
+use Rattle.std.proofs.Common.{◌≡◌, ◌+◌, [], reverse, take, length, arith, ap, ap₂, sym, ◌∙◌, subst}
 use Rattle.std.proofs.lemmas.List.{length-reverse}
 use Rattle.frames.specs.Plan.{ends}
-use Rattle.js_plans.specs.Servers.{servers_of}
+use Rattle.js_plans.specs.Servers.{cells_of, servers_of, AreExtents}
 use Rattle.js_plans.specs.Walks.{IsPath, is_end, one_more, left}
-use Rattle.js_plans.proofs.Remaining.{path-take, fine-next, left-next, left-ends, told-ends}
+use Rattle.js_plans.proofs.Remaining.{servers-take, path-take, fine-next, left-next, left-ends, told-ends}
+use Rattle.js_plans.proofs.Extents.{extents-take, cells-before}
 use Rattle.js_plans.proofs.walk.PlanWalk.next.Goals as goal
+
+pub of-extent-requires : goal.of-extent-requires
+of-extent-requires g c =
+    subst (AreExtents []) (sym c.as_slice.ensures.value)
+    (subst (AreExtents []) (sym c.truncate.ensures.items)
+    (extents-take c.in-Some.next.level [] c.args.self.now.path.items c.requires.path.extents))
 
 pub visit-requires-clause-path : goal.visit-requires-clause-path
 visit-requires-clause-path g c =
@@ -13,6 +20,23 @@ visit-requires-clause-path g c =
     let frame = g.F.PlanFrame.frame c.args.frame.now in
     subst (λ es. IsPath T frame es) (sym c.truncate.ensures.items)
     (path-take T frame c.in-Some.next.level c.args.self.now.path.items c.requires.path)
+
+pub visit-requires-clause-cells : goal.visit-requires-clause-cells
+visit-requires-clause-cells g c =
+    let T = g.F.PlanFrame.table c.args.frame.now in
+    let frame = g.F.PlanFrame.frame c.args.frame.now in
+    let n = c.in-Some.next.level in
+    let ws = servers_of c.args.self.now.path.items in
+    let cut : servers_of c.truncate.new.self.items ≡ take n ws =
+    ap servers_of c.truncate.ensures.items ∙ servers-take T frame n c.args.self.now.path.items in
+    c.truncate-2.ensures.items
+    ∙ ap₂ (λ m cs. take m cs)
+    (c.of-extent.ensures.members
+    ∙ ap (λ es. length (cells_of (servers_of es))) c.as_slice.ensures.value
+    ∙ ap (λ us. length (cells_of us)) cut)
+    c.requires.cells
+    ∙ cells-before n ws
+    ∙ ap cells_of (sym cut)
 
 pub visit-requires-clause-fits : goal.visit-requires-clause-fits
 visit-requires-clause-fits g c =

@@ -27,6 +27,7 @@ returns-in-Some-clause-visits g c =
       is = is;
       told = told;
       path = c.requires.path;
+      cells = c.requires.cells;
       first = c.in_ok-step.ensures.first;
       fine = c.requires.fine;
       complete = λ e. absurd (not_dropped T frame ws c.in-Some.step d e);
@@ -53,6 +54,7 @@ returns-then-not-branch-clause-visits g c =
           told
           ∙ ap (λ xs. step ∷ steps_left T frame (servers_of xs) (reverse c.args.self.now.pending.items)) (sym stays);
       path = subst (λ xs. IsPath T frame xs) (sym stays) c.requires.path;
+      cells = c.in_ok-serve.ensures.cells;
       first = c.in_ok-step.ensures.first;
       fine =
           subst (λ xs. AreFine frame (servers_of xs) (reverse c.args.self.now.pending.items)) (sym stays)
@@ -86,6 +88,7 @@ returns-clause-visits g c =
       is = is;
       told = told;
       path = on.path;
+      cells = c.in_ok-serve.ensures.cells;
       first = c.in_ok-step.ensures.first;
       fine = fine;
       complete = λ e. placed;
