@@ -12,3 +12,4 @@ mod Members
 mod InOrder
 mod Chosen
 mod Witnessing
+mod Sound

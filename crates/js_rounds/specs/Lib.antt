@@ -3,6 +3,8 @@
 -- a document is built.
 pub mod State
 pub mod Slots
+-- What the document of a goal means.
+pub mod Meets
 -- Internal: a round on the way, what answers say of a round, and what runs stand for.
 pub mod Sorted
 pub mod Waking

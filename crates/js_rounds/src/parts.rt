@@ -1,7 +1,8 @@
 //! The parts of the document of a goal.
 
-ghost use Rattle.std.specs.Prelude.{◌≡◌, ◌<◌, ◌+◌, ◌++◌, ◌∷◌, [], true, None, IfOk, OnOk, is_some, length, map, set};
+ghost use Rattle.std.specs.Prelude.{◌≡◌, ◌<◌, ◌+◌, ◌++◌, ◌∷◌, [], true, None, IfOk, OnOk, List, is_some, length, map, set};
 ghost use Rattle.documents.specs.Tests.{every, same_word};
+ghost use Rattle.positions.specs.Position.{Position};
 ghost use Rattle.alternatives.specs.Alternative as A;
 ghost use Rattle.alternatives.specs.Slots.{capacity, cell_at, word_at, has_room, are_different};
 ghost use Rattle.alternatives.specs.Expansion.{names_branch};
@@ -18,6 +19,7 @@ ghost use Rattle.js_explore.specs.Exploration.{Explores};
 ghost use Rattle.js_rounds.specs.Spread.{spread};
 ghost use Rattle.js_rounds.specs.Slots.{place_at, words_by};
 ghost use Rattle.js_rounds.specs.State.{IsFor, AreRounds};
+ghost use Rattle.js_rounds.specs.Meets.{AreSound, IsMet};
 
 use crate::elements::elements;
 use crate::names::{members, text};
@@ -160,6 +162,13 @@ impl Rounds {
         ensures document { IfOk result (λ w. unshared w.0 w.1.0 ≡ document (words_by (E.cells expander.now))
             (E.expansion expander.now) (explored_view explored.now).found
             (length (explored_view explored.now).found.goals) goal) }
+
+        // What the document means: whatever the table, where each alternative is sound for it.
+        ensures meets { (T : List Position)
+            → AreSound T (words_by (E.cells expander.now)) (E.expansion expander.now)
+            (explored_view explored.now).found.goals
+            → IfOk result (λ w. IsMet T (E.expansion expander.now) (explored_view explored.now).found goal
+            (unshared w.0 w.1.0)) }
     {
         let mut goals = self.used(alloc, explored, goal)?;
         goals.reverse();

@@ -6,6 +6,8 @@ use Rattle.search_laws.proofs.Building.{Made, made_on, next_below}
 use Rattle.js_explore.specs.ExploredView.{explored_view}
 use Rattle.js_rounds.specs.Slots.{place_at, words_by}
 use Rattle.js_rounds.proofs.Using.{written}
+use Rattle.js_rounds.specs.Meets.{IsMet}
+use Rattle.js_rounds.proofs.Sound.{goal_met}
 use Rattle.js_rounds.proofs.Witnessing.{is_reached, turn, ended}
 use Rattle.js_rounds.proofs.rounds.Rounds.witness.Goals as goal
 
@@ -92,4 +94,9 @@ returns g c =
     let v = c.loop-place.invariant in
     let d = ended words X f n has c.reverse.new.self.items used i c.loop-place.parts c.loop-place.places.items
     c.loop-place.last.0 end v.count (v.made (is_reached words X f n has c.reverse.new.self.items used)) v.last in
-    record { parts = d.all; last = d.own; document = d.stands }
+    record {
+      parts = d.all;
+      last = d.own;
+      document = d.stands;
+      meets = λ T sound. subst (IsMet T X f n) (sym d.stands) (goal_met T words X f sound n has);
+    }
