@@ -11,7 +11,7 @@ use Rattle.js_valid.specs.Parts.{parts, parts_array, parts_object, asked_by, ans
 use Rattle.js_match.specs.Matching.{matches}
 use Rattle.js_valid.specs.Requests.{each_at, contained, parts_list, parts_members}
 use Rattle.js_valid.proofs.PartsLaws.{both, every-append, every-named}
-use Rattle.js_valid.proofs.DepthLaws.{is_scalar}
+use Rattle.js_valid.specs.Plain.{is_scalar}
 use Rattle.js_valid.proofs.RequestLaws.{answered-asked}
 
 and_true : (a : Bool) → (a && true) ≡ a

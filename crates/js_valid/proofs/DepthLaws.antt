@@ -8,6 +8,7 @@ use Rattle.js_doc.specs.declared.document.DocMap.{DocMap}
 use Rattle.js_doc.specs.declared.rising.Named.{Named}
 use Rattle.js_doc.specs.declared.word.Word.{Word}
 use Rattle.js_doc.specs.View.{view, member_view}
+use Rattle.js_valid.specs.Plain.{is_scalar}
 
 item-less : (items : List Doc) (i : ℕ) (x : Doc) → i < length items → x ≡ get_or items i x
     → depth (view x) ≤ items_depth (items_of (map view items))
@@ -30,15 +31,6 @@ pub member-depth : (items : List (Named Doc)) (i : ℕ) (x : Named Doc) (l : Mem
     → members_of (map member_view items) ≡ l → depth (member_view x).1 ≤ members_depth l
 member-depth items i x l h is e = subst (λ ms. depth (member_view x).1 ≤ members_depth ms) e
     (member-less items i x h is)
-
--- a document without parts
-abbrev pub is_scalar : Document → Bool
-is_scalar null = true
-is_scalar (boolean b) = true
-is_scalar (number n) = true
-is_scalar (string w) = true
-is_scalar (array ds) = false
-is_scalar (object ms) = false
 
 pub view-scalar : (d : Doc) → ((l : DocList) → d ≡ C.List l → ⊥) → ((m : DocMap) → d ≡ C.Members m → ⊥)
     → true ≡ is_scalar (view d)

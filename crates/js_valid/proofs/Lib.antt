@@ -10,6 +10,8 @@ pub mod SameLaws
 pub mod RequestLaws
 -- Places in lists, and the owners at them.
 pub mod PlaceLaws
+-- Owners that have failed are dropped.
+pub mod KeptLaws
 -- A form asks of a document itself what it asks by itself and by the verdicts of others.
 pub mod StandLaws
 -- Places that are pending, and where entries stand.

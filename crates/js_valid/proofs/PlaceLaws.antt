@@ -7,7 +7,7 @@ use Rattle.draft06.specs.EntryValidity.{form_at}
 use Rattle.js_match.specs.Places.{is_at}
 use Rattle.js_match.proofs.LeadsLaws.{is_at-append, or_left_true, or_right_true}
 use Rattle.js_valid.specs.Parts.{asked_by}
-use Rattle.js_valid.specs.Requests.{AskedByOwners, AsksMore, OthersAskNothing}
+use Rattle.js_valid.specs.Requests.{AskedAtPlaces, AsksMore}
 use Rattle.js_valid.proofs.RequestLaws.{cons_at}
 
 -- ---- members of lists
@@ -141,11 +141,11 @@ at-one test e (i ∷ places) h =
     go false same h c there own none = own h
 
 pub places_done : (es : List Entry) (of : Form → List ℕ) (owners places : List ℕ) (n : ℕ) (os qs : List ℕ)
-    → OthersAskNothing es of owners places → length places ≤ n
+    → length places ≤ n
     → ((e : ℕ) (p : ℕ → Bool) → (asked_by e p os qs && at_places (owner_asks es of owners p) e (drop n places))
     ≡ at_places (owner_asks es of owners p) e places)
-    → AskedByOwners es of owners os qs
-places_done es of owners places n os qs others end h e p less =
+    → AskedAtPlaces es of owners places os qs
+places_done es of owners places n os qs end h e p =
     sym (and_true (asked_by e p os qs))
     ∙ ap (λ xs. asked_by e p os qs && at_places (owner_asks es of owners p) e xs) (sym (nothing_left places n end))
     ∙ h e p ∙ go (is_at e places) refl
@@ -157,7 +157,6 @@ places_done es of owners places n os qs others end h e p less =
     nothing_left (x ∷ xs) (suc n) h = nothing_left xs n (omega (arith, h))
 
     go : (b : Bool) → is_at e places ≡ b
-        → at_places (owner_asks es of owners p) e places ≡ owner_asks es of owners p e
+        → at_places (owner_asks es of owners p) e places ≡ (not b || owner_asks es of owners p e)
     go true there = at-one (owner_asks es of owners p) e places there
-    go false there =
-        not-at (owner_asks es of owners p) e places there ∙ sym (ap (every p) (others e less there))
+    go false there = not-at (owner_asks es of owners p) e places there

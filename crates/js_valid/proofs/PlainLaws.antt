@@ -12,10 +12,10 @@ use Rattle.draft06_laws.proofs.EntryLaws.{entry_valid-asks}
 use Rattle.draft06_laws.proofs.EntryLocal.{asks_same}
 use Rattle.js_match.specs.Matching.{matches}
 use Rattle.js_valid.specs.Parts.{flag, own, parts, of_contains, of_element, of_member, of_name}
-use Rattle.js_valid.specs.Plain.{is_absent, is_plain, reference}
+use Rattle.js_valid.specs.Plain.{is_absent, is_plain, is_scalar, reference}
 use Rattle.js_valid.specs.Plan.{IsPlan, valid_at}
 use Rattle.js_valid.specs.Requests.{contained, each_at, parts_list, parts_members}
-use Rattle.js_valid.proofs.DecideLaws.{list-done, members-done}
+use Rattle.js_valid.proofs.DecideLaws.{list-done, members-done, scalar-parts}
 use Rattle.js_valid.proofs.Halves.{asks-halves}
 
 and_true : (a : Bool) → (a && true) ≡ a
@@ -115,6 +115,20 @@ module _ (es : List Entry) (order : List ℕ) (plan : IsPlan es order) where
       ∙ asks_same matches (flag []) (λ q. valid_at es q J) (valid_at es) (valid_at es) f J here
       (everywhere _ (of_parts f) (λ q K l. refl))
       ∙ ap (λ g. asks matches (λ q. valid_at es q J) (valid_at es) g J) is ∙ sym (valid-asks e J)
+
+  -- where there are no parts, the document itself is all
+  pub own-valid : (J : Document) → is_scalar J ≡ true → (qs : List ℕ)
+      → every (λ q. is_plain (form_at es q)) qs ≡ true
+      → map (λ q. own matches (flag []) (form_at es q) J) qs ≡ map (λ q. valid_at es q J) qs
+  own-valid J scalar [] h = refl
+  own-valid J scalar (q ∷ qs) h =
+      let form = form_at es q in
+      let plain = and_parts (is_plain form) (every (λ p. is_plain (form_at es p)) qs) h in
+      ap (λ b. b ∷ map (λ p. own matches (flag []) (form_at es p) J) qs)
+      (sym (and_true (own matches (flag []) form J))
+      ∙ sym (ap (λ b. own matches (flag []) form J && b) (scalar-parts form (valid_at es) J scalar))
+      ∙ plain-valid q form J refl plain.0)
+      ∙ ap (λ bs. valid_at es q J ∷ bs) (own-valid J scalar qs plain.1)
 
 module _ (below : ℕ → Document → Bool) (f : Form) (plain : is_plain f ≡ true) where
   pub plain-list : (ds : List Document) (a : Bool)

@@ -17,7 +17,7 @@ and_true false = refl
 
 -- ---- one more request
 
-asked_by-one : (e o q : ℕ) (p : ℕ → Bool) (os qs : List ℕ) → length os ≡ length qs
+pub asked_by-one : (e o q : ℕ) (p : ℕ → Bool) (os qs : List ℕ) → length os ≡ length qs
     → asked_by e p (os ++ o ∷ []) (qs ++ q ∷ []) ≡ (asked_by e p os qs && (not (nat_eq o e) || p q))
 asked_by-one e o q p [] [] h = and_true (not (nat_eq o e) || p q)
 asked_by-one e o q p [] (r ∷ qs) h = absurd (omega (arith, h))

@@ -1,5 +1,6 @@
--- Forms whose verdict hangs on no other entry's verdict on the same document.
+-- Forms whose verdict hangs on no other entry's verdict on the same document, and documents without parts.
 use Rattle.std.specs.Prelude.{ℕ, Bool, true, false, ◌&&◌, Option, Some, None}
+use Rattle.documents.specs.Document.{Document, null, boolean, number, string, array, object}
 use Rattle.schemas.specs.Entry.{Form, Always, Never, Ref, Asks}
 
 abbrev pub is_absent : {A : Type 0} → Option A → Bool
@@ -19,3 +20,12 @@ is_plain (Asks k) =
 abbrev pub reference : Form → Option ℕ
 reference (Ref e) = Some e
 reference f = None
+
+-- a document without parts
+abbrev pub is_scalar : Document → Bool
+is_scalar null = true
+is_scalar (boolean b) = true
+is_scalar (number n) = true
+is_scalar (string w) = true
+is_scalar (array ds) = false
+is_scalar (object ms) = false

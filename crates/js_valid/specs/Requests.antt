@@ -25,6 +25,12 @@ abbrev pub AskedByOwners : List Entry → (Form → List ℕ) → (owners os qs 
 AskedByOwners es of owners os qs =
     (e : ℕ) (p : ℕ → Bool) → e < length owners → asked_by e p os qs ≡ every p (of (form_at es (get_or owners e 0)))
 
+-- each owner at these places asks for the entries that its form has for the part, and the others for nothing
+abbrev pub AskedAtPlaces : List Entry → (Form → List ℕ) → (owners places os qs : List ℕ) → Type 0
+AskedAtPlaces es of owners places os qs =
+    (e : ℕ) (p : ℕ → Bool)
+    → asked_by e p os qs ≡ (not (is_at e places) || every p (of (form_at es (get_or owners e 0))))
+
 -- an owner whose place isn't among these asks for nothing
 abbrev pub OthersAskNothing : List Entry → (Form → List ℕ) → (owners places : List ℕ) → Type 0
 OthersAskNothing es of owners places =

@@ -1,18 +1,19 @@
 //! What the entries ask of one part of a document: requests, each of an entry that asks, its owner, for an entry that
 //! the part is to meet.
 
-ghost use Rattle.std.specs.Prelude.{◌≡◌, ℕ, ◌<◌, ◌||◌, ◌&&◌, ◌++◌, ◌∷◌, if◌then◌else◌, not, nat_eq, nat_lt, true, false, Bool, List, [], IfOk, IsOk, map, option_map, length, get_or};
+ghost use Rattle.std.specs.Prelude.{◌≡◌, ℕ, ◌<◌, ◌||◌, ◌&&◌, ◌++◌, ◌∷◌, if◌then◌else◌, not, nat_eq, nat_lt, true, false, Bool, List, [], IfOk, IsOk, map, option_map, length, get_or, slice_set};
 ghost use Rattle.documents.specs.Tests.{every, same_word};
 ghost use Rattle.schemas.specs.Entry.{Asks};
 ghost use Rattle.schemas.specs.Schema.{lists, one, is_table, is_in_range, form_in_range};
 ghost use Rattle.js_schema.specs.View.{form_view, keywords_view, items_view, property_view, pattern_properties_view};
 ghost use Rattle.js_schema.specs.SchemaView.{schema_view};
 ghost use Rattle.js_match.specs.Matching.{matches};
-ghost use Rattle.js_valid.specs.Parts.{asked_by, of_contains, of_element, of_items_part, of_listed, of_member, of_name, of_named, of_names, or_else};
-ghost use Rattle.js_valid.specs.Requests.{AsksMore, AskedByOwners, OthersAskNothing, contained};
+ghost use Rattle.js_valid.specs.Parts.{asked_by, flag, of_contains, of_element, of_items_part, of_listed, of_member, of_name, of_named, of_names, or_else};
+ghost use Rattle.js_valid.specs.Requests.{AsksMore, AskedAtPlaces, AskedByOwners, OthersAskNothing, contained};
 
 use crate::found::is_found;
 use crate::search::property_entry;
+use crate::tables::test_at;
 use js_doc::{Memory, Str};
 use js_match::letters;
 use js_schema::{EntryList, Form, ItemsPart, Keywords, PatternPropertyList, Schema};
@@ -34,6 +35,38 @@ impl Requests {
             owners: Vec::new(alloc),
             entries: Vec::new(alloc),
         }
+    }
+
+    /// Drops the requests of owners that don't have the test, by their places.
+    pub(crate) fn keep(&mut self, table: &[bool])
+        requires { length self.old.owners.items ≡ length self.old.entries.items }
+        ensures len { length self.new.owners.items ≡ length self.new.entries.items }
+        ensures asks { (e : ℕ) (p : ℕ → Bool) → asked_by e p self.new.owners.items self.new.entries.items
+            ≡ (not (flag table.now e) || asked_by e p self.old.owners.items self.old.entries.items) }
+    {
+        let mut kept = 0;
+        for i in 0..self.owners.len() {
+            if test_at(table, self.owners[i]) {
+                self.move_back(i, kept);
+                kept += 1;
+            }
+        }
+        self.owners.truncate(kept);
+        self.entries.truncate(kept);
+    }
+
+    /// Writes a request over another.
+    fn move_back(&mut self, from: usize, to: usize)
+        requires from { from < length self.old.owners.items }
+        requires to { to < length self.old.owners.items }
+        requires len { length self.old.owners.items ≡ length self.old.entries.items }
+        ensures owners { self.new.owners.items
+            ≡ slice_set self.old.owners.items to (get_or self.old.owners.items from 0) }
+        ensures entries { self.new.entries.items
+            ≡ slice_set self.old.entries.items to (get_or self.old.entries.items from 0) }
+    {
+        self.owners[to] = self.owners[from];
+        self.entries[to] = self.entries[from];
     }
 }
 
@@ -114,10 +147,9 @@ pub(crate) fn of_element(
 ) -> Result<Requests, Memory>
     requires owners { every (λ o. nat_lt o (length (schema_view schema.now))) owners.now ≡ true }
     requires within { (i : ℕ) → i < length asking.now → get_or asking.now i 0 < length owners.now }
-    requires others { OthersAskNothing (schema_view schema.now) (λ f. of_element f place) owners.now asking.now }
     ensures len { IfOk result (λ r. length r.owners.items ≡ length r.entries.items) }
-    ensures asks { IfOk result (λ r. AskedByOwners (schema_view schema.now) (λ f. of_element f place) owners.now
-        r.owners.items r.entries.items) }
+    ensures asks { IfOk result (λ r. AskedAtPlaces (schema_view schema.now) (λ f. of_element f place) owners.now
+        asking.now r.owners.items r.entries.items) }
 {
     let mut requests = Requests::new(alloc);
     for i in asking {
@@ -280,16 +312,23 @@ pub(crate) fn of_member(
     requires table { is_table (schema_view schema.now) ≡ true }
     requires owners { every (λ o. nat_lt o (length (schema_view schema.now))) owners.now ≡ true }
     requires within { (i : ℕ) → i < length asking.now → get_or asking.now i 0 < length owners.now }
-    requires others { OthersAskNothing (schema_view schema.now) (λ f. of_member matches f name.now)
-        owners.now asking.now }
     ensures len { IfOk result (λ r. length r.owners.items ≡ length r.entries.items) }
-    ensures asks { IfOk result (λ r. AskedByOwners (schema_view schema.now) (λ f.
+    ensures asks { IfOk result (λ r. AskedAtPlaces (schema_view schema.now) (λ f.
         of_member matches f name.now) owners.now
-        r.owners.items r.entries.items) }
+        asking.now r.owners.items r.entries.items) }
 {
     let mut requests = Requests::new(alloc);
+    // One list for all owners, so that memory isn't taken for each.
+    let mut found = Vec::new(alloc);
     for i in asking {
-        add_member(alloc, &mut requests, *i, schema.form(owners[*i]), name)?;
+        add_member(
+            alloc,
+            &mut requests,
+            &mut found,
+            *i,
+            schema.form(owners[*i]),
+            name,
+        )?;
     }
     Ok(requests)
 }
@@ -297,6 +336,7 @@ pub(crate) fn of_member(
 fn add_member(
     alloc: Global,
     requests: &mut Requests,
+    found: &mut Vec<u32>,
     owner: usize,
     form: &Form,
     name: &Str,
@@ -308,8 +348,8 @@ fn add_member(
         name.now) requests.old.owners.items
         requests.old.entries.items requests.new.owners.items requests.new.entries.items }
 {
-    let named = member_entries(alloc, form, name)?;
-    add(requests, owner, &named)
+    find_entries(alloc, found, form, name)?;
+    add(requests, owner, found)
 }
 
 /// The entries for a member with that name.
@@ -317,33 +357,44 @@ pub(crate) fn member_entries(alloc: Global, form: &Form, name: &Str) -> Result<V
     requires { form_in_range (form_view form.now) ≡ true }
     ensures { IfOk result (λ found. found.items ≡ of_member matches (form_view form.now) name.now) }
 {
+    let mut found = Vec::new(alloc);
+    find_entries(alloc, &mut found, form, name)?;
+    Ok(found)
+}
+
+/// The same in a list that is there already, in place of what it has.
+fn find_entries(alloc: Global, found: &mut Vec<u32>, form: &Form, name: &Str) -> Result<(), Memory>
+    requires { form_in_range (form_view form.now) ≡ true }
+    ensures { IsOk result → found.new.items ≡ of_member matches (form_view form.now) name.now }
+{
+    found.clear();
     match form {
-        Form::Keywords(keywords) => named_entries(alloc, keywords, name),
-        _ => Ok(Vec::new(alloc)),
+        Form::Keywords(keywords) => add_named(alloc, found, keywords, name),
+        _ => Ok(()),
     }
 }
 
-fn named_entries(alloc: Global, keywords: &Keywords, name: &Str) -> Result<Vec<u32>, Memory>
-    requires { is_in_range (keywords_view keywords.now) ≡ true }
-    ensures { IfOk result (λ found. found.items ≡ or_else (of_names matches (keywords_view keywords.now) name.now)
-        (lists one keywords.now.objects.value.additional_properties)) }
+fn add_named(
+    alloc: Global,
+    found: &mut Vec<u32>,
+    keywords: &Keywords,
+    name: &Str,
+) -> Result<(), Memory>
+    requires range { is_in_range (keywords_view keywords.now) ≡ true }
+    requires empty { found.old.items ≡ [] }
+    ensures { IsOk result → found.new.items ≡ or_else (of_names matches (keywords_view keywords.now) name.now)
+        (lists one keywords.now.objects.value.additional_properties) }
 {
-    let mut found = Vec::new(alloc);
     if let Some(entry) = property_of(keywords, name) {
         found.push(entry)?;
     }
-    add_patterns(
-        alloc,
-        &mut found,
-        &keywords.objects.pattern_properties,
-        name,
-    )?;
+    add_patterns(alloc, found, &keywords.objects.pattern_properties, name)?;
     if found.is_empty()
         && let Some(entry) = keywords.objects.additional_properties
     {
         found.push(entry)?;
     }
-    Ok(found)
+    Ok(())
 }
 
 /// The entry that `properties` has for the name.

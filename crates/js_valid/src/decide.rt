@@ -27,8 +27,11 @@ use crate::asked::asked_entries;
 use crate::own::meets_own;
 use crate::plain::{is_plain, target_of};
 use crate::plan::Plan;
+use crate::scalar::{are_plain, is_scalar, own_verdicts};
 use crate::settle::settle;
-use crate::tables::{are_all, holds, refuse, refuse_all, refuse_none, test_at, tests_of};
+use crate::tables::{
+    are_all, holds, keep_places, refuse, refuse_all, refuse_none, test_at, tests_of,
+};
 use js_doc::{Doc, DocList, DocMap, Member, Memory, Str, Word};
 use js_schema::{Form, Schema};
 use std::alloc::Global;
@@ -52,6 +55,9 @@ pub(crate) fn verdicts(
     if entries.len() == 1 {
         let verdict = is_met(alloc, schema, plan, held, doc, entries[0])?;
         return Ok(vec![in alloc; verdict; 1]?);
+    }
+    if is_scalar(doc) && are_plain(schema, entries) {
+        return own_verdicts(alloc, schema, doc, entries);
     }
     table_verdicts(alloc, schema, plan, held, doc, entries)
 }
@@ -228,13 +234,10 @@ fn is_each_met(
     requires { IsPlanned (schema_view schema.now) plan.now }
     ensures { IfOk result (λ b. b ≡ every (λ q. valid_at (schema_view schema.now) q (view doc.now)) entries.now) }
 {
-    if entries.is_empty() {
-        return Ok(true);
-    }
     if entries.len() == 1 {
         return is_met(alloc, schema, plan, held, doc, entries[0]);
     }
-    let verdicts = table_verdicts(alloc, schema, plan, held, doc, entries)?;
+    let verdicts = verdicts(alloc, schema, plan, held, doc, entries)?;
     Ok(are_all(&verdicts))
 }
 
@@ -285,9 +288,13 @@ fn fine_list(
 {
     let mut fine = all_fine(alloc, owners.len())?;
     let mut unmet = all_fine(alloc, owners.len())?;
-    let contains = of_contains(alloc, schema, owners)?;
-    let asking = asking_of_elements(alloc, schema, owners)?;
+    let mut contains = of_contains(alloc, schema, owners)?;
+    let mut asking = asking_of_elements(alloc, schema, owners)?;
     for (place, child) in list.as_slice().iter().enumerate() {
+        // An owner that has failed is asked nothing more, and one whose `contains` is met needn't be asked for it.
+        keep_places(&mut asking, &fine);
+        contains.keep(&fine);
+        contains.keep(&unmet);
         let requests = of_element(alloc, schema, owners, &asking, place)?;
         decide_element(
             alloc, schema, plan, held, child, &requests, &contains, &mut fine, &mut unmet,
@@ -367,9 +374,11 @@ fn fine_members(
         (entries (map_view members.now)))) }
 {
     let mut fine = all_fine(alloc, owners.len())?;
-    let names = of_name(alloc, schema, owners)?;
-    let asking = asking_of_members(alloc, schema, owners)?;
+    let mut names = of_name(alloc, schema, owners)?;
+    let mut asking = asking_of_members(alloc, schema, owners)?;
     for member in members.as_slice() {
+        // An owner that has failed is asked nothing more: of many alternatives that one member tells apart, few go on.
+        keep_places(&mut asking, &fine);
         let requests = of_member(alloc, schema, owners, &asking, member.name())?;
         decide_part(
             alloc,
@@ -380,6 +389,7 @@ fn fine_members(
             &requests,
             &mut fine,
         )?;
+        names.keep(&fine);
         decide_name(alloc, schema, plan, held, member.name(), &names, &mut fine)?;
     }
     Ok(fine)
@@ -430,7 +440,5 @@ pub(crate) fn decide_name(
         return Ok(());
     }
     let doc = Doc::Text(Word::new(name.copy(alloc)?));
-    let answers = verdicts(alloc, schema, plan, held, &doc, &requests.entries)?;
-    refuse_all(fine, &requests.owners, &answers);
-    Ok(())
+    decide_part(alloc, schema, plan, held, &doc, requests, fine)
 }

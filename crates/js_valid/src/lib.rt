@@ -23,6 +23,7 @@ mod pending;
 mod plain;
 mod plan;
 mod same;
+mod scalar;
 mod search;
 mod settle;
 mod stand;

@@ -129,9 +129,11 @@ fn fine_names(
     let mut fine = all_fine(alloc, schema.len() as usize)?;
     let mut held = Vec::new(alloc);
     let owners = all_entries(alloc, schema.len())?;
-    let requests = of_name(alloc, schema, &owners)?;
+    let mut requests = of_name(alloc, schema, &owners)?;
     let members = named.as_slice();
     for member in members {
+        // An entry that has failed is asked nothing more.
+        requests.keep(&fine);
         decide_name(
             alloc,
             schema,

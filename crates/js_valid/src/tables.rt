@@ -1,6 +1,7 @@
 //! Tables of tests: one for each entry of a schema, or for each owner of requests.
 
 ghost use Rattle.std.specs.Prelude.{◌≡◌, ℕ, ◌<◌, ◌≤◌, ◌&&◌, ◌||◌, not, nat_eq, nat_lt, true, false, IfOk, IsOk, map, length, get_or, if◌then◌else◌};
+ghost use Rattle.std.specs.List.{filter};
 ghost use Rattle.documents.specs.Tests.{every, some};
 ghost use Rattle.documents.specs.Measures.{exactly_one};
 ghost use Rattle.js_valid.specs.Parts.{flag, answered};
@@ -153,4 +154,11 @@ pub(crate) fn refuse_none(table: &mut Vec<bool>, owners: &[usize], answers: &[bo
     for (i, owner) in owners.iter().enumerate() {
         refuse(table, *owner, !answers[i]);
     }
+}
+
+/// Drops the places that don't have the test.
+pub(crate) fn keep_places(places: &mut Vec<usize>, table: &[bool])
+    ensures { places.new.items ≡ filter (flag table.now) places.old.items }
+{
+    places.retain(|place| test_at(table, *place));
 }

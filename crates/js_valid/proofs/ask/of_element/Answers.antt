@@ -23,4 +23,4 @@ loop-i-preserved c =
 pub returns-clause-asks : goal.returns-clause-asks
 returns-clause-asks c =
     places_done (schema_view c.args.schema.now) (λ f. of_element f c.args.place) c.args.owners.now c.args.asking.now
-    c.loop-i.i-index _ _ c.requires.others (omega (arith, c.loop-i-test.false)) c.loop-i.invariant.asks
+    c.loop-i.i-index _ _ (omega (arith, c.loop-i-test.false)) c.loop-i.invariant.asks

@@ -35,6 +35,6 @@ add_member-requires-clause-range c =
 
 pub returns-clause-asks : goal.returns-clause-asks
 returns-clause-asks c =
-    places_done (schema_view c.args.schema.now) (λ f. of_member matches f c.args.name.now) c.args.owners.now
-    c.args.asking.now c.loop-i.i-index _ _ c.requires.others (omega (arith, c.loop-i-test.false))
-    c.loop-i.invariant.asks
+    places_done (schema_view c.args.schema.now) (λ f. of_member matches f c.args.name.now)
+    c.args.owners.now c.args.asking.now
+    c.loop-i.i-index _ _ (omega (arith, c.loop-i-test.false)) c.loop-i.invariant.asks

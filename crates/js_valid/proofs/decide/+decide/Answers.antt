@@ -1,4 +1,4 @@
-use Rattle.std.proofs.Common.{rules, ◌≡◌, ◌<◌, ◌&&◌, not, nat_lt, map, length, get_or, [], ◌∷◌, true, false, refl, sym, ap, subst, ◌∙◌, arith}
+use Rattle.std.proofs.Common.{rules, ◌≡◌, ◌<◌, ◌&&◌, not, nat_lt, map, length, get_or, filter, ℕ, [], ◌∷◌, true, false, refl, sym, ap, subst, ◌∙◌, arith}
 use Rattle.documents.specs.Tests.{every}
 use Rattle.documents.specs.Document.{string, depth}
 use Rattle.schemas.specs.Schema.{meets, lists, one, form_in_range}
@@ -9,15 +9,16 @@ use Rattle.js_schema.specs.SchemaView.{schema_view}
 use Rattle.js_match.specs.Matching.{matches}
 use Rattle.js_valid.specs.Parts.{flag, parts, asked_by, of_element, of_contains, of_member, of_name}
 use Rattle.js_valid.specs.Plan.{valid_at}
-use Rattle.js_valid.specs.Requests.{FinePart, OthersAskNothing, contained, parts_list, parts_members}
+use Rattle.js_valid.specs.Requests.{FinePart, contained, parts_list, parts_members}
 use Rattle.js_match.proofs.WalkLaws as W
 use Rattle.js_valid.proofs.AskedLaws as K
 use Rattle.js_valid.proofs.DecideLaws as D
+use Rattle.js_valid.proofs.KeptLaws as Q
 use Rattle.js_valid.proofs.PlainLaws as L
 use Rattle.js_valid.proofs.PlanLaws.{form_at-get, valid-past}
 use Rattle.js_valid.proofs.RequestLaws.{owner_one}
 use Rattle.js_valid.proofs.SearchLaws.{form-fine}
-use Rattle.js_valid.specs.Plain.{is_plain}
+use Rattle.js_valid.specs.Plain.{is_plain, is_scalar}
 use Rattle.js_schema.specs.View.{form_view}
 use Rattle.js_valid.proofs.DepthLaws.{item-depth, member-depth, view-scalar, view-Text}
 use Rattle.js_valid.proofs.decide.+decide.Goals as goal
@@ -46,17 +47,10 @@ decide_element-returns-clause-unmet t c h e =
 
 pub decide_name-returns : goal.decide_name-returns
 decide_name-returns t c h e =
-    let answers : c.deref-3.result.now ≡ map (λ q. valid_at (schema_view c.args.schema.now) q (string c.args.name.now))
-    c.args.requests.now.entries.items = (
-    c.deref-3.ensures.value ∙ c.in_ok-answers.ensures
-    ∙ ap (λ d. map (λ q. valid_at (schema_view c.args.schema.now) q d) c.deref.result.now)
+    c.decide_part.ensures h e
+    ∙ ap (λ d. flag c.args.fine.now.items e && asked_by e (λ q. valid_at (schema_view c.args.schema.now) q d)
+    c.args.requests.now.owners.items c.args.requests.now.entries.items)
     (view-Text c.new.result ∙ ap string (c.new.ensures ∙ c.in_ok-copy.ensures))
-    ∙ ap (map (λ q. valid_at (schema_view c.args.schema.now) q (string c.args.name.now))) c.deref.ensures.value
-    ) in
-    let value = c.refuse_all.ensures.value e in
-    let asked = D.answers-asked e (λ q. valid_at (schema_view c.args.schema.now) q (string c.args.name.now))
-    c.deref-2.result.now c.args.requests.now.entries.items c.deref-3.result.now answers in
-    search (rules, value, asked)
 
 pub decide_part-returns : goal.decide_part-returns
 decide_part-returns t c h e =
@@ -70,13 +64,18 @@ decide_part-returns t c h e =
 pub fine_list-loop-place-init : goal.fine_list-loop-place-init
 fine_list-loop-place-init t c = record {
   fine = λ e h. D.all-first _ _ (c.in_ok-fine.ensures.all e h);
-  unmet = λ e h. D.all-first _ _ (c.in_ok-unmet.ensures.all e h);
+  unmet = λ e h f. D.all-first _ _ (c.in_ok-unmet.ensures.all e h);
+  within = c.in_ok-asking.ensures.within;
+  elsewhere = λ k i less f none. c.in_ok-asking.ensures.others k i less none;
+  len = c.in_ok-contains.ensures.len;
+  contains = λ e p less f. c.in_ok-contains.ensures.asks e p less;
 }
 
-pub fine_list-of_element-requires-clause-others : goal.fine_list-of_element-requires-clause-others
-fine_list-of_element-requires-clause-others t c =
-    subst (OthersAskNothing (schema_view c.args.schema.now) (λ f. of_element f c.loop-place.place) c.args.owners.now)
-    (sym c.deref.ensures.value) (c.in_ok-asking.ensures.others c.loop-place.place)
+pub fine_list-of_element-requires-clause-within : goal.fine_list-of_element-requires-clause-within
+fine_list-of_element-requires-clause-within t c =
+    let kept = c.keep_places.ensures ∙ ap (λ bs. filter (flag bs) c.loop-place.asking.items) c.deref.ensures.value in
+    Q.within-filter (flag c.loop-place.fine.items) (length c.args.owners.now) c.loop-place.asking.items
+    c.deref-in-loop-place-3.result.now (c.deref-in-loop-place-3.ensures.value ∙ kept) c.loop-place.invariant.within
 
 pub fine_list-decide_element-requires : goal.fine_list-decide_element-requires
 fine_list-decide_element-requires t c = (
@@ -86,30 +85,72 @@ fine_list-decide_element-requires t c = (
     item-depth c.as_slice-child-items.result.now c.loop-place.place c.child-item.result (list_view c.args.list.now)
         c.loop-place-test.true c.child-item.is c.as_slice-child-items.ensures.view,
   ),
-  (c.requires.plan, (c.in_ok-requests.ensures.len, c.in_ok-contains.ensures.len)),
+  (c.requires.plan, (c.in_ok-requests.ensures.len, c.keep-in-loop-place.ensures.len)),
 )
 
 pub fine_list-loop-place-preserved : goal.fine_list-loop-place-preserved
 fine_list-loop-place-preserved t c =
     let es = schema_view c.args.schema.now in
+    let owners = c.args.owners.now in
     let items = c.as_slice-child-items.result.now in
+    let fine = c.loop-place.fine.items in
+    let unmet = c.loop-place.unmet.items in
+    let asking = c.loop-place.asking.items in
+    let left = c.keep_places.new.places.items in
+    let kept : left ≡ filter (flag fine) asking =
+    c.keep_places.ensures ∙ ap (λ bs. filter (flag bs) asking) c.deref.ensures.value in
+    let still_fine : (i : ℕ) → flag c.decide_element.new.fine.items i ≡ true → flag fine i ≡ true =
+    λ i h. Q.left-still (flag fine i) _ _ (c.in_ok-decide_element.ensures.fine refl i) h in
+    let still_unmet : (i : ℕ) → flag c.decide_element.new.unmet.items i ≡ true → flag unmet i ≡ true =
+    λ i h. Q.left-still (flag unmet i) _ _ (c.in_ok-decide_element.ensures.unmet refl i) h in
+    let places = c.deref-in-loop-place-3.result.now in
+    let asked = Q.places-asked es (λ f. of_element f c.loop-place.place) owners (flag fine) places
+    c.in_ok-requests.requests.owners.items c.in_ok-requests.requests.entries.items
+    (Q.elsewhere-kept es (λ f. of_element f c.loop-place.place) owners (flag fine) asking places
+    (c.deref-in-loop-place-3.ensures.value ∙ kept) (c.loop-place.invariant.elsewhere c.loop-place.place))
+    c.in_ok-requests.ensures.asks in
+    let of_fine = Q.asked-kept es of_contains owners (λ e. flag fine e && flag unmet e) c.deref-in-loop-place.result.now
+    c.loop-place.contains.owners.items c.loop-place.contains.entries.items
+    c.keep.new.self.owners.items c.keep.new.self.entries.items
+    (λ e h. ap (λ bs. flag bs e) c.deref-in-loop-place.ensures.value ∙ Q.both-left (flag fine e) (flag unmet e) h)
+    c.keep.ensures.asks c.loop-place.invariant.contains in
+    let of_unmet = Q.asked-kept es of_contains owners (λ e. flag fine e && flag unmet e)
+    c.deref-in-loop-place-2.result.now
+    c.keep.new.self.owners.items c.keep.new.self.entries.items
+    c.keep-in-loop-place.new.self.owners.items c.keep-in-loop-place.new.self.entries.items
+    (λ e h. ap (λ bs. flag bs e) c.deref-in-loop-place-2.ensures.value ∙ Q.both-right (flag fine e) (flag unmet e) h)
+    c.keep-in-loop-place.ensures.asks of_fine in
     record {
       fine = λ e h.
-          let form = form_at es (get_or c.args.owners.now e 0) in
+          let form = form_at es (get_or owners e 0) in
           D.step_each view (λ i d. every (λ q. valid_at es q d) (of_element form i)) items c.loop-place.place
-          c.child-item.result (flag c.loop-place.fine.items e) (flag c.decide_element.new.fine.items e) _
+          c.child-item.result (flag fine e) (flag c.decide_element.new.fine.items e) _
           c.loop-place-test.true c.child-item.is
-          (c.in_ok-decide_element.ensures.fine refl e ∙ ap (λ b. flag c.loop-place.fine.items e && b)
-          (c.in_ok-requests.ensures.asks e (λ q. valid_at es q (view c.child-item.result)) h))
+          (c.in_ok-decide_element.ensures.fine refl e
+          ∙ Q.where-left (flag fine e) _ _ (asked e (λ q. valid_at es q (view c.child-item.result)) h))
           (c.loop-place.invariant.fine e h);
-      unmet = λ e h.
-          let form = form_at es (get_or c.args.owners.now e 0) in
+      unmet = λ e h f.
+          let form = form_at es (get_or owners e 0) in
+          let was = still_fine e f in
           D.step_every view (λ d. every (λ q. not (valid_at es q d)) (of_contains form)) items c.loop-place.place
-          c.child-item.result (flag c.loop-place.unmet.items e) (flag c.decide_element.new.unmet.items e) _
+          c.child-item.result (flag unmet e) (flag c.decide_element.new.unmet.items e) _
           c.loop-place-test.true c.child-item.is
-          (c.in_ok-decide_element.ensures.unmet refl e ∙ ap (λ b. flag c.loop-place.unmet.items e && b)
-          (c.in_ok-contains.ensures.asks e (λ q. not (valid_at es q (view c.child-item.result))) h))
-          (c.loop-place.invariant.unmet e h);
+          (c.in_ok-decide_element.ensures.unmet refl e
+          ∙ Q.where-left (flag unmet e) _ _ (λ u. of_unmet e (λ q. not (valid_at es q (view c.child-item.result))) h
+          (ap (λ b. b && flag unmet e) was ∙ u)))
+          (c.loop-place.invariant.unmet e h was);
+      within = Q.within-filter (flag fine) (length owners) asking left kept c.loop-place.invariant.within;
+      elsewhere = λ k.
+          Q.elsewhere-fewer es (λ f. of_element f k) owners (flag fine) (flag c.decide_element.new.fine.items) left
+          still_fine (Q.elsewhere-kept es (λ f. of_element f k) owners (flag fine) asking left kept
+          (c.loop-place.invariant.elsewhere k));
+      len = c.keep-in-loop-place.ensures.len;
+      contains = Q.asked-fewer es of_contains owners (λ e. flag fine e && flag unmet e)
+          (λ e. flag c.decide_element.new.fine.items e && flag c.decide_element.new.unmet.items e)
+          c.keep-in-loop-place.new.self.owners.items c.keep-in-loop-place.new.self.entries.items
+          (λ e h.
+          ap (λ b. b && flag unmet e) (still_fine e (Q.both-left (flag c.decide_element.new.fine.items e) _ h))
+          ∙ still_unmet e (Q.both-right (flag c.decide_element.new.fine.items e) _ h)) of_unmet;
     }
 
 pub fine_list-returns : goal.fine_list-returns
@@ -118,24 +159,36 @@ fine_list-returns t c e h =
     let form = form_at es (get_or c.args.owners.now e 0) in
     let items = c.as_slice-child-items.result.now in
     let unmet : c.deref-2.result.now ≡ c.loop-place.unmet.items = search rules in
+    let none = every (λ d. every (λ q. not (valid_at es q d)) (of_contains form)) (map view items) in
     let fine = D.end_each view (λ i d. every (λ q. valid_at es q d) (of_element form i)) items c.loop-place.place
     (flag c.loop-place.fine.items e) _ (omega (arith, c.loop-place-test.false)) (c.loop-place.invariant.fine e h) in
-    let none = D.end_every view (λ d. every (λ q. not (valid_at es q d)) (of_contains form)) items c.loop-place.place
-    (flag c.loop-place.unmet.items e) _ (omega (arith, c.loop-place-test.false)) (c.loop-place.invariant.unmet e h) in
     c.contain.ensures e
     ∙ ap (λ b. flag c.loop-place.fine.items e && b) (owner_one (λ i o. meets (λ q. not (flag c.deref-2.result.now i))
     (contained (form_at es o))) e c.args.owners.now h
     ∙ ap (λ bs. meets (λ q. not (flag bs e)) (contained form)) unmet)
-    ∙ D.list-done (valid_at es) form (map view items) _ _ fine none
+    ∙ Q.where-left (flag c.loop-place.fine.items e)
+    (meets (λ q. not (flag c.loop-place.unmet.items e)) (contained form)) (meets (λ q. not none) (contained form))
+    (λ f. ap (λ b. meets (λ q. not b) (contained form))
+    (D.end_every view (λ d. every (λ q. not (valid_at es q d)) (of_contains form)) items c.loop-place.place
+    (flag c.loop-place.unmet.items e) _ (omega (arith, c.loop-place-test.false))
+    (c.loop-place.invariant.unmet e h f)))
+    ∙ D.list-done (valid_at es) form (map view items) _ _ fine refl
     ∙ ap (parts_list (valid_at es) form) (sym (elements-of _ _ c.as_slice-child-items.ensures.view))
 
 pub fine_members-loop-member-init : goal.fine_members-loop-member-init
-fine_members-loop-member-init t c e h = D.all-first _ _ (c.in_ok-fine.ensures.all e h)
+fine_members-loop-member-init t c = record {
+  fine = λ e h. D.all-first _ _ (c.in_ok-fine.ensures.all e h);
+  within = c.in_ok-asking.ensures.within;
+  elsewhere = λ w i less f none. c.in_ok-asking.ensures.others w i less none;
+  len = c.in_ok-names.ensures.len;
+  names = λ e p less f. c.in_ok-names.ensures.asks e p less;
+}
 
-pub fine_members-of_member-requires-clause-others : goal.fine_members-of_member-requires-clause-others
-fine_members-of_member-requires-clause-others t c =
-    subst (OthersAskNothing (schema_view c.args.schema.now) (λ f. of_member matches f c.name.result.now)
-    c.args.owners.now) (sym c.deref.ensures.value) (c.in_ok-asking.ensures.others c.name.result.now)
+pub fine_members-of_member-requires-clause-within : goal.fine_members-of_member-requires-clause-within
+fine_members-of_member-requires-clause-within t c =
+    let kept = c.keep_places.ensures ∙ ap (λ bs. filter (flag bs) c.loop-member.asking.items) c.deref.ensures.value in
+    Q.within-filter (flag c.loop-member.fine.items) (length c.args.owners.now) c.loop-member.asking.items
+    c.deref-in-loop-member.result.now (c.deref-in-loop-member.ensures.value ∙ kept) c.loop-member.invariant.within
 
 pub fine_members-decide_part-requires : goal.fine_members-decide_part-requires
 fine_members-decide_part-requires t c = (
@@ -150,26 +203,58 @@ fine_members-decide_part-requires t c = (
 )
 
 pub fine_members-loop-member-preserved : goal.fine_members-loop-member-preserved
-fine_members-loop-member-preserved t c e h =
+fine_members-loop-member-preserved t c =
     let es = schema_view c.args.schema.now in
-    let form = form_at es (get_or c.args.owners.now e 0) in
-    let name = c.name.ensures.view in
-    let value = c.value.ensures.view in
-    let again = c.name-in-loop-member.ensures.view in
-    let part = c.in_ok-requests.ensures.asks e (λ q. valid_at es q (view c.value.result.now)) h
-    ∙ ap (λ d. every (λ q. valid_at es q d) (of_member matches form c.name.result.now)) value
-    ∙ ap (λ w. every (λ q. valid_at es q (member_view c.member-item.result).1) (of_member matches form w)) name in
-    let word = c.in_ok-names.ensures.asks e (λ q. valid_at es q (string c.name-in-loop-member.result.now)) h
-    ∙ ap (λ w. every (λ q. valid_at es q (string w)) (of_name form)) again in
-    D.step_every member_view (λ m. every (λ q. valid_at es q m.1) (of_member matches form m.0)
-    && every (λ q. valid_at es q (string m.0)) (of_name form)) c.as_slice-member-items.result.now
-    c.loop-member.member-index c.member-item.result (flag c.loop-member.fine.items e)
-    (flag c.decide_name.new.fine.items e) _ c.loop-member-test.true c.member-item.is
-    (D.two-asked (flag c.loop-member.fine.items e) (flag c.decide_part.new.fine.items e)
-    (flag c.decide_name.new.fine.items e) _ _
-    (c.in_ok-decide_part.ensures refl e ∙ ap (λ b. flag c.loop-member.fine.items e && b) part)
-    (c.in_ok-decide_name.ensures refl e ∙ ap (λ b. flag c.decide_part.new.fine.items e && b) word))
-    (c.loop-member.invariant e h)
+    let owners = c.args.owners.now in
+    let fine = c.loop-member.fine.items in
+    let asking = c.loop-member.asking.items in
+    let left = c.keep_places.new.places.items in
+    let named = c.name.result.now in
+    let kept : left ≡ filter (flag fine) asking =
+    c.keep_places.ensures ∙ ap (λ bs. filter (flag bs) asking) c.deref.ensures.value in
+    let before : (i : ℕ) → flag c.decide_part.new.fine.items i ≡ true → flag fine i ≡ true =
+    λ i h. Q.left-still (flag fine i) _ _ (c.in_ok-decide_part.ensures refl i) h in
+    let still : (i : ℕ) → flag c.decide_name.new.fine.items i ≡ true → flag c.decide_part.new.fine.items i ≡ true =
+    λ i h. Q.left-still (flag c.decide_part.new.fine.items i) _ _ (c.in_ok-decide_name.ensures refl i) h in
+    let asked = Q.places-asked es (λ f. of_member matches f named) owners (flag fine) c.deref-in-loop-member.result.now
+    c.in_ok-requests.requests.owners.items c.in_ok-requests.requests.entries.items
+    (Q.elsewhere-kept es (λ f. of_member matches f named) owners (flag fine) asking c.deref-in-loop-member.result.now
+    (c.deref-in-loop-member.ensures.value ∙ kept) (c.loop-member.invariant.elsewhere named))
+    c.in_ok-requests.ensures.asks in
+    let words = Q.asked-kept es of_name owners (flag c.decide_part.new.fine.items) c.deref-in-loop-member-2.result.now
+    c.loop-member.names.owners.items c.loop-member.names.entries.items
+    c.keep.new.self.owners.items c.keep.new.self.entries.items
+    (λ e h. ap (λ bs. flag bs e) c.deref-in-loop-member-2.ensures.value ∙ h) c.keep.ensures.asks
+    (Q.asked-fewer es of_name owners (flag fine) (flag c.decide_part.new.fine.items)
+    c.loop-member.names.owners.items c.loop-member.names.entries.items before c.loop-member.invariant.names) in
+    record {
+      fine = λ e h.
+          let form = form_at es (get_or owners e 0) in
+          let part = λ (f : flag fine e ≡ true).
+          asked e (λ q. valid_at es q (view c.value.result.now)) h f
+          ∙ ap (λ d. every (λ q. valid_at es q d) (of_member matches form named)) c.value.ensures.view
+          ∙ ap (λ w. every (λ q. valid_at es q (member_view c.member-item.result).1) (of_member matches form w))
+          c.name.ensures.view in
+          let word = λ (f : flag c.decide_part.new.fine.items e ≡ true).
+          words e (λ q. valid_at es q (string c.name-in-loop-member.result.now)) h f
+          ∙ ap (λ w. every (λ q. valid_at es q (string w)) (of_name form)) c.name-in-loop-member.ensures.view in
+          D.step_every member_view (λ m. every (λ q. valid_at es q m.1) (of_member matches form m.0)
+          && every (λ q. valid_at es q (string m.0)) (of_name form)) c.as_slice-member-items.result.now
+          c.loop-member.member-index c.member-item.result (flag fine e) (flag c.decide_name.new.fine.items e) _
+          c.loop-member-test.true c.member-item.is
+          (D.two-asked (flag fine e) (flag c.decide_part.new.fine.items e) (flag c.decide_name.new.fine.items e) _ _
+          (c.in_ok-decide_part.ensures refl e ∙ Q.where-left (flag fine e) _ _ part)
+          (c.in_ok-decide_name.ensures refl e ∙ Q.where-left (flag c.decide_part.new.fine.items e) _ _ word))
+          (c.loop-member.invariant.fine e h);
+      within = Q.within-filter (flag fine) (length owners) asking left kept c.loop-member.invariant.within;
+      elsewhere = λ w.
+          Q.elsewhere-fewer es (λ f. of_member matches f w) owners (flag fine) (flag c.decide_name.new.fine.items) left
+          (λ i h. before i (still i h)) (Q.elsewhere-kept es (λ f. of_member matches f w) owners (flag fine) asking left
+          kept (c.loop-member.invariant.elsewhere w));
+      len = c.keep.ensures.len;
+      names = Q.asked-fewer es of_name owners (flag c.decide_part.new.fine.items) (flag c.decide_name.new.fine.items)
+          c.keep.new.self.owners.items c.keep.new.self.entries.items still words;
+    }
 
 pub fine_members-returns : goal.fine_members-returns
 fine_members-returns t c e h =
@@ -178,10 +263,21 @@ fine_members-returns t c e h =
     let items = c.as_slice-member-items.result.now in
     D.end_every member_view (λ m. every (λ q. valid_at es q m.1) (of_member matches form m.0)
     && every (λ q. valid_at es q (string m.0)) (of_name form)) items c.loop-member.member-index
-    (flag c.loop-member.fine.items e) _ (omega (arith, c.loop-member-test.false)) (c.loop-member.invariant e h)
+    (flag c.loop-member.fine.items e) _ (omega (arith, c.loop-member-test.false)) (c.loop-member.invariant.fine e h)
     ∙ D.members-done (valid_at es) form (map member_view items)
     ∙ ap (parts_members matches (valid_at es) form)
     (sym (entries-of _ _ c.as_slice-member-items.ensures.view))
+
+pub verdicts-returns-then-are_plain : goal.verdicts-returns-then-are_plain
+verdicts-returns-then-are_plain t c =
+    let es = schema_view c.args.schema.now in
+    let scalar : is_scalar (view c.args.doc.now) ≡ true = search rules in
+    let plain : every (λ q. is_plain (form_at (schema_view c.args.schema.now) q)) c.args.entries.now ≡ true =
+    search rules in
+    W.ok_then c.own_verdicts.result _ _ (λ vs e.
+    e ∙ L.own-valid es c.args.plan.now.order.items c.requires.plan (view c.args.doc.now) scalar c.args.entries.now
+    plain)
+    c.own_verdicts.ensures
 
 pub table_verdicts-fine_parts-requires : goal.table_verdicts-fine_parts-requires
 table_verdicts-fine_parts-requires t c = (

@@ -1,4 +1,4 @@
-use Rattle.std.proofs.Common.{◌≡◌, ℕ, ◌+◌, ◌*◌, ◌&&◌, not, map, drop, ◌<◌, length, get_or}
+use Rattle.std.proofs.Common.{◌≡◌, ℕ, ◌+◌, ◌*◌, ◌&&◌, true, not, List, map, drop, ◌<◌, length, get_or}
 use Rattle.documents.specs.Tests.{every}
 use Rattle.documents.specs.Document.{depth, items_depth, members_depth, string}
 use Rattle.draft06.specs.EntryValidity.{form_at}
@@ -9,6 +9,7 @@ use Rattle.js_match.specs.Matching.{matches}
 use Rattle.js_valid.specs.Parts.{flag, of_element, of_contains, of_member, of_name}
 use Rattle.js_valid.specs.Plan.{valid_at}
 use Rattle.js_valid.specs.Requests.{each_at}
+use Rattle.js_valid.proofs.KeptLaws.{AskedWhere, NothingElsewhere}
 use Rattle.js_valid.proofs.decide.+decide.Given as goal
 
 abbrev pub decreases-verdicts : goal.decreases-verdicts
@@ -54,7 +55,7 @@ abbrev pub decreases-decide_part : goal.decreases-decide_part
 decreases-decide_part l = 8 * depth (view l.doc.now) + 5
 
 abbrev pub decreases-decide_name : goal.decreases-decide_name
-decreases-decide_name l = 5
+decreases-decide_name l = 6
 
 abbrev pub invariant-are_elements_met-loop-place : goal.invariant-are_elements_met-loop-place
 invariant-are_elements_met-loop-place l =
@@ -79,22 +80,36 @@ invariant-fine_list-loop-place l =
           (map view (drop l.place l.child-items)))
           ≡ each_at (λ i d. every (λ q. valid_at (schema_view l.schema) q d)
           (of_element (form_at (schema_view l.schema) (get_or l.owners e 0)) i)) 0 (map view l.child-items);
-      unmet : (e : ℕ) → e < length l.owners
+      unmet : (e : ℕ) → e < length l.owners → flag l.fine.items e ≡ true
           → (flag l.unmet.items e && every (λ d. every (λ q. not (valid_at (schema_view l.schema) q d))
           (of_contains (form_at (schema_view l.schema) (get_or l.owners e 0)))) (map view (drop l.place l.child-items)))
           ≡ every (λ d. every (λ q. not (valid_at (schema_view l.schema) q d))
           (of_contains (form_at (schema_view l.schema) (get_or l.owners e 0)))) (map view l.child-items);
+      within : (k : ℕ) → k < length l.asking.items → get_or l.asking.items k 0 < length l.owners;
+      elsewhere : (i : ℕ) → NothingElsewhere (schema_view l.schema) (λ f. of_element f i) l.owners (flag l.fine.items)
+          l.asking.items;
+      len : length l.contains.owners.items ≡ length l.contains.entries.items;
+      contains : AskedWhere (schema_view l.schema) of_contains l.owners
+          (λ e. flag l.fine.items e && flag l.unmet.items e) l.contains.owners.items l.contains.entries.items;
     }
 
 abbrev pub invariant-fine_members-loop-member : goal.invariant-fine_members-loop-member
 invariant-fine_members-loop-member l =
-    (e : ℕ) → e < length l.owners
-    → (flag l.fine.items e && every (λ m. every (λ q. valid_at (schema_view l.schema) q m.1)
-    (of_member matches (form_at (schema_view l.schema) (get_or l.owners e 0)) m.0)
-    && every (λ q. valid_at (schema_view l.schema) q (string m.0))
-    (of_name (form_at (schema_view l.schema) (get_or l.owners e 0))))
-    (map member_view (drop l.member-index l.member-items)))
-    ≡ every (λ m. every (λ q. valid_at (schema_view l.schema) q m.1)
-    (of_member matches (form_at (schema_view l.schema) (get_or l.owners e 0)) m.0)
-    && every (λ q. valid_at (schema_view l.schema) q (string m.0))
-    (of_name (form_at (schema_view l.schema) (get_or l.owners e 0)))) (map member_view l.member-items)
+    record {
+      fine : (e : ℕ) → e < length l.owners
+          → (flag l.fine.items e && every (λ m. every (λ q. valid_at (schema_view l.schema) q m.1)
+          (of_member matches (form_at (schema_view l.schema) (get_or l.owners e 0)) m.0)
+          && every (λ q. valid_at (schema_view l.schema) q (string m.0))
+          (of_name (form_at (schema_view l.schema) (get_or l.owners e 0))))
+          (map member_view (drop l.member-index l.member-items)))
+          ≡ every (λ m. every (λ q. valid_at (schema_view l.schema) q m.1)
+          (of_member matches (form_at (schema_view l.schema) (get_or l.owners e 0)) m.0)
+          && every (λ q. valid_at (schema_view l.schema) q (string m.0))
+          (of_name (form_at (schema_view l.schema) (get_or l.owners e 0)))) (map member_view l.member-items);
+      within : (k : ℕ) → k < length l.asking.items → get_or l.asking.items k 0 < length l.owners;
+      elsewhere : (w : List ℕ) → NothingElsewhere (schema_view l.schema) (λ f. of_member matches f w) l.owners
+          (flag l.fine.items) l.asking.items;
+      len : length l.names.owners.items ≡ length l.names.entries.items;
+      names : AskedWhere (schema_view l.schema) of_name l.owners (flag l.fine.items) l.names.owners.items
+          l.names.entries.items;
+    }

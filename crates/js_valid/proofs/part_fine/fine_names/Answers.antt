@@ -1,12 +1,13 @@
-use Rattle.std.proofs.Common.{◌<◌, ◌&&◌, length, get_or, refl, ap, ◌∙◌, arith}
+use Rattle.std.proofs.Common.{◌≡◌, ℕ, ◌<◌, ◌||◌, Bool, true, not, length, get_or, refl, ap, ◌∙◌, arith}
 use Rattle.documents.specs.Document.{string}
 use Rattle.documents.specs.Tests.{every}
 use Rattle.draft06.specs.EntryValidity.{form_at}
 use Rattle.js_doc.specs.PartMembers.{member_view}
 use Rattle.js_schema.specs.SchemaView.{schema_view}
-use Rattle.js_valid.specs.Parts.{flag, of_name}
+use Rattle.js_valid.specs.Parts.{asked_by, flag, of_name}
 use Rattle.js_valid.specs.Plan.{valid_at}
 use Rattle.js_valid.proofs.DecideLaws.{all-first, end_every, step_every}
+use Rattle.js_valid.proofs.KeptLaws.{left-still, where-left}
 use Rattle.js_valid.proofs.PartMemberLaws.{name_met}
 use Rattle.js_valid.proofs.RequestLaws.{every-got}
 use Rattle.js_valid.proofs.part_fine.fine_names.Goals as goal
@@ -21,26 +22,46 @@ of_name-requires c =
     omega (arith, less, all.0, same, c.len-2.ensures.value))
 
 pub loop-member-init : goal.loop-member-init
-loop-member-init c e l = all-first _ _ (c.in_ok-fine.ensures.all e (omega (arith, c.len.ensures.value, l)))
-
-pub loop-member-preserved : goal.loop-member-preserved
-loop-member-preserved c e l =
-    let es = schema_view c.args.schema.now in
+loop-member-init c =
     let owners = c.deref.ensures.value in
     let all = c.in_ok-owners.ensures in
-    let there : e < length c.deref.result.now = omega (arith, l, ap length owners, all.0, c.len-2.ensures.value) in
-    let itself = ap (λ xs. get_or xs e 0) owners ∙ all.1 e (omega (arith, l, c.len-2.ensures.value)) in
-    step_every member_view (name_met es (form_at es e)) c.as_slice-members.result.now c.loop-member.member-index
-    c.member-item.result (flag c.loop-member.fine.items e) (flag c.decide_name.new.fine.items e) _
-    c.loop-member-test.true c.member-item.is
-    (c.in_ok-decide_name.ensures refl e ∙ ap (λ b. flag c.loop-member.fine.items e && b)
-    (c.in_ok-requests.ensures.asks e (λ q. valid_at es q (string c.member-item.result.name)) there
-    ∙ ap (λ o. every (λ q. valid_at es q (string c.member-item.result.name)) (of_name (form_at es o))) itself))
-    (c.loop-member.invariant e l)
+    record {
+      fine = λ e l. all-first _ _ (c.in_ok-fine.ensures.all e (omega (arith, c.len.ensures.value, l)));
+      len = c.in_ok-requests.ensures.len;
+      names = λ e p l f.
+          let there : e < length c.deref.result.now = omega
+          (arith, l, ap length owners, all.0, c.len-2.ensures.value) in
+          let itself = ap (λ xs. get_or xs e 0) owners ∙ all.1 e (omega (arith, l, c.len-2.ensures.value)) in
+          c.in_ok-requests.ensures.asks e p there
+          ∙ ap (λ o. every p (of_name (form_at (schema_view c.args.schema.now) o))) itself;
+    }
+
+pub loop-member-preserved : goal.loop-member-preserved
+loop-member-preserved c =
+    let es = schema_view c.args.schema.now in
+    let fine = c.loop-member.fine.items in
+    let names : (e : ℕ) (p : ℕ → Bool) → e < length es → flag fine e ≡ true
+    → asked_by e p c.keep.new.self.owners.items c.keep.new.self.entries.items ≡ every p (of_name (form_at es e)) =
+    λ e p l f.
+    c.keep.ensures.asks e p
+    ∙ ap (λ b. not b || asked_by e p c.loop-member.requests.owners.items c.loop-member.requests.entries.items)
+    (ap (λ bs. flag bs e) c.deref-in-loop-member.ensures.value ∙ f)
+    ∙ c.loop-member.invariant.names e p l f in
+    record {
+      fine = λ e l.
+          step_every member_view (name_met es (form_at es e)) c.as_slice-members.result.now c.loop-member.member-index
+          c.member-item.result (flag fine e) (flag c.decide_name.new.fine.items e) _
+          c.loop-member-test.true c.member-item.is
+          (c.in_ok-decide_name.ensures refl e
+          ∙ where-left (flag fine e) _ _ (names e (λ q. valid_at es q (string c.member-item.result.name)) l))
+          (c.loop-member.invariant.fine e l);
+      len = c.keep.ensures.len;
+      names = λ e p l f. names e p l (left-still (flag fine e) _ _ (c.in_ok-decide_name.ensures refl e) f);
+    }
 
 pub returns : goal.returns
 returns c e l =
     let es = schema_view c.args.schema.now in
     end_every member_view (name_met es (form_at es e)) c.as_slice-members.result.now c.loop-member.member-index
-    (flag c.loop-member.fine.items e) _ (omega (arith, c.loop-member-test.false)) (c.loop-member.invariant e l)
+    (flag c.loop-member.fine.items e) _ (omega (arith, c.loop-member-test.false)) (c.loop-member.invariant.fine e l)
     ∙ ap (every (name_met es (form_at es e))) c.as_slice-members.ensures.list
