@@ -1,5 +1,5 @@
 -- For which lines a checker stands, and what it says of them.
-use Rattle.std.proofs.Common.{◌≡◌, ℕ, suc, ◌+◌, List, [], ◌∷◌, ◌++◌, length, Bool, true, false, Option, Some, None, Ok, Err, refl, ap, sym, ◌∙◌, subst, arith}
+use Rattle.std.proofs.Common.{◌≡◌, ℕ, suc, ◌+◌, List, [], ◌∷◌, ◌++◌, length, Bool, true, false, Option, Some, None, Result, Ok, Err, IfErr, refl, ap, sym, ◌∙◌, subst, arith}
 use Rattle.documents.specs.Document.{Document, is_document}
 use Rattle.positions.specs.Position.{Position}
 use Rattle.positions.specs.Holds.{holds, IsTable}
@@ -13,10 +13,11 @@ use Rattle.js_rules.specs.RuleView.{rule_view}
 use Rattle.js_rules.specs.declared.fault.RuleFault.{RuleFault}
 use Rattle.js_rules.specs.declared.fault.RuleFault.TheVariants as R
 use Rattle.js_checker.specs.Standing.{LeadTo, LeadsOver, Stands}
-use Rattle.js_checker.specs.Faults.{Tells, fault_at}
-use Rattle.js_checker.specs.CheckerView.{standing}
+use Rattle.js_checker.specs.Faults.{Tells, fault_at, IsNextAfter}
+use Rattle.js_checker.specs.CheckerView.{lines_of, fault_of, standing}
 use Rattle.js_checker.specs.declared.fault.CheckFault.{CheckFault}
 use Rattle.js_checker.specs.declared.fault.CheckFault.TheVariants as F
+use Rattle.js_checker.specs.declared.checker.Checker.{Checker}
 use Rattle.js_checker.proofs.StandingLemmas.{no_lines_lead, line_leads, lines_lead, line_breaks, all_rejected, rejected_whole, led_whole, at_end-before, at_part-before}
 
 module _ (T : List Position) (a b : ℕ) where
@@ -122,3 +123,20 @@ module _ (T : List Position) (a b : ℕ) where
         let right : holds T b J ≡ true =
         accepted_holds T ok a b ls (led_whole T a b at_end ls s n led ∙ ap (λ u. at_end u (suc n)) e) J good h in
         cc))
+
+-- the number of the line that is rejected
+
+-- while no fault was met, none is told
+pub none_next : (o : Option CheckFault) (n : ℕ) → o ≡ None → (k r : ℕ) → o ≡ Some (F.Rejected k r) → k ≡ n
+none_next o n none k r e = cc
+
+-- a fault that a checker has tells of the next line
+pub told_next : (c : Checker) (fault : CheckFault) → fault_of c ≡ Some fault → IsNextAfter (lines_of c) fault
+told_next c (F.Rejected k r) e = c.next k r e
+told_next c F.Memory e = tt
+
+-- so does one that a call answers
+pub stopped_next : {A : Type 0} (c : Checker) (r : Result A CheckFault) → IfErr r (λ fault. fault_of c ≡ Some fault)
+    → IfErr r (IsNextAfter (lines_of c))
+stopped_next c (Ok x) h = tt
+stopped_next c (Err fault) h = told_next c fault h

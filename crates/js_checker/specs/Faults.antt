@@ -1,5 +1,5 @@
 -- What a fault says of a verdict.
-use Rattle.std.specs.Prelude.{◌≡◌, ℕ, ⊤}
+use Rattle.std.specs.Prelude.{◌≡◌, ℕ, ◌+◌, ⊤}
 use Rattle.verdicts.specs.Verdict.{Verdict, Rejected}
 use Rattle.js_rules.specs.RuleView.{rule_view}
 use Rattle.js_rules.specs.declared.fault.RuleFault.{RuleFault}
@@ -16,3 +16,8 @@ fault_at k R.Memory = F.Memory
 abbrev pub Tells : CheckFault → Verdict → Type 0
 Tells (F.Rejected k r) v = v ≡ Rejected k r
 Tells F.Memory v = ⊤
+
+-- the line that is rejected is the next one after so many; want of memory says nothing
+abbrev pub IsNextAfter : ℕ → CheckFault → Type 0
+IsNextAfter n (F.Rejected k r) = k ≡ n + 1
+IsNextAfter n F.Memory = ⊤

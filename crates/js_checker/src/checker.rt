@@ -1,8 +1,9 @@
 //! The checker of certificates.
 
-ghost use Rattle.std.specs.Prelude.{◌≡◌, ◌≤◌, ◌^◌, ◌↔◌, List, true, Ok, None, IsTrue};
+ghost use Rattle.std.specs.Prelude.{◌≡◌, ◌+◌, ◌≤◌, ◌^◌, ◌↔◌, ℕ, List, true, Ok, Some, None, IsTrue};
 ghost use Rattle.certificate_lines.specs.Line.{Line};
 ghost use Rattle.js_checker.specs.Standing.{LeadTo};
+ghost use Rattle.js_checker.specs.declared.fault.CheckFault.TheVariants.{Rejected};
 ghost use Rattle.js_checker.specs.JudgeView.{stage_of, IsWell};
 ghost use Rattle.js_checker.specs.Props.{IsWellUnless-prop};
 
@@ -25,7 +26,8 @@ pub struct Accepted;
 
 /// Judges the lines of a certificate, one after another. Contracts see by `StandsFor` for which lines it stands.
 ///
-/// Some list of lines led to its stage, so what it accepts is right whoever calls it.
+/// Some list of lines led to its stage, so what it accepts is right whoever calls it. A line that is rejected is the
+/// next one after those that were taken.
 #[derive(Drop)]
 pub struct Checker<'a> {
     question: Question<'a>,
@@ -33,6 +35,7 @@ pub struct Checker<'a> {
     fault: Option<CheckFault>,
     judge: Judge<'a>,
     ghost few: { lines ≤ 2 ^ 63 },
+    ghost next: { (k r : ℕ) → fault ≡ Some (Rejected k r) → k ≡ lines + 1 },
     ghost well: { fault ≡ None → IsWell question.core.now.positions judge } by { IsWellUnless-prop question.core.now.positions judge fault },
     ghost reached: { fault ≡ None → ((ls : List Line)
         → LeadTo question.core.now.positions question.premise.0 question.conclusion.0 ls (stage_of judge) lines
@@ -48,7 +51,7 @@ impl<'a> Checker<'a> {
     ghost use Rattle.verdicts.specs.Verdict as V;
     ghost use Rattle.verdicts.specs.Verdict.{judged, at_part, verdict};
     ghost use Rattle.js_lines.specs.View.{line_view};
-    ghost use Rattle.js_checker.specs.Faults.{Tells};
+    ghost use Rattle.js_checker.specs.Faults.{Tells, IsNextAfter};
     ghost use Rattle.js_checker.specs.Entries.{lines_in, joined, is_entry, Finds, AllFound};
     ghost use Rattle.js_checker.specs.JudgeView.{is_between};
     ghost use Rattle.js_checker.specs.CheckerView.{table_of, premise_of, conclusion_of, lines_of, fault_of, StandsFor, IsSameQuestion};
@@ -89,6 +92,7 @@ impl<'a> Checker<'a> {
         ensures lines { OnOk result (lines_of self.new ≡ lines_of self.old + 1) }
         ensures stopped { IfErr result (λ fault. fault_of self.new ≡ Some fault) }
         ensures kept { OnErr result (lines_of self.new ≡ lines_of self.old) }
+        ensures next { IfErr result (IsNextAfter (lines_of self.new)) }
         ensures again { IfSome (fault_of self.old) (λ fault. result ≡ Err fault) }
 
         ensures table { table_of self.new ≡ table_of self.old }
@@ -132,6 +136,7 @@ impl<'a> Checker<'a> {
         ensures lines { OnOk result (lines_of self.new ≡ lines_of self.old + length lines.now) }
         ensures stopped { IfErr result (λ fault. fault_of self.new ≡ Some fault) }
         ensures bound { lines_of self.new ≤ lines_of self.old + length lines.now }
+        ensures next { IfErr result (IsNextAfter (lines_of self.new)) }
         ensures again { IfSome (fault_of self.old) (λ fault. result ≡ Err fault) }
 
         ensures table { table_of self.new ≡ table_of self.old }
@@ -330,6 +335,7 @@ impl<'a> Checker<'a> {
 
         ensures going { OnOk result (fault_of self.new ≡ None) }
         ensures stopped { IfErr result (λ fault. fault_of self.new ≡ Some fault) }
+        ensures next { IfErr result (IsNextAfter (lines_of self.new)) }
         ensures again { IfSome (fault_of self.old) (λ fault. result ≡ Err fault) }
 
         ensures lines { lines_of self.new ≡ lines_of self.old }

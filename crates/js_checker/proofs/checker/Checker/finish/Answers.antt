@@ -3,7 +3,7 @@ use Rattle.std.proofs.Common.{refl, arith}
 use Rattle.position_laws.proofs.Tables.{is_table-IsTable}
 use Rattle.verdicts.specs.Verdict.{at_end, at_part}
 use Rattle.js_checker.specs.JudgeView.{stage_of}
-use Rattle.js_checker.proofs.CheckerLemmas.{told_again, ended_accepted, ended_part, open_rejected, open_part, ended_sound}
+use Rattle.js_checker.proofs.CheckerLemmas.{told_again, ended_accepted, ended_part, open_rejected, open_part, ended_sound, told_next}
 use Rattle.js_checker.proofs.checker.Checker.finish.Goals as goal
 use Rattle.std.proofs.lemmas.Bool.{false≢true}
 
@@ -57,3 +57,6 @@ returns-clause-before_end c =
     let q = x.question in
     open_part q.core.now.positions q.premise.0 q.conclusion.0 x.fault (stage_of x.judge) x.lines c.in_default.is
     (λ e. false≢true (c.if-is_ended.ensures.1 e)) c.number.result c.number.ensures
+
+pub returns-in-Some-clause-next : goal.returns-in-Some-clause-next
+returns-in-Some-clause-next c = told_next c.args.self.now c.in-Some.fault c.in-Some.is

@@ -5,7 +5,7 @@ use Rattle.js_lines.specs.View.{line_view}
 use Rattle.js_checker.specs.JudgeView.{stage_of}
 use Rattle.js_checker.specs.Entries.{lines_in}
 use Rattle.js_checker.proofs.PassingLemmas.{pass_leads, pass_well}
-use Rattle.js_checker.proofs.CheckerLemmas.{lines_reached, lines_stand}
+use Rattle.js_checker.proofs.CheckerLemmas.{lines_reached, lines_stand, none_next}
 use Rattle.js_checker.proofs.checker.Checker.pass_entry.Goals as goal
 
 pub invariant_of-self : goal.invariant_of-self
@@ -17,6 +17,7 @@ invariant_of-self c =
     let long = length-map p.lines.now line_view in
     record {
       few = omega (arith, c.requires.few);
+      next = none_next x.fault _ c.requires.going;
       well = λ e. pass_well T x.judge c.pass_entry.new.self p.number (lines_in p) c.requires.between
           c.pass_entry.ensures c.requires.next c.requires.entry (x.well e);
       reached = λ e. lines_reached T q.premise.0 q.conclusion.0 (lines_in p) (stage_of x.judge)

@@ -2,6 +2,7 @@
 use Rattle.std.proofs.Common.{◌++◌, map, refl}
 use Rattle.js_lines.specs.View.{line_view}
 use Rattle.js_checker.proofs.Results.{passed}
+use Rattle.js_checker.proofs.CheckerLemmas.{told_next, stopped_next}
 use Rattle.js_checker.proofs.TakingLemmas.{took_on, took_stopped, took_told, all_told, both_parts, three_parts, same_question}
 use Rattle.js_checker.proofs.checker.Checker.take_all.Goals as goal
 
@@ -98,3 +99,27 @@ returns-clause-broken g c =
     c.take_each-3.ensures.stands
     (three_parts c.args.lines.now head rest entries tail c.split_at.ensures.by_index.0
     c.split_at-2.ensures.by_index.0))
+
+-- the line that is rejected is the next one
+
+pub returns-in-Some-clause-next : goal.returns-in-Some-clause-next
+returns-in-Some-clause-next g c = told_next c.args.self.now c.in-Some.fault c.in-Some.is
+
+pub returns-then-workers-eq1-clause-next : goal.returns-then-workers-eq1-clause-next
+returns-then-workers-eq1-clause-next g c =
+    stopped_next c.take_each.new.self c.take_each.result c.take_each.ensures.stopped
+
+pub returns-in_err-take_each-clause-next : goal.returns-in_err-take_each-clause-next
+returns-in_err-take_each-clause-next g c =
+    passed _ c.from_residual.result c.in_err-take_each.field-0.0 c.from_residual.ensures.1
+    (told_next c.take_each-2.new.self c.in_err-take_each.field-0.0 c.in_err-take_each.ensures.stopped)
+
+pub returns-in_err-take_entries-clause-next : goal.returns-in_err-take_entries-clause-next
+returns-in_err-take_entries-clause-next g c =
+    passed _ c.from_residual-in_err-take_entries.result c.in_err-take_entries.field-0.0
+    c.from_residual-in_err-take_entries.ensures.1
+    (told_next c.take_entries.new.self c.in_err-take_entries.field-0.0 c.in_err-take_entries.ensures.stopped)
+
+pub returns-clause-next : goal.returns-clause-next
+returns-clause-next g c =
+    stopped_next c.take_each-3.new.self c.take_each-3.result c.take_each-3.ensures.stopped
