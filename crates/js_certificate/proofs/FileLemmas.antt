@@ -39,7 +39,7 @@ some-same : (xs ys : List ℕ) → Some xs ≡ Some ys → xs ≡ ys
 some-same xs ys e = cc
 
 -- a piece more was read
-more : (told : Option Files) (name bytes piece : List ℕ) (left now : Option (List ℕ))
+pub more : (told : Option Files) (name bytes piece : List ℕ) (left now : Option (List ℕ))
     → ReadSoFar told name bytes left → Consumes left now piece → ReadSoFar told name (bytes ++ piece) now
 more None name bytes piece left now so_far taken = tt
 more (Some files) name bytes piece None now so_far taken = absurd (none≢some _ so_far.1)

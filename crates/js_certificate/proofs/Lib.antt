@@ -4,3 +4,4 @@ mod EndLemmas
 mod JudgeLemmas
 mod ReadBehindLemmas
 mod FileLemmas
+mod UnrejectedLemmas

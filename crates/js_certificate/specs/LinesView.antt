@@ -26,7 +26,7 @@ pub record AreJudged (p : LineJudge) (bytes : List ℕ) : Type 0 where
   pub reader : Stands bytes lines p.reader
   pub batch : StandsFor p.batch lines
 
--- between pieces, while no fault was met: no line waits, and there are no more lines than bytes
+-- between pieces, while no fault was met: no line waits in the reader, and there are no more lines than bytes
 pub record IsWell (p : LineJudge) : Type 0 where
   pub idle : is_none p.reader.waiting ≡ true
   pub sound : is_none p.reader.fault ≡ true

@@ -19,8 +19,8 @@ abbrev pub longest_piece : ℕ
 longest_piece = 65536
 
 -- The file is what was read before the last piece, that piece, and what is left of it. The whole lines of the first are
--- fewer than the number of the line and those that may wait: so nothing is read behind the piece that ends the line, or
--- the batch that has it.
+-- fewer than the number of the line and those that may wait: so with one worker nothing is read behind the piece that
+-- ends the line, and with several at most 65,535 whole lines and a piece are.
 pub record IsReadTo (files : Files) (name : List ℕ) (left : Option (List ℕ)) (workers line : ℕ) : Type 0 where
   pub before : List ℕ
   pub piece : List ℕ

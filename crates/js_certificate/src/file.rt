@@ -7,6 +7,7 @@ ghost use Rattle.verdicts.specs.Verdict.{verdict_of_bytes};
 ghost use Rattle.js_certificate.specs.JudgeView.{table_of, premise_of, conclusion_of, bytes_of, waiting_of, fault_of, StandsForBytes};
 ghost use Rattle.js_certificate.specs.FileVerdicts.{verdict_view, verdict_of, IsVerdictOf, FaultSays, CountsJudged, IsRejection};
 ghost use Rattle.js_certificate.specs.ReadBehind.{most_waiting, longest_piece, IsReadFor};
+ghost use Rattle.js_certificate.specs.Unrejected.{NoneIsRejected, StopsUnrejected, FailsUnrejected};
 ghost use Rattle.js_certificate.specs.FileRead.{StandsForFile};
 ghost use Rattle.js_certificate.specs.declared.file.FileVerdict.TheVariants.{Accepted};
 ghost use Rattle.js_certificate.specs.declared.file.FileFault.TheVariants as fault;
@@ -63,7 +64,8 @@ impl From<AllocError> for FileFault {
 /// worker is a line.
 ///
 /// Where a read fails, the lines before it are judged: a rejection among them is the answer, and the count of faults
-/// rose.
+/// rose. So a fault is the answer only where no whole line that was read before it is rejected, for every number of
+/// workers.
 pub fn judge_file<R: Threads + Sync, G: Gate + Sync, H: Shelf>(
     workers: &Workers<'_, R, G>,
     alloc: Global,
@@ -81,6 +83,8 @@ pub fn judge_file<R: Threads + Sync, G: Gate + Sync, H: Shelf>(
     ensures fault { IfErr result (FaultSays (H.told shelf.old) name.now workers.now.count (H.faults shelf.old)
         (H.faults shelf.new)) }
     ensures read { IfOk result (IsReadFor (H.told shelf.old) name.now (H.left shelf.new) workers.now.count) }
+    ensures unrejected { IfErr result (FailsUnrejected (verdict_of_bytes core.now.positions a.0 b.0) (H.told shelf.old)
+        name.now (H.left shelf.new)) }
     ensures begun { H.begun shelf.new ≡ H.begun shelf.old ++ name.now ∷ [] }
 
     // What is accepted is right.
@@ -125,6 +129,10 @@ fn judge_pieces<R: Threads + Sync, G: Gate + Sync, H: Shelf>(
     ensures read { IfOk result (λ verdict. (name : List ℕ)
         → StandsForFile judge.old (H.told shelf.old) name (H.left shelf.old)
         → IsReadFor (H.told shelf.old) name (H.left shelf.new) workers.now.count verdict) }
+    ensures unrejected { IfErr result (λ fault. (name : List ℕ)
+        → StandsForFile judge.old (H.told shelf.old) name (H.left shelf.old)
+        → StopsUnrejected (verdict_of_bytes (table_of judge.old) (premise_of judge.old) (conclusion_of judge.old))
+        (H.told shelf.old) name (H.left shelf.new) fault) }
     ensures begun { H.begun shelf.new ≡ H.begun shelf.old }
     ensures sound { result ≡ Ok Accepted → (J : Document) → is_document J ≡ true
         → holds (table_of judge.old) (premise_of judge.old) J ≡ true
@@ -159,6 +167,10 @@ fn verdict_before<R: Threads + Sync, G: Gate + Sync>(
         → verdict_of_bytes (table_of judge.old) (premise_of judge.old) (conclusion_of judge.old) (bytes ++ more)
         ≡ verdict_view verdict)) }
     ensures fault { IfErr result (λ met. (met ≡ cause) ⊎ (met ≡ fault.Memory)) }
+    ensures unrejected { IfErr result (λ met. (met ≡ fault.Memory) ⊎ ((bytes : List ℕ)
+        → StandsForBytes judge.old bytes
+        → NoneIsRejected (verdict_of_bytes (table_of judge.old) (premise_of judge.old) (conclusion_of judge.old))
+        bytes)) }
     ensures none { fault_of judge.old ≡ None → waiting_of judge.old ≡ 0 → result ≡ Err cause }
 {
     match judge.settle(workers, alloc) {

@@ -100,6 +100,7 @@ impl<'a> CertificateJudge<'a> {
             (bytes ++ more))) }
 
         ensures some { fault_of self.old ≡ None → OnErr result (0 < waiting_of self.old) }
+        ensures settled { OnOk result (waiting_of self.new ≡ 0) }
         ensures going { OnOk result (fault_of self.new ≡ None) }
         ensures stopped { IfErr result (λ fault. fault_of self.new ≡ Some fault) }
         ensures again { IfSome (fault_of self.old) (λ fault. result ≡ Err fault) }

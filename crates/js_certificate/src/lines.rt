@@ -1,4 +1,4 @@
-//! The lines of bytes as they come, each judged as soon as it is whole.
+//! The lines of bytes as they come, each handed to the batch as soon as it is whole, which one worker judges at once.
 
 ghost use Rattle.std.specs.Prelude.{◌≡◌, ◌<◌, ◌^◌, ℕ, List, length, None, OnOk, IfOk, IfErr};
 

@@ -7,7 +7,7 @@ use Rattle.js_decide.specs.View.{decided_view, verdict_view}
 use Rattle.js_decide.specs.Certified.{HasCertificate}
 use Rattle.js_decide.specs.declared.verdict.Decided.{Decided}
 use Rattle.js_inclusion.specs.Comparison.{decided_of, comparison, certificate_text}
-use Rattle.js_inclusion.specs.Meaning.{IsReadAs, Means}
+use Rattle.js_inclusion.specs.Meaning.{IsReadAs, Means, AreCounted}
 use Rattle.js_commands.specs.IncludeSaying.{answer_view}
 use Rattle.js_commands.specs.GenOutcome as O
 use Rattle.js_commands.specs.GenOutcome.{IsValueReading, of_entries}
@@ -19,8 +19,8 @@ use Rattle.js_commands.proofs.IncludeOutcomeLemmas.{view-answer, same_entries, s
 pub says-decided : (a b : Json) (es fs : List Entry) → IsReadAs a es → IsReadAs b fs → IsValueReading a (Read a)
     → IsValueReading b (Read b) → (d : Decided) → decided_view d ≡ decided_of es fs
     → HasCertificate (certificate_text es fs) d.verdict → Means es fs (verdict_view d.verdict)
-    → ValuesSay a b (G.Decided d)
-says-decided a b es fs x y reads reads' d e has means =
+    → AreCounted es fs (verdict_view d.verdict) → ValuesSay a b (G.Decided d)
+says-decided a b es fs x y reads reads' d e has means counted =
     let found = view-answer (certificate_text es fs) d.verdict (comparison es fs) (ap (λ c. c.verdict) e) has in (
       (
         Read a,
@@ -33,5 +33,5 @@ says-decided a b es fs x y reads reads' d e has means =
               ∙ ap (λ c. O.Decided (answer_view d.verdict) c.goals c.rounds) (sym e),
         ),
       ),
-      values-tell a b es fs x y d.verdict has (means a b x y),
+      values-tell a b es fs x y d.verdict has (means a b x y) counted,
     )

@@ -12,7 +12,7 @@ use Rattle.js_decide.specs.Certified.{HasCertificate}
 use Rattle.js_decide.specs.declared.verdict.Verdict.{Verdict}
 use Rattle.js_decide.specs.declared.verdict.Verdict.TheVariants as V
 use Rattle.js_inclusion.specs.Comparison.{comparison, certificate_text, judgement}
-use Rattle.js_inclusion.specs.Meaning.{IsReadAs, StopsSearch, Tells}
+use Rattle.js_inclusion.specs.Meaning.{IsReadAs, StopsSearch, PassesCount, AreCounted, Tells}
 use Rattle.js_commands.proofs.FileLemmas.{HaveFile-has, HaveFiles-has}
 use Rattle.js_commands.specs.ReadEntries.{entries_of, entries_read}
 use Rattle.js_commands.specs.IncludeOutcome as A
@@ -104,18 +104,22 @@ module _ (a b : Json) (es fs : List Entry) (x : IsReadAs a es) (y : IsReadAs b f
   same_entries' = ap entries_of y.entries
 
   pub values-tell : (v : Verdict) → HasCertificate (certificate_text es fs) v → Tells es fs a b (verdict_view v)
-      → ValuesTell a b (answer_view v)
-  values-tell (V.Document ps i) has tells = tells
-  values-tell (V.Certificate bytes) has tells =
+      → AreCounted es fs (verdict_view v) → ValuesTell a b (answer_view v)
+  values-tell (V.Document ps i) has tells counted = tells
+  values-tell (V.Certificate bytes) has tells counted =
       record {
         accepted = ap₂ (λ p q. judgement p q bytes.items) same_entries same_entries'
             ∙ ap (judgement es fs) has ∙ tells.accepted;
         fits = let (same, within) = bytes.ok in let small = bytes.small in omega (arith, same, within, small);
         included = tells.included;
       }
-  values-tell (V.Limit k g) has tells =
-      subst (λ p. StopsSearch p (entries_read b) (limit_view k) g) (sym same_entries)
-      (subst (λ q. StopsSearch es q (limit_view k) g) (sym same_entries') tells)
+  values-tell (V.Limit k g) has tells counted =
+      record {
+        stops = subst (λ p. StopsSearch p (entries_read b) (limit_view k) g) (sym same_entries)
+            (subst (λ q. StopsSearch es q (limit_view k) g) (sym same_entries') tells);
+        counted = subst (λ p. PassesCount p (entries_read b) (limit_view k) g) (sym same_entries)
+            (subst (λ q. PassesCount es q (limit_view k) g) (sym same_entries') counted);
+      }
 
 -- and what the program says of them
 module _ (told : Option Files) (first : List ℕ) (second : Option (List ℕ)) (a b : Json) (es fs : List Entry)
@@ -126,7 +130,7 @@ module _ (told : Option Files) (first : List ℕ) (second : Option (List ℕ)) (
 
   pub says-compared : (before after : ℕ) (f : Inclusion) → after ≡ before → SchemasSay es fs f
       → InclusionSays told first second before after f
-  says-compared before after (F.Decided v) n (e, has, means) =
+  says-compared before after (F.Decided v) n (e, has, means, counted) =
       let found = view-answer (certificate_text es fs) v (comparison es fs) e has in (
         n,
         comes (Decided (answer_view v)) (ap Decided (same_answer ∙ sym found)),
@@ -135,7 +139,7 @@ module _ (told : Option Files) (first : List ℕ) (second : Option (List ℕ)) (
           b = b;
           are = are;
           is = same_answer ∙ sym found;
-          tells = values-tell a b es fs x y v has (means a b x y);
+          tells = values-tell a b es fs x y v has (means a b x y) counted;
         },
       )
   says-compared before after (F.FirstRefused ws) n says = absurd says

@@ -9,6 +9,7 @@ pub mod ValidOutcomeLemmas
 pub mod ValidMeaningLaws
 -- `check`: as for `include`.
 pub mod CheckOutcomeLemmas
+pub mod CheckUnrejectedLemmas
 pub mod CheckMeaningLaws
 -- `norm`: what position 0 of a schema's table means, and from what a file is read as to what it comes to.
 pub mod NormTableLemmas

@@ -1,16 +1,20 @@
 -- What the calls answer.
-use Rattle.std.specs.Prelude.{◌≡◌, ◌⊎◌, ℕ, List, [], ◌∷◌, ◌++◌, Option, string_bytes}
+use Rattle.std.specs.Prelude.{◌≡◌, ◌⊎◌, ℕ, List, [], ◌∷◌, ◌++◌, Option, encode_utf8_all, string_bytes}
 use Rattle.schemas.specs.Entry.{Entry}
 use Rattle.js_outside.specs.Counts.{Rose}
 use Rattle.js_outside.specs.Told.{Files}
 use Rattle.js_certificate.specs.FileVerdicts.{IsTooLong, SameOrRose}
 use Rattle.js_certificate.specs.ReadBehind.{IsReadToLine}
+use Rattle.js_certificate.specs.Unrejected.{FailsUnrejected}
 use Rattle.js_certificate.specs.declared.file.FileVerdict.TheVariants as V
+use Rattle.js_certificate.specs.declared.file.FileFault.TheVariants as F
+use Rattle.js_inclusion.specs.Comparison.{judgement}
 use Rattle.js_inclusion.specs.Meaning.{AreIncluded}
 use Rattle.js_inclusion.specs.Judging.{IsJudgementOf}
 use Rattle.js_commands.specs.CheckOutcome as O
 use Rattle.js_commands.specs.CheckOutcome.{Outcome, IsChecking}
 use Rattle.js_commands.specs.CheckMeaning.{MeansFor}
+use Rattle.js_commands.specs.CheckUnrejected.{IsTooLongUnrejected, IsFaultUnrejected}
 use Rattle.js_commands.specs.declared.check.Checking.{Checking}
 use Rattle.js_commands.specs.declared.check.Checking.TheVariants as C
 
@@ -50,6 +54,24 @@ CertificateSays es fs told name workers before after (C.SecondRefused words) = �
 abbrev pub IsReadWith : Option Files → (name : List ℕ) → Option (List ℕ) → (workers : ℕ) → Checking → Type 0
 IsReadWith told name left workers (C.Rejected line rule) = IsReadToLine told name left workers line
 IsReadWith told name left workers c = Unit {0}
+
+-- Where the certificate isn't judged to its end, no whole line that was read before is rejected. A read fault is the
+-- certificate's where all three names were begun, from those before to those after.
+abbrev pub EndsUnrejected : Option Files → (first second certificate : List ℕ) → (left : Option (List ℕ))
+    → (before after : List (List ℕ)) → Checking → Type 0
+EndsUnrejected told first second certificate left before after C.TooLong =
+    IsTooLongUnrejected told first second certificate left
+EndsUnrejected told first second certificate left before after C.ReadFault =
+    after ≡ before ++ (encode_utf8_all first ∷ encode_utf8_all second ∷ encode_utf8_all certificate ∷ [])
+    → IsFaultUnrejected told first second certificate left
+EndsUnrejected told first second certificate left before after c = Unit {0}
+
+-- the same of a certificate's file, which is given by its UTF-8 bytes, for two schemas that were read
+abbrev pub IsUnrejectedWith : List Entry → List Entry → Option Files → (name : List ℕ) → (left : Option (List ℕ))
+    → Checking → Type 0
+IsUnrejectedWith es fs told name left C.TooLong = FailsUnrejected (judgement es fs) told name left F.TooLong
+IsUnrejectedWith es fs told name left C.ReadFault = FailsUnrejected (judgement es fs) told name left F.Read
+IsUnrejectedWith es fs told name left c = Unit {0}
 
 -- the file is begun, unless memory is refused before
 abbrev pub MayBegin : (name : List ℕ) → (before after : List (List ℕ)) → Type 0

@@ -2,13 +2,15 @@
 use Rattle.std.specs.Prelude.{◌≡◌, ◌≤◌, ℕ, List, length, false, Option, Some, None}
 use Rattle.documents.specs.Json.{Json, boolean}
 use Rattle.draft06.specs.Validity.{Included}
+use Rattle.goals.specs.Signed.{Signed}
+use Rattle.alternatives.specs.Limit.{LimitKind}
 use Rattle.verdicts.specs.Verdict.{Accepted}
 use Rattle.js_keywords.specs.Reading.{rules}
 use Rattle.js_outside.specs.Told.{Files}
 use Rattle.js_input.specs.FileReading.{IsSchemaFile, IsSchemaRefusal}
 use Rattle.js_input.specs.ToldTwice.{AreFiles}
 use Rattle.js_certificate.specs.FileVerdicts.{longest_file}
-use Rattle.js_inclusion.specs.Meaning.{AreSeparating, StopsSearch}
+use Rattle.js_inclusion.specs.Meaning.{AreSeparating, StopsSearch, PassesCount}
 use Rattle.js_commands.specs.ReadEntries.{entries_read}
 use Rattle.js_commands.specs.CheckOutcome.{judgement_of}
 use Rattle.js_commands.specs.IncludeOutcome as A
@@ -38,11 +40,16 @@ pub record IsCertificate (a b : Json) (bytes : List ℕ) : Type 0 where
   pub fits : length bytes ≤ longest_file
   pub included : Included rules a b
 
+-- the search stops at a limit, and what this counts is over its number
+pub record IsPassed (a b : Json) (kind : LimitKind) (goal : Option (List Signed)) : Type 0 where
+  pub stops : StopsSearch (entries_read a) (entries_read b) kind goal
+  pub counted : PassesCount (entries_read a) (entries_read b) kind goal
+
 -- what an answer means for two values
 abbrev pub ValuesTell : Json → Json → Answer → Type 0
 ValuesTell a b (A.Document ps i) = AreSeparating a b ps i
 ValuesTell a b (A.Certificate bytes) = IsCertificate a b bytes
-ValuesTell a b (A.Limit k o) = StopsSearch (entries_read a) (entries_read b) k o
+ValuesTell a b (A.Limit k o) = IsPassed a b k o
 
 -- both are schemas, this is what is found of them, and what it means for them
 pub record IsDecided (told : Option Files) (first : List ℕ) (second : Option (List ℕ)) (x : Answer) : Type 0 where

@@ -9,7 +9,7 @@ use Rattle.js_decide.specs.Certified.{HasCertificate}
 use Rattle.js_decide.specs.declared.verdict.Verdict.{Verdict}
 use Rattle.js_decide.specs.declared.verdict.Verdict.TheVariants as V
 use Rattle.js_inclusion.specs.Comparison.{comparison, certificate_text}
-use Rattle.js_inclusion.specs.Meaning.{Means}
+use Rattle.js_inclusion.specs.Meaning.{Means, AreCounted}
 use Rattle.js_commands.specs.IncludeOutcome as O
 use Rattle.js_commands.specs.IncludeOutcome.{Outcome, IsComparison}
 use Rattle.js_commands.specs.IncludeMeaning.{MeansFor}
@@ -37,4 +37,5 @@ InclusionSays told first second before after f =
 abbrev pub SchemasSay : List Entry → List Entry → Inclusion → Type 0
 SchemasSay es fs (F.Decided x) =
     (verdict_view x ≡ comparison es fs) × HasCertificate (certificate_text es fs) x × Means es fs (verdict_view x)
+    × AreCounted es fs (verdict_view x)
 SchemasSay es fs _ = ⊥

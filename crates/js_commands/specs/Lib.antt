@@ -6,6 +6,7 @@ pub mod ValidOutcome
 pub mod ValidMeaning
 pub mod CheckOutcome
 pub mod CheckMeaning
+pub mod CheckUnrejected
 pub mod NormOutcome
 pub mod GenOutcome
 pub mod GenMeaning

@@ -4,7 +4,7 @@ ghost use Rattle.std.specs.Prelude.{◌≡◌, [], ◌∷◌, IfOk, OnErr, encod
 ghost use Rattle.js_guard.specs.RankedView.{entries_of};
 ghost use Rattle.js_input.specs.OrderOfFiles.{BeginsInOrder};
 ghost use Rattle.js_certificate.specs.FileVerdicts.{SameOrRose};
-ghost use Rattle.js_commands.specs.CheckSaying.{CheckingSays, CertificateSays, IsReadWith, MayBegin};
+ghost use Rattle.js_commands.specs.CheckSaying.{CheckingSays, CertificateSays, IsReadWith, EndsUnrejected, IsUnrejectedWith, MayBegin};
 
 use js_certificate::{FileFault, FileVerdict};
 use js_doc::{Memory, Str};
@@ -41,7 +41,7 @@ pub enum Checking {
 /// Judges the certificate of one file for the schemas of two others. The first schema is read first, the second only
 /// where the first is one, and the certificate only where both are, and not behind the batch that has a line which is
 /// rejected. Where a read of the certificate fails, the lines before it are judged: a rejection among them is the
-/// answer.
+/// answer, and the read fault is it only where there is none.
 pub fn check_files<R: Threads + Sync, G: Gate + Sync, H: Shelf>(
     workers: &Workers<'_, R, G>,
     alloc: Global,
@@ -56,6 +56,8 @@ pub fn check_files<R: Threads + Sync, G: Gate + Sync, H: Shelf>(
     ensures memory { OnErr result (SameOrRose workers.now.count (H.faults shelf.old) (H.faults shelf.new)) }
     ensures read { IfOk result (IsReadWith (H.told shelf.old) (encode_utf8_all certificate.now) (H.left shelf.new)
         workers.now.count) }
+    ensures unrejected { IfOk result (EndsUnrejected (H.told shelf.old) first.now second.now certificate.now
+        (H.left shelf.new) (H.begun shelf.old) (H.begun shelf.new)) }
     ensures begun { BeginsInOrder (H.told shelf.old)
         (encode_utf8_all first.now ∷ encode_utf8_all second.now ∷ encode_utf8_all certificate.now ∷ [])
         (H.begun shelf.old) (H.begun shelf.new) }
@@ -88,6 +90,8 @@ fn check_certificate<R: Threads + Sync, G: Gate + Sync, H: Shelf>(
     ensures memory { OnErr result (SameOrRose workers.now.count (H.faults shelf.old) (H.faults shelf.new)) }
     ensures read { IfOk result (IsReadWith (H.told shelf.old) (encode_utf8_all certificate.now) (H.left shelf.new)
         workers.now.count) }
+    ensures unrejected { IfOk result (IsUnrejectedWith (entries_of a.now) (entries_of b.now) (H.told shelf.old)
+        (encode_utf8_all certificate.now) (H.left shelf.new)) }
     ensures begun { MayBegin (encode_utf8_all certificate.now) (H.begun shelf.old) (H.begun shelf.new) }
 {
     match judge_file(workers, alloc, shelf, certificate, a, b) {

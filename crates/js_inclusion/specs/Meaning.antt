@@ -15,6 +15,7 @@ use Rattle.certificate_lines.specs.Text.{IsText}
 use Rattle.verdicts.specs.Verdict.{Accepted}
 use Rattle.js_keywords.specs.Reading.{rules}
 use Rattle.js_expander.specs.Found.{finders}
+use Rattle.js_decide.specs.Counted.{IsCounted}
 use Rattle.js_inclusion.specs.Comparison.{both, second_root, certificate, certificate_text, judgement}
 
 -- the value of a text, which is read as these entries
@@ -37,6 +38,14 @@ pub record IsCertified (es fs : List Entry) (a b : Json) : Type 0 where
 -- or by all goals
 pub record StopsSearch (es fs : List Entry) (kind : LimitKind) (goal : Option (List Signed)) : Type 0 where
   pub stops : M.Means (finders (both es fs)) (both es fs) most_goals most_total 0 (second_root es) (Limit kind goal)
+
+-- what this limit counts is over its number: at this goal, or where there is none of all goals that were explored
+abbrev pub PassesCount : List Entry → List Entry → LimitKind → Option (List Signed) → Type 0
+PassesCount es fs kind goal = IsCounted (both es fs) 0 (second_root es) (Limit kind goal)
+
+-- where a limit is the verdict, so it is
+abbrev pub AreCounted : List Entry → List Entry → Verdict → Type 0
+AreCounted es fs v = IsCounted (both es fs) 0 (second_root es) v
 
 abbrev pub Tells : List Entry → List Entry → Json → Json → Verdict → Type 0
 Tells es fs a b (Document ps i) = AreSeparating a b ps i

@@ -5,7 +5,7 @@ ghost use Rattle.js_guard.specs.RankedView.{entries_of};
 ghost use Rattle.js_decide.specs.View.{verdict_view, decided_view};
 ghost use Rattle.js_decide.specs.Certified.{HasCertificate};
 ghost use Rattle.js_inclusion.specs.Comparison.{decided_of, certificate_text};
-ghost use Rattle.js_inclusion.specs.Meaning.{Means};
+ghost use Rattle.js_inclusion.specs.Meaning.{Means, AreCounted};
 
 use crate::tables::joined_tables;
 use js_decide::{Decided, decide};
@@ -29,6 +29,10 @@ pub fn compare<R: Threads + Sync, G: Gate + Sync>(
 
     // What the answer means for the values that the schemas are read from.
     ensures means { IfOk result (λ d. Means (entries_of a.now) (entries_of b.now) (verdict_view d.verdict)) }
+
+    // Where a limit is reported, what it counts is more than its number: at the goal that is reported with it, or else
+    // of all goals that were explored.
+    ensures counted { IfOk result (λ d. AreCounted (entries_of a.now) (entries_of b.now) (verdict_view d.verdict)) }
 {
     let (core, at_a, at_b) = joined_tables(alloc, a, b)?;
     let decided = decide(workers, alloc, &core, at_a, at_b)?;

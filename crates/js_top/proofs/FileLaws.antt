@@ -18,7 +18,7 @@ use Rattle.js_commands.specs.ValidOutcome.{Outcome}
 use Rattle.js_report.specs.Lines.{line}
 use Rattle.js_top.specs.Names.{of_sat, of_include, of_compared, of_check, of_gen, sat_name, compared_names, IsSat, IsInclude, IsCompared, IsCheckBySeveral, IsGen}
 use Rattle.js_top.specs.Report.{Report, printed, finding_of, finding_status, answer_report, compared_report, IsReadBack, IsOutcomeReadBack, IsComparedReport, IsReportOf, outcome_report, checked_report, listed_report, IsReport}
-use Rattle.js_top.specs.Meaning.{AreNamed, WhereTold, PassLimit, IsCounterexample, IsLimit, IsAsked, IsWitness, IsRefutation, IsRefusal}
+use Rattle.js_top.specs.Meaning.{AreNamed, WhereTold, PassLimit, IsCounterexample, IsLimit, IsCountedLimit, IsAsked, IsWitness, IsRefutation, IsRefusal}
 use Rattle.js_top.specs.Correct.{IsCorrect}
 use Rattle.js_top.specs.Preparing.{report_of, PreparedSays}
 use Rattle.js_top.specs.declared.finding.Finding.{Finding}
@@ -284,12 +284,20 @@ module _ (told : Option Files) (words : List (List ℕ)) (before after : ℕ) (p
       (x, asked, certificate-refutation x text shows)
 
   -- no other command but `gen` has a limit
-  pub prepared-limit : (report_of p).status ≡ S.Limit → (IsGen words → ⊥)
-      → Named told words (λ a b. IsLimit a b text)
-  prepared-limit e other =
+  limit-shown : (report_of p).status ≡ S.Limit → (IsGen words → ⊥)
+      → Named told words (λ a b. IsLimit a b text × IsCountedLimit a b text)
+  limit-shown e other =
       let is = prepared-report told words before after p text S.Limit says t e (λ h. cc) in
       let (a, second, named) = compared_of words (limit-compared told words text is other) in
       named_of told words a second named S.Limit text (means told words text S.Limit a second named is refl)
+
+  pub prepared-limit : (report_of p).status ≡ S.Limit → (IsGen words → ⊥)
+      → Named told words (λ a b. IsLimit a b text)
+  prepared-limit e other = let (a, b, are, shows) = limit-shown e other in (a, b, are, shows.0)
+
+  pub prepared-counted : (report_of p).status ≡ S.Limit → (IsGen words → ⊥)
+      → Named told words (λ a b. IsCountedLimit a b text)
+  prepared-counted e other = let (a, b, are, shows) = limit-shown e other in (a, b, are, shows.1)
 
 -- the report that was begun to be written: that of a failed read, or that of files
 pub prepared-part : (told : Option Files) (words : List (List ℕ)) (before after : ℕ) (p : Prepared)

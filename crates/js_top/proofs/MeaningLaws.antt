@@ -12,7 +12,7 @@ use Rattle.js_commands.specs.IncludeOutcome as A
 use Rattle.js_commands.specs.IncludeOutcome.{Answer, of_decision}
 use Rattle.js_commands.specs.IncludeMeaning.{answer_of, IsCertificate, ValuesTell}
 use Rattle.js_top.specs.Report.{answer_text, finding_of, finding_status, IsReadBack}
-use Rattle.js_top.specs.Meaning.{IsCounterexample, IsLimit, PassLimit, IsWitness, IsUnsatisfiable, IsRefutation}
+use Rattle.js_top.specs.Meaning.{IsCounterexample, IsLimit, IsCountedLimit, PassLimit, IsWitness, IsUnsatisfiable, IsRefutation}
 use Rattle.js_top.specs.Preparing.{IsPrintable}
 use Rattle.js_top.specs.declared.finding.Finding.{Finding}
 use Rattle.js_top.specs.declared.finding.Finding.TheVariants as F
@@ -44,7 +44,7 @@ limited-status false f e = ap (finding_status false) e
 abbrev pub Shows : Json → Json → Finding → List ℕ → Type 0
 Shows a b F.Document text = IsCounterexample a b text
 Shows a b F.Nothing text = IsCertificate a b text
-Shows a b F.Limit text = IsLimit a b text
+Shows a b F.Limit text = IsLimit a b text × IsCountedLimit a b text
 
 -- a document that was found can be printed
 pub printable : (a b : Json) (x : Answer) → ValuesTell a b x → IsPrintable x
@@ -58,7 +58,10 @@ module _ (a b : Json) where
   answer-shows (A.Document ps i) tells text e back =
       record { document = unshared ps i; is = back; separates = tells.separates }
   answer-shows (A.Certificate bytes) tells text e back = subst (IsCertificate a b) e tells
-  answer-shows (A.Limit k o) tells text e back = record { kind = k; goal = o; passed = tells; written = e }
+  answer-shows (A.Limit k o) tells text e back = (
+    record { kind = k; goal = o; passed = tells.stops; written = e },
+    record { kind = k; goal = o; counted = tells.counted; written = e },
+  )
 
   -- by the status of its report
   pub status-shows : (is_sat : Bool) (status : Status) (x : Answer) → finding_status is_sat (finding_of x) ≡ status
@@ -87,7 +90,7 @@ module _ (a b : Json) where
       → IsCounterexample a b text ⊎ IsCertificate a b text ⊎ IsLimit a b text
   one-shown F.Document text shows = inl shows
   one-shown F.Nothing text shows = inr (inl shows)
-  one-shown F.Limit text shows = inr (inr shows)
+  one-shown F.Limit text shows = inr (inr shows.0)
 
   pub answer-one : (x : Answer) → ValuesTell a b x → (text : List ℕ) → answer_text x ≡ text → IsReadBack x text
       → IsCounterexample a b text ⊎ IsCertificate a b text ⊎ IsLimit a b text
@@ -96,7 +99,9 @@ module _ (a b : Json) where
   pub answer-limited : (x : Answer) → answer_of a b ≡ x → ValuesTell a b x → (text : List ℕ) → answer_text x ≡ text
       → IsReadBack x text → PassLimit a b → IsLimit a b text
   answer-limited x is tells text e back passes =
-      subst (λ f. Shows a b f text) (passes-limited x is passes) (answer-shows x tells text e back)
+      let shows : Shows a b F.Limit text =
+      subst (λ f. Shows a b f text) (passes-limited x is passes) (answer-shows x tells text e back) in
+      shows.0
 
 -- ---- of one schema, against the value `false`
 

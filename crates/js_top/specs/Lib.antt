@@ -10,6 +10,7 @@ pub mod Meaning
 pub mod Running
 pub mod Judging
 pub mod Checking
+pub mod Unrejected
 pub mod Listing
 pub mod Generating
 -- Used inside: what preparing a report says.

@@ -10,7 +10,7 @@ use Rattle.js_outside.specs.Told.{Files}
 use Rattle.js_keywords.specs.Reading.{rules}
 use Rattle.js_input.specs.FileReading.{IsSchemaFile}
 use Rattle.js_input.specs.ToldTwice.{AreFiles}
-use Rattle.js_commands.specs.Meaning.{StopsSearch}
+use Rattle.js_commands.specs.Meaning.{StopsSearch, PassesCount}
 use Rattle.js_commands.specs.ReadEntries.{entries_read}
 use Rattle.js_commands.specs.CheckOutcome.{judgement_of}
 use Rattle.js_commands.specs.IncludeMeaning.{AreSchemas, IsFirstRefusal, IsSecondRefusal}
@@ -36,6 +36,14 @@ pub record IsLimit (a b : Json) (text : List ℕ) : Type 0 where
   pub kind : LimitKind
   pub goal : Option (List Signed)
   pub passed : Passes a b kind goal
+  pub written : limit_line kind goal ≡ text
+
+-- the line of a limit whose count is over its number, in the table of both schemas: at the goal that is told, or where
+-- none is told of all goals that were explored
+pub record IsCountedLimit (a b : Json) (text : List ℕ) : Type 0 where
+  pub kind : LimitKind
+  pub goal : Option (List Signed)
+  pub counted : PassesCount (entries_read a) (entries_read b) kind goal
   pub written : limit_line kind goal ≡ text
 
 -- the words name schemas, with these values; of `sat` the second value is `false`

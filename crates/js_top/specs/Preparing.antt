@@ -1,5 +1,5 @@
 -- What a report that was prepared says of the shelf's files and of its count of faults.
-use Rattle.std.specs.Prelude.{◌≡◌, ℕ, suc, List, length, Bool, true, false, codes, encode_utf8_all, Option, Some, None, IsSome}
+use Rattle.std.specs.Prelude.{◌≡◌, ℕ, suc, List, [], ◌∷◌, ◌++◌, length, Bool, true, false, codes, encode_utf8_all, Option, Some, None, IsSome}
 use Rattle.documents.specs.Document.{is_document}
 use Rattle.shared_documents.specs.Unshared.{unshared}
 use Rattle.js_outside.specs.Counts.{Rose}
@@ -9,6 +9,7 @@ use Rattle.verdicts.specs.Verdict.{Rejected}
 use Rattle.js_report.specs.Lines.{line}
 use Rattle.js_commands.specs.FileVerdicts.{SameOrRose}
 use Rattle.js_commands.specs.ReadBehind.{IsReadToLine}
+use Rattle.js_commands.specs.CheckUnrejected.{IsTooLongUnrejected, IsFaultUnrejected}
 use Rattle.js_commands.specs.IncludeOutcome as C
 use Rattle.js_commands.specs.IncludeOutcome.{Answer}
 use Rattle.js_top.specs.Report.{Report, printed, IsReport}
@@ -98,6 +99,27 @@ IsReadOf told (Some (Valid a d)) left r = Unit {0}
 IsReadOf told (Some (Check a b c w)) left r = IsReadToReport told c w left r
 IsReadOf told (Some (Norm a)) left r = Unit {0}
 IsReadOf told (Some (Gen f n w)) left r = Unit {0}
+
+-- Where a report tells of a failed read and all three files were begun, from those before to those after, or of a
+-- certificate with too many bytes, no whole line that was read before is rejected.
+abbrev pub IsUnrejectedReport : Option Files → (first second certificate : List ℕ) → (left : Option (List ℕ))
+    → (before after : List (List ℕ)) → Report → Type 0
+IsUnrejectedReport told first second certificate left before after r =
+    (r.status ≡ S.ReadFault
+    → after ≡ before ++ (encode_utf8_all first ∷ encode_utf8_all second ∷ encode_utf8_all certificate ∷ [])
+    → IsFaultUnrejected told first second certificate left)
+    × (r.status ≡ S.Refused → r.text ≡ line (codes "refused certificate toolong")
+    → IsTooLongUnrejected told first second certificate left)
+
+abbrev pub IsUnrejectedOf : Option Files → Option Command → (left : Option (List ℕ)) → (before after : List (List ℕ))
+    → Report → Type 0
+IsUnrejectedOf told None left before after r = Unit {0}
+IsUnrejectedOf told (Some (Sat a w)) left before after r = Unit {0}
+IsUnrejectedOf told (Some (Include a b w)) left before after r = Unit {0}
+IsUnrejectedOf told (Some (Valid a d)) left before after r = Unit {0}
+IsUnrejectedOf told (Some (Check a b c w)) left before after r = IsUnrejectedReport told a b c left before after r
+IsUnrejectedOf told (Some (Norm a)) left before after r = Unit {0}
+IsUnrejectedOf told (Some (Gen f n w)) left before after r = Unit {0}
 
 -- no file that couldn't be read is told
 abbrev pub IsNoReadFault : Prepared → Type 0

@@ -11,13 +11,13 @@ use Rattle.js_top.specs.Meaning.{AreNamed, IsAsked, IsRefusal}
 use Rattle.js_top.specs.declared.status.Status.{Status}
 use Rattle.js_top.specs.declared.status.Status.TheVariants.{Other, ReadFault, Memory}
 
--- a fault of reading is told. But `check` by several workers judges the lines that wait before it, and where one of
--- them is rejected that is told, or that memory was refused
+-- a fault of reading is told. But `check` by several workers judges the lines that wait before it, so a rejection may
+-- be told, or that memory was refused
 abbrev pub IsReadNoticed : List (List ℕ) → Status → Type 0
 IsReadNoticed words status = (status ≡ ReadFault) ⊎ (IsCheckBySeveral words × ((status ≡ Other) ⊎ (status ≡ Memory)))
 
 -- a prefix of the report: the one of a failed read where the shelf's count rose, and else the one of the files. Or the
--- shelf's count rose for `check` by several workers, and a line that waited before the failed read is rejected
+-- shelf's count rose for `check` by several workers, and a line is rejected
 abbrev pub WritesPart : Option Files → List (List ℕ) → ℕ → ℕ → Option (List ℕ) → Option (List ℕ) → Type 0
 WritesPart told words before after old new =
     (r : Report) × AppendsPrefix old new r.text

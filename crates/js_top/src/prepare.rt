@@ -49,6 +49,8 @@ ghost use Rattle.js_top.specs.Preparing.{
   ReportSaysBy,
   IsReadToReport,
   IsReadOf,
+  IsUnrejectedReport,
+  IsUnrejectedOf,
   IsNoReadFault,
   IsPrintable,
   report_of,
@@ -119,6 +121,8 @@ pub(crate) fn prepare<R: Threads + Sync, G: Gate + Sync, H: Shelf>(
     ensures memory { OnErr result (CountsRefused (command words.now) (H.faults shelf.old) (H.faults shelf.new)) }
     ensures read { IfOk result (λ p. IsReadOf (H.told shelf.old) (command words.now) (H.left shelf.new)
         (report_of p)) }
+    ensures unrejected { IfOk result (λ p. IsUnrejectedOf (H.told shelf.old) (command words.now) (H.left shelf.new)
+        (H.begun shelf.old) (H.begun shelf.new) (report_of p)) }
     ensures plain { IfOk result (λ x. (p : Plain) → is_plain p ≡ true → words.now ≡ words_of p
         → command words.now ≡ Some (meant p)) }
     ensures fileless { file_names words.now ≡ [] → H.faults shelf.new ≡ H.faults shelf.old }
@@ -149,6 +153,8 @@ fn prepare_command<R: Threads + Sync, G: Gate + Sync, H: Shelf>(
         (H.faults shelf.new)) }
     ensures read { IfOk result (λ p. IsReadOf (H.told shelf.old) (Some (command_view command.now)) (H.left shelf.new)
         (report_of p)) }
+    ensures unrejected { IfOk result (λ p. IsUnrejectedOf (H.told shelf.old) (Some (command_view command.now))
+        (H.left shelf.new) (H.begun shelf.old) (H.begun shelf.new) (report_of p)) }
     ensures fileless { files_of (Some (command_view command.now)) ≡ [] → H.faults shelf.new ≡ H.faults shelf.old }
     ensures made { files_of (Some (command_view command.now)) ≡ [] → IfOk result IsNoReadFault }
     ensures begun { BeginsInOrder (H.told shelf.old) (files_of (Some (command_view command.now)))
@@ -240,6 +246,8 @@ fn prepare_check<R: Threads + Sync, G: Gate + Sync, H: Shelf>(
     ensures memory { OnErr result (SameOrRose workers.now.count (H.faults shelf.old) (H.faults shelf.new)) }
     ensures read { IfOk result (λ p. IsReadToReport (H.told shelf.old) certificate.now workers.now.count
         (H.left shelf.new) (report_of p)) }
+    ensures unrejected { IfOk result (λ p. IsUnrejectedReport (H.told shelf.old) first.now second.now certificate.now
+        (H.left shelf.new) (H.begun shelf.old) (H.begun shelf.new) (report_of p)) }
     ensures begun { BeginsInOrder (H.told shelf.old)
         (encode_utf8_all first.now ∷ encode_utf8_all second.now ∷ encode_utf8_all certificate.now ∷ [])
         (H.begun shelf.old) (H.begun shelf.new) }

@@ -1,6 +1,6 @@
 //! The top call.
 
-ghost use Rattle.std.specs.Prelude.{◌≡◌, ◌≢◌, ◌<◌, [], true, false, Some, None, codes};
+ghost use Rattle.std.specs.Prelude.{◌≡◌, ◌≢◌, ◌<◌, [], ◌++◌, true, false, Some, None, codes};
 ghost use Rattle.std.specs.Io.KnownBytes.{Appends};
 ghost use Rattle.js_outside.specs.Counts.{Rose, Stays, last_count};
 ghost use Rattle.js_outside.specs.Told.{CountsMisses};
@@ -13,11 +13,12 @@ ghost use Rattle.js_top.specs.Correct.{IsCorrect};
 ghost use Rattle.js_top.specs.Judging.{WritesJudgement, WritesDecision, WritesJudgedRefusal};
 ghost use Rattle.verdicts.specs.Verdict.{Accepted};
 ghost use Rattle.js_top.specs.Checking.{IsVerdictWritten, WritesRejection, IsReadNoFurther, WritesCheckRefusal};
+ghost use Rattle.js_top.specs.Unrejected.{IsReadFaultUnrejected, IsRefusalUnrejected};
 ghost use Rattle.js_top.specs.Generating.{WritesSummary};
 ghost use Rattle.js_top.specs.Listing.{WritesNamedTable, WritesListing, WritesNormRefusal};
 ghost use Rattle.js_report.specs.Lines.{line};
 ghost use Rattle.js_top.specs.Running.{IsReadNoticed, WritesPart, WritesReport, WritesMeaning, WritesAsked, WritesRefusal};
-ghost use Rattle.js_top.specs.Meaning.{IsCounterexample, IsWitness, IsRefutation, IsLimit, PassLimit, WhereTold};
+ghost use Rattle.js_top.specs.Meaning.{IsCounterexample, IsWitness, IsRefutation, IsLimit, IsCountedLimit, PassLimit, WhereTold};
 
 use crate::prepare::prepare;
 use crate::status::Status;
@@ -31,9 +32,9 @@ use std::thread::Threads;
 /// Does all that the program does: takes the words, reads the files that they name, decides, and writes the report.
 ///
 /// Nothing is written until the report is complete. `rt` is the runtime on whose threads as many workers as the words
-/// say search, and `gate` is told of each goal where they are several; the report is the same for every number of
-/// workers. Where the shelf tells its files, the report is that of its files; where it tells none, that of some files,
-/// as they were when they were read.
+/// say search or judge, and where they are several `gate` is entered for each goal, or for each entry of a certificate;
+/// the report is the same for every number of workers. Where the shelf tells its files, the report is that of its
+/// files; where it tells none, that of some files, as they were when they were read.
 pub fn run<R: Threads + Sync, G: Gate + Sync, H: Shelf, K: Sink>(
     rt: &R,
     alloc: Global,
@@ -92,6 +93,11 @@ pub fn run<R: Threads + Sync, G: Gate + Sync, H: Shelf, K: Sink>(
     ensures limit { result ≡ Status.Limit → (IsGen words.now → ⊥)
         → WritesMeaning (H.told shelf.old) words.now (K.written sink.old) (K.written sink.new) IsLimit }
 
+    // The kind that is told is one whose count is over its number: at the goal that is told with it, or else of all
+    // goals that were explored.
+    ensures counted { result ≡ Status.Limit → (IsGen words.now → ⊥)
+        → WritesMeaning (H.told shelf.old) words.now (K.written sink.old) (K.written sink.new) IsCountedLimit }
+
     // For the schema of `sat` it means: a document that is valid for it, or that no document with
     // whole numbers is.
     ensures satisfied { result ≡ Status.Done → IsSat words.now
@@ -125,9 +131,20 @@ pub fn run<R: Threads + Sync, G: Gate + Sync, H: Shelf, K: Sink>(
     ensures check_refusal { result ≡ Status.Refused → IsCheck words.now
         → WritesCheckRefusal (H.told shelf.old) words.now (K.written sink.old) (K.written sink.new) }
 
-    // Where a line is rejected, nothing is read behind the piece with which it is whole, or the batch that has it.
+    // Where a line is rejected, with one worker nothing is read behind the piece with which it is whole, and with
+    // several at most 65,535 whole lines and a piece.
     ensures not_read_behind { result ≡ Status.Other
         → IsReadNoFurther (H.told shelf.old) words.now (H.left shelf.new) (K.written sink.old) (K.written sink.new) }
+
+    // Where `check` ends with a failed read of the certificate, or as the certificate has too many bytes, no whole line
+    // that was read before is rejected, for every number of workers. A read fault is the certificate's where all three
+    // files were begun.
+    ensures fault_unrejected { result ≡ Status.ReadFault
+        → H.begun shelf.new ≡ H.begun shelf.old ++ file_names words.now
+        → IsReadFaultUnrejected (H.told shelf.old) words.now (H.left shelf.new) }
+    ensures refusal_unrejected { result ≡ Status.Refused
+        → IsRefusalUnrejected (H.told shelf.old) words.now (H.left shelf.new) (K.written sink.old)
+        (K.written sink.new) }
 
     // The headline of `norm`: where files are told, no fault is counted and memory suffices, a schema gets the text of
     // its core table, of which position 0 holds exactly of the documents that are valid for it.

@@ -7,6 +7,7 @@ use Rattle.js_certificate.specs.FileRead.{StandsForFile}
 use Rattle.js_certificate.specs.ReadBehind.{longest_piece}
 use Rattle.js_certificate.specs.FileVerdicts.{longest_file}
 use Rattle.js_certificate.proofs.FileLemmas.{file_read, file_ended, file_stopped, file_too_long, verdict_same, ok_more, take-front, fault_judged_before, fault_or_memory, counts_rejected, counts_failed, consumed, kept_whole, read_for, behind_before, behind_whole, behind_piece}
+use Rattle.js_certificate.proofs.UnrejectedLemmas.{told_or_memory, memory_alone, cause_unrejected, read_unrejected, too_far_unrejected, memory_unrejected}
 use Rattle.js_certificate.proofs.file.judge_pieces.Goals as goal
 
 pub returns-in-Ok-eq0-clause-verdict : goal.returns-in-Ok-eq0-clause-verdict
@@ -102,6 +103,44 @@ returns-in-Err-take-clause-read g c =
     (consumed _ _ c.deref.result.now c.read.new.into c.in-Ok.count buffer c.in-Ok.ensures.taken.0)
     (behind_piece c.pieces.judge _ _ _ (take c.in-Ok.count c.deref.result.now) c.in-Err-take.fault c.verdict_of.result
     c.in-Err-take.ensures.broken c.verdict_of.ensures) c.pieces.invariant.so_far
+
+-- where it isn't judged to its end
+
+pub returns-in-Err-clause-unrejected : goal.returns-in-Err-clause-unrejected
+returns-in-Err-clause-unrejected g c =
+    cause_unrejected _ _ _ c.verdict_before.result c.verdict_before.ensures.fault c.verdict_before.ensures.unrejected
+    (λ name h. memory_unrejected _ (g.H.Shelf.told c.args.shelf.now) name _)
+    (λ unrejected name h.
+    read_unrejected c.pieces.judge _ _ _ _ _ _ c.pieces.invariant.table c.pieces.invariant.premise
+    c.pieces.invariant.conclusion unrejected (g.H.Shelf.told c.args.shelf.now) name _ _ c.in-Err.ensures.taken
+    (c.pieces.invariant.so_far name h))
+
+pub returns-in-Ok-eq0-clause-unrejected : goal.returns-in-Ok-eq0-clause-unrejected
+returns-in-Ok-eq0-clause-unrejected g c =
+    memory_alone _ c.verdict_at_end.result c.verdict_at_end.ensures.fault
+    (λ name h. memory_unrejected _ (g.H.Shelf.told c.args.shelf.now) name _)
+
+pub returns-then-count-bytes-clause-unrejected : goal.returns-then-count-bytes-clause-unrejected
+returns-then-count-bytes-clause-unrejected g c =
+    let count = length-take-le c.in-Ok.count c.read.new.into c.in-Ok.ensures.within.0 in
+    let filled : length c.read.new.into ≡ vec_len c.pieces.buffer =
+    c.read.auto.into ∙ c.deref_mut.ensures.len in
+    let short : length (take c.in-Ok.count c.read.new.into) ≤ longest_piece =
+    omega (arith, count, filled, c.in-Ok.ensures.within.0, c.pieces.invariant.short) in
+    let long : longest_file < bytes_of c.pieces.judge + length (take c.in-Ok.count c.read.new.into) =
+    omega (arith, count, c.if-count-bytes.true, c.bytes.ensures, c.pieces.invariant.few) in
+    cause_unrejected _ _ _ c.verdict_before-then-count-bytes.result c.verdict_before-then-count-bytes.ensures.fault
+    c.verdict_before-then-count-bytes.ensures.unrejected
+    (λ name h. memory_unrejected _ (g.H.Shelf.told c.args.shelf.now) name _)
+    (λ unrejected name h.
+    too_far_unrejected c.pieces.judge _ _ _ _ _ _ c.pieces.invariant.table c.pieces.invariant.premise
+    c.pieces.invariant.conclusion unrejected (g.H.Shelf.told c.args.shelf.now) name _ _ _ short long
+    c.in-Ok.ensures.taken.0 (c.pieces.invariant.so_far name h))
+
+pub returns-in-Err-take-clause-unrejected : goal.returns-in-Err-take-clause-unrejected
+returns-in-Err-take-clause-unrejected g c =
+    told_or_memory _ c.in-Err-take.fault c.verdict_of.result c.verdict_of.ensures
+    (λ name h. memory_unrejected _ (g.H.Shelf.told c.args.shelf.now) name _)
 
 pub overflow_sub-bytes : goal.overflow_sub-bytes
 overflow_sub-bytes g c = omega (arith, c.bytes.ensures, c.pieces.invariant.few)

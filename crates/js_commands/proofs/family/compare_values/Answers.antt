@@ -18,4 +18,4 @@ returns-in-Read-2 g c =
     (entries_of c.in-Read-2.b) (record { well_formed = of.well_formed; entries = of.entries })
     (record { well_formed = of'.well_formed; entries = of'.entries }) reads reads' c.in_ok-decided-in-Read-2.decided
     c.in_ok-decided-in-Read-2.ensures.answer c.in_ok-decided-in-Read-2.ensures.certificate
-    c.in_ok-decided-in-Read-2.ensures.means
+    c.in_ok-decided-in-Read-2.ensures.means c.in_ok-decided-in-Read-2.ensures.counted

@@ -8,6 +8,7 @@ use Rattle.js_guard.specs.RankedView.{entries_of}
 use Rattle.js_expander.specs.Found.{finders}
 use Rattle.js_decide.specs.View.{verdict_view, decided_view}
 use Rattle.js_decide.specs.Certified.{HasCertificate}
+use Rattle.js_decide.specs.Counted.{IsCounted}
 use Rattle.js_inclusion.proofs.MeaningLaws.{means-verdict}
 use Rattle.js_inclusion.proofs.TableLaws.{over-both}
 use Rattle.js_inclusion.proofs.comparing.compare.Goals as goal
@@ -39,3 +40,9 @@ returns-clause-means g c =
     c.in_ok-core.at_b.0 c.in_ok-core.ensures.positions c.in_ok-core.ensures.first c.in_ok-core.ensures.second
     (λ T m n. Means (finders T) T most_goals most_total m n (verdict_view c.in_ok-decided.decided.verdict))
     c.in_ok-decided.ensures.means)
+
+pub returns-clause-counted : goal.returns-clause-counted
+returns-clause-counted g c =
+    over-both (entries_of c.args.a.now) (entries_of c.args.b.now) c.in_ok-core.core.positions c.in_ok-core.at_a.0
+    c.in_ok-core.at_b.0 c.in_ok-core.ensures.positions c.in_ok-core.ensures.first c.in_ok-core.ensures.second
+    (λ T m n. IsCounted T m n (verdict_view c.in_ok-decided.decided.verdict)) c.in_ok-decided.ensures.counted
