@@ -60,14 +60,21 @@ const TWO_INTEGERS: &str =
 #[test]
 fn goals_of_a_wave_meet(rt: HostRuntime) -> Result<(), Memory> {
     let alloc = rt.alloc();
-    let words = words_of(alloc, "sat a --workers 2")?;
-    let mut shelf = MemoryShelf::new(two_files(alloc, TWO_INTEGERS.as_bytes(), b"")?);
-    let mut sink = MemorySink::new(alloc, ROOM)?;
-    let gate = Meeting::new(1, 2);
-    let status = run(&rt, alloc, words.as_slice(), &gate, &mut shelf, &mut sink).code();
-    let wanted = (0, "document\n{\"p0\":0,\"p1\":1}\n");
-    expect_written(&rt, (status, sink.written()), wanted);
-    assert!(rt; gate.was_met());
+    let document = "document\n{\"p0\":0,\"p1\":1}\n";
+    let summary = "generated tree 1\ngoals 3\nrounds 1\ncertificate 2\n";
+    for (line, answer) in [
+        ("sat a --workers 2", (0, document)),
+        ("include a b --workers 2", (1, document)),
+        ("gen tree 1 --workers 2", (0, summary)),
+    ] {
+        let words = words_of(alloc, line)?;
+        let mut shelf = MemoryShelf::new(two_files(alloc, TWO_INTEGERS.as_bytes(), b"false")?);
+        let mut sink = MemorySink::new(alloc, ROOM)?;
+        let gate = Meeting::new(1, 2);
+        let status = run(&rt, alloc, words.as_slice(), &gate, &mut shelf, &mut sink).code();
+        expect_written(&rt, (status, sink.written()), answer);
+        assert!(rt; gate.was_met());
+    }
     Ok(())
 }
 
