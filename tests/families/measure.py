@@ -1,15 +1,16 @@
 #!/usr/bin/env python3
 """Measures `jsat gen` on its four families, and prints the table of `docs/performance.md`: measure.py [WORKERS].
 
-JSAT names the program. Each row is the least processor time of five runs, with the memory that one held, what was
-printed, how many times the row before it the time is, and the bytes that `include` prints of the family's schemas,
-which are written here by their definition. It needs GNU `time`."""
+JSAT names the program. Each row is the least processor time and the least wall time of five runs, with the memory that
+one held, what was printed, how many times the row before it the processor time is, and the bytes that `include` prints
+of the family's schemas, which are written here by their definition. It needs GNU `time`."""
 import json
 import os
 import resource
 import subprocess
 import sys
 import tempfile
+import time
 
 JSAT = os.environ.get('JSAT', 'jsat')
 SIZES = {'chain': (1, 10, 100, 1000), 'tree': (1, 10, 100, 1000), 'wide': (2, 25, 50, 100, 200),
@@ -63,13 +64,13 @@ def spent():
 
 
 def run(words):
-    """The processor time in seconds, and the lines of one run."""
-    start = spent()
+    """The processor time and the wall time in seconds, and the lines of one run."""
+    start, began = spent(), time.monotonic()
     ran = subprocess.run(words, capture_output=True, text=True, check=False)
-    seconds = spent() - start
+    wall, seconds = time.monotonic() - began, spent() - start
     if ran.returncode not in (0, 1):
         sys.exit('%s ended with %d: %s' % (' '.join(words), ran.returncode, ran.stdout))
-    return seconds, ran.stdout.splitlines()
+    return seconds, wall, ran.stdout.splitlines()
 
 
 def memory(words):
@@ -87,20 +88,21 @@ def rows(workers):
         last = None
         for number in sizes:
             words = [JSAT, 'gen', family, str(number), '--workers', workers]
-            seconds, lines = min(run(words) for _ in range(RUNS))
+            runs = [run(words) for _ in range(RUNS)]
+            seconds, wall, lines = min(it[0] for it in runs), min(it[1] for it in runs), runs[0][2]
             told = dict(line.split(' ', 1) for line in lines[1:3])
             ratio = '-' if last is None else '%.1f' % (seconds / last)
-            yield (family, number, told['goals'], told['rounds'], lines[3], shown_time(seconds), ratio,
+            yield (family, number, told['goals'], told['rounds'], lines[3], shown_time(seconds), shown_time(wall), ratio,
                    '%.1f MB' % (memory(words) / 1e6), '{:,}'.format(printed(family, number)))
             last = seconds
 
 
 def main():
     workers = sys.argv[1] if len(sys.argv) > 1 else '1'
-    print('| Family | N | Goals | Rounds | Answer | Time | Times the row above | Memory | Bytes |')
-    print('|---|---|---|---|---|---|---|---|---|')
+    print('| Family | N | Goals | Rounds | Answer | Time | Wall time | Times the row above | Memory | Bytes |')
+    print('|---|---|---|---|---|---|---|---|---|---|')
     for row in rows(workers):
-        print('| `%s` | %d | %s | %s | %s | %s | %s | %s | %s |' % row, flush=True)
+        print('| `%s` | %d | %s | %s | %s | %s | %s | %s | %s | %s |' % row, flush=True)
 
 
 if __name__ == '__main__':

@@ -20,6 +20,7 @@ HEADLINE = 'crates/js_top/specs/Correct.antt'
 PAGE = 'docs/trust.md'
 ROOT = os.path.dirname(os.path.dirname(os.path.dirname(os.path.abspath(__file__))))
 USE = re.compile(r'^\s*(?:pub )?use Rattle\.(\w+)\.(specs|proofs)\.([\w.]+?)(?:\.\{(.*)\}| as (\S+)|)\s*$', re.M)
+PASSED_ON = re.compile(r'^pub use Rattle\.(\w+)\.(specs|proofs)\.([\w.]+)$', re.M)
 DEFINED = r'^ *(?:(?:abbrev|unfoldable)(?: pub)?|(?:pub )?(?:data|record)) %s(?![^\s(:])'
 NAME = re.compile(r'[^\s(){},;.]+')
 KIT = 'of the kit'
@@ -31,13 +32,23 @@ def text_of(path):
         return file.read()
 
 
+def passed_on(crate, folder):
+    """The modules of other crates that a crate passes on under its own name, with where they are."""
+    path = 'crates/%s/%s/Lib.antt' % (crate, folder)
+    text = text_of(path) if os.path.exists(os.path.join(ROOT, path)) else ''
+    return {module: (other, part) for other, part, module in PASSED_ON.findall(text)}
+
+
 def file_of(crate, folder, module):
-    """The file of a module, or of the module that it is a part of."""
+    """The file of a module, or of the module that it is a part of, in this crate or in one that it passes on."""
     parts = module.split('.')
     for length in range(len(parts), 0, -1):
+        name = '.'.join(parts[:length])
         found = 'crates/%s/%s/%s.antt' % (crate, folder, '/'.join(parts[:length]))
         if os.path.exists(os.path.join(ROOT, found)):
             return found
+        if name in passed_on(crate, folder):
+            return file_of(*passed_on(crate, folder)[name], name)
     return None
 
 
@@ -57,8 +68,10 @@ def imports(path, text, is_whole):
         used = named.intersection(re.split(r', *', names.replace('◌', '')) if names else [alias])
         is_own = os.path.isdir(os.path.join(ROOT, 'crates', crate))
         found = file_of(crate, folder, module) if is_own else crate
-        if module.startswith('declared.') or found is None:
+        if module.startswith('declared.'):
             continue
+        if found is None:
+            raise SystemExit('%s: the import of %s of %s leads to no file' % (path, module, crate))
         if folder == 'specs' and (is_whole or used):
             yield found
         elif folder == 'proofs' and is_own:
