@@ -170,10 +170,19 @@ class Campaign:
         if run.status in (0, 1) and Draft6Validator(schema).is_valid(document) != (run.status == 0):
             yield run, 'another validator says otherwise'
 
+    def by_workers(self, words):
+        """The words, with a number of workers or without one."""
+        count = self.random.choice([None, None, '1', '2', '4', '64'])
+        return words if count is None else words + ['--workers', count]
+
     def search(self):
+        """The first schema in the second, or whether it has a document, which is to ask for it in `false`."""
         first, second = self.chooser.pair()
+        words = ['include', 'a', 'b']
+        if self.random.random() < 0.2:
+            words, second = ['sat', 'a'], False
         files = {'a': json.dumps(first).encode(), 'b': json.dumps(second).encode()}
-        run = self.run(['include', 'a', 'b'], **files)
+        run = self.run(self.by_workers(words), **files)
         yield from ((run, fault) for fault in run.faults())
         if run.report().startswith('document'):
             document = json.loads(run.report().split('\n', 1)[1])
@@ -193,7 +202,7 @@ class Campaign:
     def against(self, files, certificate, has_document):
         """The certificate is judged. `has_document`: whether only the first schema accepts some document, None where
         that isn't known."""
-        run = self.run(['check', 'a', 'b', 'c'], **files, c=certificate)
+        run = self.run(self.by_workers(['check', 'a', 'b', 'c']), **files, c=certificate)
         yield from ((run, fault) for fault in run.faults())
         if has_document is not None and (run.status == 0) == has_document:
             yield run, 'accepted beside a document' if has_document else 'what was printed is rejected'

@@ -153,7 +153,7 @@ def main():
                 size += os.path.getsize(os.path.join(folder, words[-1]))
             ended, printed, seconds, memory = measured(program, words, folder)
         answer = ' '.join(printed.split('\n')[0].split()[:3])[:40]
-        print('| %s | `%s` | %s | `%s`, status %d | %s | %.2g MB |'
+        print('| %s | `%s` | %s | `%s`, status %d | %s | %.3g MB |'
               % (what, command, f'{size:,}', answer, ended, time_text(seconds), memory / 1e6), flush=True)
         if ended != status or not printed.startswith(begins) or seconds > MOST_SECONDS:
             wrong.append('%s: status %d, and not %d; printed %r' % (name, ended, status, printed[:80]))

@@ -54,6 +54,8 @@ def commands(jsat, folder):
     for name in files:
         yield [jsat, 'sat', name]
         yield [jsat, 'norm', name]
+        # (a schema is a document too)
+        yield [jsat, 'valid', name, name]
     for before in glob.glob(os.path.join(EXAMPLES, '*', 'before.json')):
         for after in glob.glob(os.path.join(os.path.dirname(before), '[aci]*.json')):
             for pair in ((before, after), (after, before)):
