@@ -487,7 +487,7 @@ LIMITS = [
     at('array', {'contains': NULL}, items=[True] * 1024, minItems=1024, maxItems=1024),
     at('array', {'anyOf': [{'contains': NULL, 'items': [True] * 1024, 'minItems': 1024}, {'items': NULL}]},
         maxItems=1024),
-    # several limits, of which the first one is told
+    # several limits, of which the first one is reported
     {'allOf': [{'multipleOf': 18446744073709551557}, {'multipleOf': 18446744073709551533}], 'minItems': 65537},
     {'anyOf': [at('array', minItems=65537), at('array', *({'contains': {'minimum': k}} for k in range(10)))]},
     {'anyOf': [at('array', *({'contains': {'minimum': k}} for k in range(10))), at('array', minItems=65537),
@@ -526,7 +526,7 @@ OBJECT_LIMITS = [
     served_by_each(12, '^a$'), served_by_each(12, 'a', minProperties=3, maxProperties=2),
     # places
     {'type': 'object', **served_by_two(16)},
-    # several limits, of which the first one is told
+    # several limits, of which the first one is reported
     {'anyOf': [at('object', minProperties=65537), served_by_each(12, 'a')]},
     {'anyOf': [served_by_each(12, 'a'), at('object', minProperties=65537), at('object', required=['a'])]},
     {'anyOf': [at('array', minItems=65537), served_by_each(12, 'a')]}, served_by_each(12, 'a', minProperties=65537),

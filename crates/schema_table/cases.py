@@ -120,7 +120,7 @@ read('{"type":[]}', 'invalid')
 read('{"required":[],"properties":{},"patternProperties":{},"dependencies":{},"items":[]}')
 read('{"required":["a","a"],"type":["null","null"],"enum":[null,null]}')
 
-# ---- values in the place of a schema are told after the keywords of their object
+# ---- values in the place of a schema are reported after the keywords of their object
 refuse('{"allOf":[5]}', 'notaschema "/allOf/0"')
 refuse('{"allOf":[true,null]}', 'notaschema "/allOf/1"')
 refuse('{"items":[1]}', 'notaschema "/items/0"')

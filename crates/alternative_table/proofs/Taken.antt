@@ -7,6 +7,7 @@ use Rattle.goals.specs.Goal.{form}
 use Rattle.expander_laws.specs.Expander.{takes}
 use Rattle.expander_laws.proofs.Laws.{formed_taken}
 
+-- in a table with a position, the expander takes the goal that is formed of +0 alone
 pub first_taken : (T : List Position) (ranks : List ℕ) → is_table T ranks ≡ true → 0 < length T
     → (x : Signed) → x ≡ Plus 0 → (g : List Signed) → form T (x ∷ []) ≡ Some g → takes T ranks g ≡ true
 first_taken T ranks table some x e g formed =

@@ -1,4 +1,4 @@
-//! The alternatives of the goal that a schema asks for.
+//! The alternatives of the goal of a schema.
 
 use crate::text::expansion_text;
 use js_algebra::{Core, Pos, Signed, form};
@@ -8,7 +8,8 @@ use js_guard::{Guarded, guard};
 use js_json::{JsonFault, read_json};
 use js_keywords::SchemaFault;
 use js_normal::normalise;
-use js_schema::{Schema, read_schema};
+use js_reader::read_schema;
+use js_schema::Schema;
 use std::alloc::Global;
 
 /// What is printed for a schema, given as JSON text: the alternatives of the goal that position 0 of its table holds.

@@ -148,7 +148,7 @@ fn push_slot(slot: Slot, text: &mut String) -> Result<(), Memory> {
     Ok(())
 }
 
-/// The signed positions of a goal, or a star where it asks nothing.
+/// The signed positions of a goal, or a star where it requires nothing.
 fn push_goal(goal: &Goal, text: &mut String) -> Result<(), Memory> {
     if goal.as_slice().is_empty() {
         text.push('*')?;

@@ -41,7 +41,7 @@ one_word_short = refl
 one_cell_short : has_words (two_words ∷ []) example ≡ false
 one_cell_short = refl
 
--- its member stands before what the filler of that cell adds
+-- its member comes before what the filler of that cell adds
 its_slots : slots_of example ≡ Name 1 0 ∷ Name 0 0 ∷ Name 0 1 ∷ Name 1 1 ∷ []
 its_slots = refl
 

@@ -4,7 +4,7 @@ use Rattle.documents.specs.Tests.{every}
 use Rattle.documents.specs.Kind.{Kind}
 use Rattle.goals.specs.Signed.{Signed}
 
--- where something stands: at an index of an array; or under a name of an object, by its cell and its place in the cell
+-- where something is: at an index of an array; or under a name of an object, by its cell and its place in the cell
 pub data Slot : Type 0 where
   Index : ℕ → Slot
   Name : ℕ → ℕ → Slot

@@ -64,7 +64,7 @@ has_different_slots a = are_different same_slot (slots_of a)
 abbrev pub has_different_words : List (List (List ℕ)) → Bool
 has_different_words cells = are_different same_word (flat_map (λ words. words) cells)
 
--- an element stands at an index, a member under a name, and a scalar has neither
+-- an element is at an index, a member under a name, and a scalar has neither
 abbrev pub fits_slot : Shape → Slot → Bool
 fits_slot Elements (Index i) = true
 fits_slot Members (Name c k) = true

@@ -36,7 +36,7 @@ module _ (T : List Position) (frame : Frame) (d : ℕ) where
     pub deep : depth J ≤ d
     pub met : meets T (list_at frame s.0 s.1) J ≡ true
 
-  -- a document for each slot, which stand in order from number j on
+  -- a document for each slot, which are in order from number j on
   abbrev pub AreFor : ℕ → List Slot → List Document → Type 0
   AreFor j [] [] = Unit {0}
   AreFor j (s ∷ ss) (J ∷ Js) = (s.0 ≡ stand frame.heads j) × IsFor s J × AreFor (suc j) ss Js
@@ -56,7 +56,7 @@ module _ (T : List Position) (frame : Frame) (d : ℕ) where
   for_append j [] rs (J ∷ Js) Ks a b = absurd a
   for_append j (s ∷ ss) rs [] Ks a b = absurd a
 
-  -- each document stands where its slot does
+  -- each document is where its slot is
   pub for_at : (j : ℕ) (ss : List Slot) (Js : List Document) → AreFor j ss Js → (i : ℕ) → i < length Js
       → (ds : List Signed) × IsFor (stand frame.heads (j + i), ds) (doc_at Js i)
   for_at j [] [] a i l = absurd (omega (arith, l))
@@ -196,10 +196,6 @@ module _ (T : List Position) (ok : IsTable T) (S : List Signed) (d : ℕ) (q : P
   many [] m i = absurd i
   many (x ∷ ms) m i = refl
 
-  some_members : (ms : List Member) → with_members (longest T S) ms ≤ longest T S + length ms
-  some_members [] = omega arith
-  some_members (x ∷ ms) = omega arith
-
   none_more : (ms : List Member) → (length ms ≡ 0) ⊎ (with_members (longest T S) ms ≡ longest T S + length ms)
   none_more [] = inl refl
   none_more (x ∷ ms) = inr refl
@@ -272,7 +268,7 @@ module _ (T : List Position) (ok : IsTable T) (S : List Signed) (d : ℕ) (q : P
             (e ∙ ap (stand (longest T S)) (zero-add n)) (serving_met T (array_frame T S) d s (doc_at es n) f x j),
       )
 
-  -- the array that is built is arranged as the frame asks
+  -- the array that is built is arranged as the frame requires
   pub built_arranged : IsArranged T (array_frame T S) (arrangement T (longest T S) es)
   built_arranged = record {
     low = omega (arith, count_is);

@@ -1,5 +1,5 @@
--- An array meets a literal exactly where its count is within the literal's bounds, its elements meet what it asks of
--- each at its place, and some element serves it where it asks for one.
+-- An array meets a literal exactly where its count is within the literal's bounds, its elements meet what it requires
+-- of each at its place, and some element serves it where it requires one.
 use Rattle.std.proofs.Common.{◌≡◌, ℕ, suc, ◌<◌, ◌≤◌, Bool, true, false, not, List, length, None, refl, ap, sym, subst, arith}
 use Rattle.std.proofs.lemmas.Bool.{and_parts, and_from, leb-true, leb-false, le-leb, lt-leb, not-false, not-true}
 use Rattle.documents.specs.Tests.{some}
@@ -13,7 +13,7 @@ use Rattle.goals.specs.Signed.{meets}
 use Rattle.goals.specs.Choices.{plus_choices, minus_choices, plus_wrong, minus_wrong}
 use Rattle.frames.specs.Frame.{is_at_end}
 use Rattle.frames.specs.ArrayFrame.{prefix_of, index_of, item_at, is_empty, plus_each, minus_each, plus_serving, minus_serving, plus_lower, minus_lower, plus_below, minus_below}
-use Rattle.list_laws.proofs.Tests.{some_find, some_from, some_none, none_at}
+use Rattle.list_laws.proofs.Tests.{some_find, some_from, none_from, none_at}
 use Rattle.array_laws.specs.ArrayValues.{stand, doc_at}
 use Rattle.array_laws.proofs.Lists.{doc_in, in_doc, item_stand, items_at, items_from, items_fail, items_not}
 
@@ -145,7 +145,7 @@ module _ (T : List Position) (here : ℕ → Bool) (ds : D.Items) (n : ℕ) wher
       (subst (λ i. holds T i (doc_at (elements ds) j) ≡ false) (item_stand ps r n j p)
       (not-true (holds T (item_at ps r (number_of j)) (doc_at (elements ds) j))
       (and_parts (not (holds T (item_at ps r (number_of j)) (doc_at (elements ds) j))) true h).0)))
-  from_minus (Contains q) p c w k = ap not (some_none (holds T q) (elements ds) (λ J i.
+  from_minus (Contains q) p c w k = ap not (none_from (holds T q) (elements ds) (λ J i.
       let (j, l, e) = in_doc J (elements ds) i in
       subst (λ z. holds T q z ≡ false) e
       (not-true (holds T q (doc_at (elements ds) j))

@@ -1,4 +1,4 @@
--- An array meets the literals of a set exactly where its elements are arranged as the set's frame asks.
+-- An array meets the literals of a set exactly where its elements are arranged as the set's frame requires.
 use Rattle.std.proofs.Common.{◌≡◌, ℕ, ◌<◌, ◌≤◌, max, inl, inr, ⊎_elim, Bool, true, false, ◌||◌, not, List, [], ◌∷◌, flat_map, length, Option, Some, None, refl, ap, sym, ◌∙◌, subst, arith}
 use Rattle.std.proofs.lemmas.Bool.{or_parts, or_from, lt-ltb, le-ltb}
 use Rattle.std.specs.Option.{is_none}
@@ -17,7 +17,7 @@ use Rattle.goal_laws.proofs.Forms.{meets-form}
 use Rattle.frames.specs.Frame.{Place, Head, In, is_at_end}
 use Rattle.frames.specs.ArrayFrame.{prefix_of, longest, each, serving, is_demand, plus_lower, minus_lower, lower, plus_below, minus_below, below, lesser, array_frame}
 use Rattle.list_laws.specs.In.{IsIn}
-use Rattle.list_laws.proofs.Lists.{every_at, every_from, from_flat_map, in_flat_map, to_filter}
+use Rattle.list_laws.proofs.Lists.{every_at, every_from, from_flat_map, in_flat_map, in_filter}
 use Rattle.frame_laws.proofs.Arranged.{Arrangement, IsInside, IsArranged}
 use Rattle.list_laws.proofs.Tests.{from_filter}
 use Rattle.array_laws.specs.ArrayValues.{stand, doc_at}
@@ -137,7 +137,7 @@ module _ (T : List Position) (ok : IsTable T) (S : List Signed) (ds : D.Items) w
     served_at (Plus p) i w = (plus_at p i).served w
     served_at (Minus p) i w = (minus_at p i).served w
 
-    -- an array that meets the set has its elements arranged as the set's frame asks
+    -- an array that meets the set has its elements arranged as the set's frame requires
     pub is_arranged : IsArranged T (array_frame T S) (arrangement T (longest T S) (elements ds))
     is_arranged = record {
       low = lower_from T S (length (elements ds)) low_at;
@@ -164,7 +164,7 @@ module _ (T : List Position) (ok : IsTable T) (S : List Signed) (ds : D.Items) w
 
     served_of : (d : Signed) → IsIn d S → is_demand T d ≡ true → (j : ℕ) × (j < length (elements ds))
         × (meets T (serving T (longest T S) (stand (longest T S) j) d) (doc_at (elements ds) j) ≡ true)
-    served_of d i w = let (j, l, e, h) = k.served d (to_filter (is_demand T) d S i w) in (j, l, h)
+    served_of d i w = let (j, l, e, h) = k.served d (in_filter (is_demand T) d S i w) in (j, l, h)
 
     as_plus : (p : ℕ) → IsIn (Plus p) S → IsPlus T here ds (longest T S) (position_at T p)
     as_plus p i = record {

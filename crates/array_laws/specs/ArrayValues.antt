@@ -7,7 +7,7 @@ use Rattle.frames.specs.Frame.{Place, Head, In, Frame}
 use Rattle.frames.specs.Plan.{Plan, need}
 use Rattle.frames.specs.Fillers.{fillers, goals, child_of, fill}
 
--- where an element stands: at its first place, or in the cell of those past them
+-- where an element is: at its first place, or in the cell of those past them
 abbrev pub stand : ℕ → ℕ → Place
 stand n j = cond (nat_lt j n) (Head j) (In 0)
 

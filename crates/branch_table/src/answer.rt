@@ -1,4 +1,4 @@
-//! The branches of the goal that one schema or two ask for.
+//! The branches of the goal of one schema or of two.
 
 ghost use Rattle.std.specs.Prelude.{◌≡◌, ◌<◌, ◌^◌, true, length, map, IfOk, IfSome};
 ghost use Rattle.js_algebra.specs.View.{signed_view, are_in_table};
@@ -10,7 +10,8 @@ use js_guard::{Guarded, guard};
 use js_json::{JsonFault, read_json};
 use js_keywords::SchemaFault;
 use js_normal::{join_tables, normalise};
-use js_schema::{Schema, read_schema};
+use js_reader::read_schema;
+use js_schema::Schema;
 use std::alloc::Global;
 
 /// What is printed for a line: a schema's goal is that it is met, and that of two that the first is met and the second

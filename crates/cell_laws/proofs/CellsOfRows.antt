@@ -1,4 +1,4 @@
--- The cells of rows are cells: each name is in one, which tells what is said of it; the words of a cell are different
+-- The cells of rows are cells: each name is in one, which says what is said of it; the words of a cell are different
 -- names of it.
 use Rattle.std.proofs.Common.{◌≡◌, ℕ, suc, ◌<◌, ◌≤◌, ◌⊎◌, inl, inr, Bool, true, false, cond, List, [], ◌∷◌, ◌++◌, map, length, nat_eq, if◌then◌else◌, Option, Some, None, is_some, refl, ap, ap₂, sym, ◌∙◌, subst, arith}
 use Rattle.std.specs.Bool.{beq}
@@ -75,7 +75,7 @@ place_at v (u ∷ vs) i = go (same_vector v u) refl i (place_at v vs) where
       let f : same_vector v u ≡ true = subst (λ z. same_vector v z ≡ true) q (same_vector-refl v) in cc
   go false e (inr i) more = let (l, h) = more i in (omega (arith, l), h)
 
--- a vector tells what a literal says
+-- a vector has what a literal says
 
 unsaid : (T : List Position) (x : Signed) (w : List ℕ) → is_some (formula_of (position_at T (position_of x))) ≡ false
     → says T x w ≡ false

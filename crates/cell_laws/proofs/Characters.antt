@@ -1,6 +1,5 @@
 -- The characters of words meet what is required of a list of them, and the numbers of the product are great enough.
 use Rattle.std.proofs.Common.{◌≡◌, ℕ, ◌+◌, ◌*◌, ◌<◌, ◌≤◌, inl, inr, List, [], ◌∷◌, true, refl, arith}
-use Rattle.std.proofs.lemmas.Bool.{cases_lt}
 use Rattle.patterns.specs.CharSet.{is_scalar, group_of}
 use Rattle.word_states.specs.Classes.{ordered_below, characters}
 use Rattle.word_laws.proofs.Classes.{ordered_has, ordered_only, scalar_below}
@@ -48,22 +47,3 @@ rising_ordered (c ∷ cs) s r =
 
 pub ordered : (n : ℕ) → IsOrdered (λ c d. rank c < rank d) (ordered_below n)
 ordered n = rising_ordered (ordered_below n) (scalars n) (ordered_rising n)
-
--- characters of one rank are one
-pub rank_apart : (c d : ℕ) → is_scalar c ≡ true → is_scalar d ≡ true → rank c ≡ rank d → c ≡ d
-rank_apart c d s t e = ranks (group_of c) (group_of d) c d (scalar_below c s) (scalar_below d t) e where
-  ranks : (g h c d : ℕ) → c < 0x110000 → d < 0x110000 → g * 0x110000 + c ≡ h * 0x110000 + d → c ≡ d
-  ranks g h c d k l e = omega (arith, k, l, e)
-
-pub ranks_apart : (c d : ℕ) → IsIn c characters → IsIn d characters → rank c ≡ rank d → c ≡ d
-ranks_apart c d i j e =
-    rank_apart c d (ordered_only 0x110000 c i) (ordered_only 0x110000 d j) e
-
-pub rank_before : (c d : ℕ) → is_scalar c ≡ true → is_scalar d ≡ true → rank c < rank d → O.Before c d
-rank_before c d s t e = elim (cases_lt (group_of c) (group_of d)) [
-  | inl l ↦ inl l
-  | inr l ↦ inr (ranks (group_of c) (group_of d) c d (scalar_below c s) (scalar_below d t) e l)
-] where
-  ranks : (g h c d : ℕ) → c < 0x110000 → d < 0x110000 → g * 0x110000 + c < h * 0x110000 + d → h ≤ g
-      → (g ≡ h) × (c < d)
-  ranks g h c d k l e m = (omega (arith, k, l, e, m), omega (arith, k, l, e, m))

@@ -19,7 +19,7 @@ sum_less : (f g : ℕ → ℕ) (cs : List ℕ) → ((c : ℕ) → IsIn c cs → 
 sum_less f g [] h = omega arith
 sum_less f g (c ∷ cs) h = omega (arith, h c (inl refl), sum_less f g cs (λ d i. h d (inr i)))
 
--- labels that are the same at rows ask the same
+-- labels that are the same at rows require the same
 pub asked_by_like : (rows classes : ℕ) (width : ℕ → ℕ) (target : ℕ → ℕ → ℕ) (in_cell : ℕ → Bool)
     (within : (r k : ℕ) → r < rows → k < classes → target r k < rows) (f g : ℕ → ℕ) → ((r : ℕ) → r < rows → f r ≡ g r)
     → (r : ℕ) → r < rows
@@ -37,16 +37,6 @@ asked_widths classes v w target p q f h t r =
     ap₂ (λ b z. cond b 1 0 + z) (t r)
     (sum_to_same classes (λ k. v k * f (target r k)) (λ k. w k * f (target r k))
     (λ k m. ap (λ z. z * f (target r k)) (h k m)))
-
-pub number_widths : (classes : ℕ) (v w : ℕ → ℕ) (target : ℕ → ℕ → ℕ) (p : ℕ → Bool) (bound : ℕ)
-    → ((k : ℕ) → k < classes → v k ≡ w k)
-    → (n r : ℕ) → number_by classes v target p bound n r ≡ number_by classes w target p bound n r
-number_widths classes v w target p bound h zero r = refl
-number_widths classes v w target p bound h (suc n) r =
-    ap (λ z. min bound (cond (p r) 1 0 + z))
-    (sum_to_same classes (λ k. v k * number_by classes v target p bound n (target r k))
-    (λ k. w k * number_by classes w target p bound n (target r k))
-    (λ k m. ap₂ (λ a b. a * b) (h k m) (number_widths classes v w target p bound h n (target r k))))
 
 -- the label of a row is at least the sum of its targets' labels by width, and one more where the row is in the cell
 abbrev pub KeepsRule : (rows classes : ℕ) (width : ℕ → ℕ) (target : ℕ → ℕ → ℕ) (in_cell : ℕ → Bool) (label : ℕ → ℕ)
@@ -69,7 +59,7 @@ module _ (letters : List ℕ) (class : ℕ → ℕ) (target : ℕ → ℕ → �
   asked_same label r =
       ap (λ z. cond (in_cell r) 1 0 + z) (by_class classes class (λ k. label (target r k)) letters classed)
 
-  -- labels that are the same at rows ask the same
+  -- labels that are the same at rows require the same
   pub asked_like : (f g : ℕ → ℕ) → ((r : ℕ) → r < rows → f r ≡ g r) → (r : ℕ) → r < rows
       → asked_by classes (width class letters) target in_cell f r ≡ asked_by classes (width class letters) target
       in_cell g r
@@ -117,7 +107,7 @@ module _ (letters : List ℕ) (class : ℕ → ℕ) (target : ℕ → ℕ → �
     small : (b x : ℕ) → min b x < b → min b x ≡ x
     small b x l = grind (arith, l)
 
-    -- a row whose number isn't cut: the number of words of any length, which is what its targets ask
+    -- a row whose number isn't cut: the number of words of any length, which is what its targets require
     pub uncut : (r : ℕ) → r < rows → number letters to in_cell bound far r < bound
         → asked_by classes (width class letters) target in_cell (number letters to in_cell bound far) r ≡ number
         letters to in_cell bound far r

@@ -1,26 +1,20 @@
 -- The first words of a test: different, all pass it, in order, no word that passes it is left out before one of them;
 -- and where their number isn't cut there are no others.
-use Rattle.std.proofs.Common.{◌≡◌, ℕ, zero, suc, ◌*◌, ◌≤◌, ◌<◌, min, inl, inr, List, [], ◌∷◌, map, filter, take, cond, ⊎_elim, length, Bool, true, false, refl, ap, sym, ◌∙◌, subst, arith}
+use Rattle.std.proofs.Common.{◌≡◌, ℕ, zero, suc, ◌*◌, ◌≤◌, ◌<◌, inl, inr, List, [], ◌∷◌, map, filter, take, cond, ⊎_elim, length, Bool, true, false, refl, ap, sym, ◌∙◌, subst, arith}
 use Rattle.std.specs.List.{list_all}
 use Rattle.std.proofs.lemmas.Bool.{cases_lt, and_parts}
-use Rattle.std.proofs.lemmas.List.{length-take, take_all}
 use Rattle.patterns.specs.CharSet.{is_scalar}
 use Rattle.word_states.specs.Atom.{Atom}
 use Rattle.word_states.specs.WordState.{have_same_state}
 use Rattle.cell_laws.specs.FirstWords.{Before, IsOrdered, AreFirst}
 use Rattle.cell_laws.proofs.WordLaws as G
 use Rattle.list_laws.specs.In.{IsIn, Distinct}
-use Rattle.list_laws.proofs.Lists.{in_left, in_right, in_append, in_flat_map, from_flat_map, in_map, from_map, in_take, to_filter}
+use Rattle.list_laws.proofs.Lists.{in_left, in_right, from_append, in_flat_map, from_flat_map, in_map, from_map, from_take, in_filter}
 use Rattle.cells.specs.WordsInOrder.{of_length, shorter}
 use Rattle.cell_laws.proofs.WordsInOrderLaws.{shorter_differ}
 use Rattle.list_laws.proofs.Tests.{from_filter}
 use Rattle.cell_laws.specs.RowTables.{IsRowOf, LeadsOn}
 use Rattle.cell_laws.proofs.Tables as T
-
-differ_take : {A : Type 0} (n : ℕ) (xs : List A) → Distinct xs → Distinct (take n xs)
-differ_take zero xs d = tt
-differ_take (suc n) [] d = tt
-differ_take (suc n) (x ∷ xs) d = ((λ i. d.0 (in_take n x xs i)), differ_take n xs d.1)
 
 differ_filter : {A : Type 0} (p : A → Bool) (xs : List A) → Distinct xs → Distinct (filter p xs)
 differ_filter p [] d = tt
@@ -50,7 +44,7 @@ module _ (characters : List ℕ) (whole : (c : ℕ) → is_scalar c ≡ true →
   shorter_is (suc n) w i = ⊎_elim
       (λ j. let l = shorter_is n w j in omega (arith, l))
       (λ j. let l = of_length_is n w j in omega (arith, l))
-      (in_append w (shorter characters n) (of_length characters n) i)
+      (from_append w (shorter characters n) (of_length characters n) i)
 
   -- each word shorter than n is listed
   pub shorter_has : (n : ℕ) (w : List ℕ) → list_all is_scalar w ≡ true → length w < n → IsIn w (shorter characters n)
@@ -80,12 +74,8 @@ module _ (atoms : List Atom) (L : List (List ℕ)) (target : ℕ → ℕ → ℕ
         let (a, b) = from_filter p w (shorter characters far) i in
         (T.below_words atoms L target leads p shared characters different scalars whole far w a, b)
 
-    -- the first n are different words that pass
-    pub first_differ : (n : ℕ) → Distinct (take n passing)
-    first_differ n = differ_take n passing passing_differ
-
     pub first_pass : (n : ℕ) (w : List ℕ) → IsIn w (take n passing) → (list_all is_scalar w ≡ true) × (p w ≡ true)
-    first_pass n w i = passing_is w (in_take n w passing i)
+    first_pass n w i = passing_is w (from_take n w passing i)
 
     -- by length, and then by the order of characters; with each of them all that are before it and pass
     module _ (rank : ℕ → ℕ) (ordered : IsOrdered (λ c d. rank c < rank d) characters) where
@@ -113,15 +103,11 @@ module _ (atoms : List Atom) (L : List (List ℕ)) (target : ℕ → ℕ → ℕ
           ) b
 
     module _ (bound : ℕ) (enough : length L * bound ≤ far) where
-      -- up to the cut number there are as many as requested
-      pub first_length : (n : ℕ) → n ≤ min bound (length passing) → length (take n passing) ≡ n
-      first_length n l = let e = length-take n passing in grind (arith, e, l)
-
       -- where the number isn't cut, each word that passes is listed
       pub all_passing : length passing < bound → (w : List ℕ) → list_all is_scalar w ≡ true → p w ≡ true
           → IsIn w passing
       all_passing l w s t = elim (cases_lt (length w) far) [
-        | inl m ↦ to_filter p w (shorter characters far) (shorter_has characters whole far w s m) t
+        | inl m ↦ in_filter p w (shorter characters far) (shorter_has characters whole far w s m) t
         | inr m ↦
             let q : suc (length passing) ≤ length passing =
             T.no_others atoms L target leads p shared characters different scalars whole bound far enough start []
@@ -136,20 +122,6 @@ module _ (atoms : List Atom) (L : List (List ℕ)) (target : ℕ → ℕ → ℕ
             (λ j. passing_is v j) i) in
             absurd (omega (arith, q))
       ]
-
-      -- so the first words are all words, where as many are requested as there are
-      pub first_all : (n : ℕ) → n ≡ min bound (length passing) → n < bound → (w : List ℕ)
-          → list_all is_scalar w ≡ true → p w ≡ true
-          → IsIn w (take n passing)
-      first_all n e l w s t =
-          let low : length passing < bound = below bound (length passing) n e l in
-          let all : take n passing ≡ passing = take_all n passing (most bound (length passing) n e l) in
-          subst (λ z. IsIn w z) (sym all) (all_passing low w s t) where
-            below : (b x n : ℕ) → n ≡ min b x → n < b → x < b
-            below b x n e l = grind (arith, e, l)
-
-            most : (b x n : ℕ) → n ≡ min b x → n < b → x ≤ n
-            most b x n e l = grind (arith, e, l)
 
       -- where some word passes, the first word is no longer
       module _ (rank : ℕ → ℕ) (ordered : IsOrdered (λ c d. rank c < rank d) characters) (some : 0 < bound) where

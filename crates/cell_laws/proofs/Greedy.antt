@@ -1,8 +1,8 @@
 -- The first word of a cell, letter by letter. Distances to the cell that no relaxation lowers are the lengths of
 -- shortest words; so the first letter whose target is nearer begins the first word.
-use Rattle.std.proofs.Common.{◌≡◌, ℕ, suc, ◌≤◌, ◌<◌, ◌⊎◌, inl, inr, List, [], ◌∷◌, Bool, length, refl, ap, sym, subst, arith}
+use Rattle.std.proofs.Common.{◌≡◌, ℕ, suc, ◌≤◌, ◌<◌, ◌⊎◌, inl, inr, List, [], ◌∷◌, Bool, length, ap, sym, subst, arith}
 use Rattle.cell_laws.specs.Leading.{Leads}
-use Rattle.cell_laws.specs.FirstWords.{IsRelaxed, IsLeast, IsGreedy}
+use Rattle.cell_laws.specs.FirstWords.{IsRelaxed, IsLeast}
 use Rattle.cell_laws.proofs.WordLaws as F
 use Rattle.std.proofs.Common.{◌++◌}
 use Rattle.list_laws.specs.In.{IsIn}
@@ -42,18 +42,3 @@ module _ (rank : ℕ → ℕ) (letters : List ℕ) (to : ℕ → ℕ → ℕ) (i
         before (inr (inl m)) = let a = low b i in let c : rank (first k) ≡ rank (first (class b)) =
             ap (λ z. rank (first z)) m in absurd (omega (arith, a, c, l))
         before (inr (inr m)) = m
-
-  -- a loop that builds the word: what is built, before any greedy word of the row it has come to, is greedy from the
-  -- first
-  pub greedy_more : (built : List ℕ) (r c : ℕ) (first : ℕ)
-      → ((w : List ℕ) → IsGreedy rank letters to in_cell far r w
-      → IsGreedy rank letters to in_cell far first (built ++ w))
-      → IsIn c letters → far r ≡ suc (far (to r c))
-      → ((b : ℕ) → IsIn b letters → rank b < rank c → far r ≤ far (to r b))
-      → (w : List ℕ) → IsGreedy rank letters to in_cell far (to r c) w
-      → IsGreedy rank letters to in_cell far first ((built ++ c ∷ []) ++ w)
-  greedy_more built r c first more i e n w g =
-      subst (λ z. IsGreedy rank letters to in_cell far first z) (joined built) (more (c ∷ w) (i, e, n, g)) where
-        joined : (built : List ℕ) → built ++ c ∷ w ≡ (built ++ c ∷ []) ++ w
-        joined [] = refl
-        joined (x ∷ built) = ap (λ z. x ∷ z) (joined built)

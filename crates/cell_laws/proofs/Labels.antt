@@ -89,20 +89,6 @@ module _ (atoms : List Atom) (L : List (List ℕ)) (target : ℕ → ℕ → ℕ
       lettered r l = let (w, s, e) =
           reached r l in (w, T.letters_of atoms L target leads p shared characters different scalars whole w s, e)
 
-      -- no printed number is cut: each is a number of words, below the bound
-      pub printed_down : (r : ℕ) → r < length L → (printed r ≤ length (filter p (shorter characters far)))
-          × (printed r < bound)
-      printed_down r l =
-          let h = C.none_cut characters (class_of atoms) target in_cell (length L) (class_count atoms) classed within
-          bound far enough start first.0 lettered start_low r l in
-          let e = counted start [] first bound far in
-          let q = printed_number r l in
-          both (printed r) (number characters to in_cell bound far r) (number characters to in_cell bound far start)
-          bound
-          (length (filter p (shorter characters far))) q h e low where
-            both : (a n m b x : ℕ) → a ≡ n → n ≤ m → m ≡ min b x → x < b → (a ≤ x) × (a < b)
-            both a n m b x q h e l = (grind (arith, q, h, e, l), grind (arith, q, h, e, l))
-
       -- and they keep the rule with equality
       pub printed_equal : (r : ℕ) → r < length L
           → asked_by (class_count atoms) widths target in_cell printed r ≡ printed r

@@ -3,19 +3,19 @@
 use Rattle.std.proofs.Common.{ℕ, zero, suc, inl, inr, ⊎_elim, List, [], ◌∷◌, ◌++◌, map, take, Bool, refl, sym, subst}
 use Rattle.cell_laws.specs.Leading.{Leads, AllLead}
 use Rattle.list_laws.specs.In.{Distinct, IsIn}
-use Rattle.list_laws.proofs.Lists.{in_append, in_take}
+use Rattle.list_laws.proofs.Lists.{from_append, from_take}
 
 pub distinct_take : {A : Type 0} (n : ℕ) (xs : List A) → Distinct xs → Distinct (take n xs)
 distinct_take zero xs d = tt
 distinct_take (suc n) [] d = tt
-distinct_take (suc n) (a ∷ xs) d = ((λ i. d.0 (in_take n a xs i)), distinct_take n xs d.1)
+distinct_take (suc n) (a ∷ xs) d = ((λ i. d.0 (from_take n a xs i)), distinct_take n xs d.1)
 
 -- two lists without repeats that share no element make one without repeats
 pub distinct_append : {A : Type 0} (xs ys : List A) → Distinct xs → Distinct ys
     → ((x : A) → IsIn x xs → IsIn x ys → ⊥) → Distinct (xs ++ ys)
 distinct_append [] ys d e h = e
 distinct_append (x ∷ xs) ys d e h = (
-  (λ i. ⊎_elim (λ l. d.0 l) (λ r. h x (inl refl) r) (in_append x xs ys i)),
+  (λ i. ⊎_elim (λ l. d.0 l) (λ r. h x (inl refl) r) (from_append x xs ys i)),
   distinct_append xs ys d.1 e
       (λ z i j. h z (inr i) j),
 )

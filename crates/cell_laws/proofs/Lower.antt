@@ -8,7 +8,7 @@ use Rattle.list_laws.proofs.Counts.{sum_over}
 use Rattle.cell_laws.proofs.Lists.{distinct_take, distinct_append, lead_take, lead_append, lead_map}
 use Rattle.cell_laws.proofs.Upper.{upper}
 use Rattle.list_laws.specs.In.{Distinct, IsIn}
-use Rattle.list_laws.proofs.Lists.{in_append, from_map}
+use Rattle.list_laws.proofs.Lists.{from_append, from_map}
 
 abbrev head_or : ℕ → List ℕ → ℕ
 head_or d [] = d
@@ -62,7 +62,7 @@ module _ (letters : List ℕ) (to : ℕ → ℕ → ℕ) (in_cell : ℕ → Bool
         lead_append letters to in_cell r (map (λ w. c ∷ w) ws) vs
             (lead_map letters to in_cell r c ws (sub c (inl refl)) h) g,
         (λ w i. ⊎_elim (λ l. let (v, _, p) = from_map (λ w. c ∷ w) w ws l in (c, v, p, inl refl))
-            (λ j. let (a, u, q, s) = b w j in (a, u, q, inr s)) (in_append w (map (λ w. c ∷ w) ws) vs i)),
+            (λ j. let (a, u, q, s) = b w j in (a, u, q, inr s)) (from_append w (map (λ w. c ∷ w) ws) vs i)),
       )
 
   -- where each target has as many words as its label, the row has as many as are required of it

@@ -10,7 +10,7 @@ use Rattle.list_laws.proofs.Counts.{sum_over}
 use Rattle.cell_laws.proofs.Lists.{lead_at}
 use Rattle.cell_laws.specs.FirstWords.{Lex, Before, IsOrdered, AreFirst, of_length, pick, word_at, count_of}
 use Rattle.list_laws.specs.In.{IsIn}
-use Rattle.list_laws.proofs.Lists.{in_append, in_right}
+use Rattle.list_laws.proofs.Lists.{from_append, in_right}
 use Rattle.list_laws.proofs.Numbers.{three_ways}
 
 module _ (letters : List ℕ) (to : ℕ → ℕ → ℕ) (in_cell : ℕ → Bool) where
@@ -132,7 +132,7 @@ module _ (rank : ℕ → ℕ) (letters : List ℕ)
         let h = lead_at letters to in_cell r v (P ++ v ∷ V) a.1 (in_right v P (v ∷ V) (inl refl)) in
         let same : Before rank v v → ⊥ = λ m. asym v v m m in
         let i = b.2 v w (in_right w P (w ∷ W) (inl refl)) h l in
-        elim (in_append v P (w ∷ W) i) [
+        elim (from_append v P (w ∷ W) i) [
           | inl j ↦ same ((ordered_parts P (v ∷ V) a.0).0 v v j (inl refl))
           | inr (inl e) ↦ same (subst (λ z. Before rank v z) (sym e) l)
           | inr (inr j) ↦ asym v w l ((ordered_parts P (w ∷ W) b.0).1.0 v j)

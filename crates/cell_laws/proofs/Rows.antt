@@ -9,7 +9,7 @@ use Rattle.word_states.specs.Classes.{class_firsts}
 use Rattle.word_states.specs.WordState.{have_same_state}
 use Rattle.word_states.specs.Rows.{AreRows, row_of, targets_of, longer_by_one}
 use Rattle.std.proofs.lemmas.List.{get_or-map}
-use Rattle.list_laws.proofs.Lists.{in_get}
+use Rattle.list_laws.proofs.Lists.{get_or-in}
 use Rattle.word_laws.proofs.Places.{place_below, place_same}
 use Rattle.word_laws.proofs.Mentions as M
 use Rattle.word_laws.proofs.Classes.{firsts_scalar}
@@ -40,8 +40,8 @@ module _ (atoms : List Atom) (L : List (List ℕ)) (rows : AreRows atoms L) wher
       subst (λ z. IsRowOf atoms L (v ++ f ∷ []) z)
       (sym (get_or-map (λ c. row_of atoms L (v ++ c ∷ [])) (class_firsts atoms) k 0 0 m))
       (row_is (v ++ f ∷ [])
-      (all_end v f (rows_words atoms L rows v (in_get L r [] l))
-      (firsts_scalar atoms f (in_get (class_firsts atoms) k 0 m))))
+      (all_end v f (rows_words atoms L rows v (get_or-in L r [] l))
+      (firsts_scalar atoms f (get_or-in (class_firsts atoms) k 0 m))))
 
   -- a word has no other row
   pub one_row : (w : List ℕ) (r q : ℕ) → IsRowOf atoms L w r → IsRowOf atoms L w q → r ≡ q
@@ -71,7 +71,7 @@ module _ (atoms : List Atom) (L : List (List ℕ)) (rows : AreRows atoms L) wher
       × (walk (T.to atoms L (target_in atoms L) leads_on) 0 w ≡ r)
   row_reached r l =
       let w = get_or L r [] in
-      let s = rows_words atoms L rows w (in_get L r [] l) in (
+      let s = rows_words atoms L rows w (get_or-in L r [] l) in (
         w,
         s,
         one_row w (walk (T.to atoms L (target_in atoms L) leads_on) 0 w) r

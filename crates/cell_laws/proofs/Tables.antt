@@ -6,27 +6,20 @@ use Rattle.patterns.specs.CharSet.{is_scalar}
 use Rattle.word_states.specs.Atom.{Atom}
 use Rattle.word_states.specs.Classes.{are_alike, dividers, class_firsts, class_count, class_of}
 use Rattle.word_states.specs.WordState.{word_state, have_same_state}
-use Rattle.word_states.specs.Rows.{signature_of}
 use Rattle.word_laws.proofs.Places.{place_below, place_same}
 use Rattle.word_laws.proofs.Classes.{alike_laws, firsts_have}
 use Rattle.word_laws.proofs.States.{state_decides, same_laws}
-use Rattle.word_laws.proofs.StateSteps.{state_next, state_truth}
+use Rattle.word_laws.proofs.StateSteps.{state_next}
 use Rattle.cell_laws.specs.Leading.{AllIn, AllLead, walk}
 use Rattle.cell_laws.proofs.Lists.{lead_all}
 use Rattle.cell_laws.specs.FirstWords as F
 use Rattle.list_laws.specs.In.{IsIn, Distinct}
-use Rattle.list_laws.proofs.Lists.{from_flat_map, from_map, in_append}
+use Rattle.list_laws.proofs.Lists.{from_flat_map, from_map, from_append}
 use Rattle.cells.specs.WordsInOrder.{of_length, shorter}
 use Rattle.cell_laws.specs.Counting.{count}
 use Rattle.cell_laws.specs.RowTables.{IsRowOf, LeadsOn}
 use Rattle.cell_laws.proofs.Listed.{filter_same, listed}
 use Rattle.cell_laws.proofs.Settled.{count_is, at_most}
-
--- what the truths of the atoms determine is such a test
-pub told_shared : (atoms : List Atom) (f : List Bool → Bool) (v w : List ℕ) → have_same_state atoms v w ≡ true
-    → f (signature_of atoms v) ≡ f (signature_of atoms w)
-told_shared atoms f v w e =
-    ap f (state_truth atoms v w ((state_decides (word_state atoms v) (word_state atoms w)).0 e))
 
 module _ (atoms : List Atom) (L : List (List ℕ)) (target : ℕ → ℕ → ℕ) (leads : LeadsOn atoms L target) where
   -- the row to which a character leads
@@ -87,7 +80,7 @@ module _ (atoms : List Atom) (L : List (List ℕ)) (target : ℕ → ℕ → ℕ
       below_words zero w i = absurd i
       below_words (suc n) w i =
           ⊎_elim (λ j. below_words n w j) (λ j. shorter_words n w j)
-          (in_append w (shorter characters n) (of_length characters n) i)
+          (from_append w (shorter characters n) (of_length characters n) i)
 
       -- the words after which a word passes the test are those that lead from its row to such a row
       pub passed : (r : ℕ) (u : List ℕ) → IsRowOf atoms L u r → (n : ℕ)

@@ -1,4 +1,4 @@
--- The order of words, by length and then by the ranks of their letters. Words listed by length stand in it, the first n
+-- The order of words, by length and then by the ranks of their letters. Words listed by length are in it, the first n
 -- of them are the first words of the cell, and no word of the cell is before a greedy one.
 use Rattle.std.proofs.Common.{◌≡◌, ℕ, zero, suc, ◌≤◌, ◌<◌, ◌⊎◌, inl, inr, ⊎_elim, List, [], ◌∷◌, ◌++◌, map, take, Bool, true, false, cond, length, refl, ap, sym, subst, arith}
 use Rattle.std.specs.List.{flat_map}
@@ -6,13 +6,13 @@ use Rattle.cell_laws.specs.Leading.{walk, Leads}
 use Rattle.cell_laws.proofs.Lists.{lead_all}
 use Rattle.cell_laws.specs.FirstWords.{Lex, Before, IsOrdered, AreFirst, of_length, shorter, IsRelaxed, IsGreedy}
 use Rattle.list_laws.specs.In.{IsIn}
-use Rattle.list_laws.proofs.Lists.{in_left, in_right, in_append, in_map, from_map, in_take}
+use Rattle.list_laws.proofs.Lists.{in_left, in_right, from_append, in_map, from_map, from_take}
 
 ordered_append : {A : Type 0} (R : A → A → Type 0) (xs ys : List A) → IsOrdered R xs → IsOrdered R ys
     → ((x y : A) → IsIn x xs → IsIn y ys → R x y) → IsOrdered R (xs ++ ys)
 ordered_append R [] ys a b h = b
 ordered_append R (x ∷ xs) ys a b h = (
-  (λ y i. ⊎_elim (λ l. a.0 y l) (λ r. h x y (inl refl) r) (in_append y xs ys i)),
+  (λ y i. ⊎_elim (λ l. a.0 y l) (λ r. h x y (inl refl) r) (from_append y xs ys i)),
   ordered_append R xs ys a.1 b
       (λ u v i j. h u v (inr i) j),
 )
@@ -26,7 +26,7 @@ ordered_more R Q (x ∷ xs) f h =
 ordered_take : {A : Type 0} (R : A → A → Type 0) (n : ℕ) (xs : List A) → IsOrdered R xs → IsOrdered R (take n xs)
 ordered_take R zero xs h = tt
 ordered_take R (suc n) [] h = tt
-ordered_take R (suc n) (x ∷ xs) h = ((λ y i. h.0 y (in_take n y xs i)), ordered_take R n xs h.1)
+ordered_take R (suc n) (x ∷ xs) h = ((λ y i. h.0 y (from_take n y xs i)), ordered_take R n xs h.1)
 
 -- of what is ordered, a member before one of the first n is one of them
 take_down : {A : Type 0} (R : A → A → Type 0) (irr : (x y : A) → R x y → R y x → ⊥) (n : ℕ) (xs : List A) (v w : A)
@@ -90,7 +90,7 @@ module _ (rank : ℕ → ℕ) where
           let n : length w ≡ suc (length v) = ap length q in
           (subst (λ z. Leads letters to in_cell r z) (sym q) ((s c (inl refl), g.0), g.1), omega (arith, n, e)))
           (λ j. go cs (λ b i. s b (inr i)) j more)
-          (in_append w _ _ i)
+          (from_append w _ _ i)
 
     module _ (ordered : IsOrdered (λ c d. rank c < rank d) letters) where
       ordered_of : (m r : ℕ) → IsOrdered (Lex rank) (of_length letters to in_cell m r)
@@ -116,7 +116,7 @@ module _ (rank : ℕ → ℕ) where
         begins y [] i = absurd i
         begins y (c ∷ cs) i =
             ⊎_elim (λ l. let (v, k, q) = from_map (λ w. c ∷ w) y _ l in (c, v, q, inl refl))
-            (λ j. let (b, v, q, k) = begins y cs j in (b, v, q, inr k)) (in_append y _ _ i)
+            (λ j. let (b, v, q, k) = begins y cs j in (b, v, q, inr k)) (from_append y _ _ i)
 
         go : (cs : List ℕ) → IsOrdered (λ c d. rank c < rank d) cs
             → ((r : ℕ) → IsOrdered (Lex rank) (of_length letters to in_cell m r))
@@ -135,7 +135,7 @@ module _ (rank : ℕ → ℕ) where
       from_shorter (suc m) r w i =
           ⊎_elim (λ l. let (h, n) = from_shorter m r w l in (h, omega (arith, n)))
           (λ j. let (h, n) = From m r w j in (h, omega (arith, n)))
-          (in_append w (shorter letters to in_cell m r) _ i)
+          (from_append w (shorter letters to in_cell m r) _ i)
 
       in_shorter : (m r : ℕ) (w : List ℕ) → Leads letters to in_cell r w → length w < m
           → IsIn w (shorter letters to in_cell m r)
@@ -164,9 +164,9 @@ module _ (rank : ℕ → ℕ) where
           → AreFirst rank letters to in_cell r (take n (shorter letters to in_cell m r))
       first_of_shorter n m r = (
         ordered_take (Before rank) n _ (ordered_shorter m r),
-        lead_all letters to in_cell r _ (λ w i. (from_shorter m r w (in_take n w _ i)).0),
+        lead_all letters to in_cell r _ (λ w i. (from_shorter m r w (from_take n w _ i)).0),
         λ v w i h b. take_down (Before rank) asym n _ v w (ordered_shorter m r) i
-            (in_shorter m r v h (let k = (from_shorter m r w (in_take n w _ i)).1 in short v w k b)) b,
+            (in_shorter m r v h (let k = (from_shorter m r w (from_take n w _ i)).1 in short v w k b)) b,
       )
         where
           short : (v w : List ℕ) → length w < m → Before rank v w → length v < m

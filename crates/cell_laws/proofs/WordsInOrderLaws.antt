@@ -3,7 +3,7 @@ use Rattle.std.proofs.Common.{◌≡◌, ℕ, zero, suc, ◌<◌, inl, inr, ⊎_
 use Rattle.std.proofs.lemmas.Bool.{and_from}
 use Rattle.documents.specs.Tests.{every, is_scalar}
 use Rattle.list_laws.specs.In.{IsIn, Distinct}
-use Rattle.list_laws.proofs.Lists.{in_append, from_map, from_flat_map}
+use Rattle.list_laws.proofs.Lists.{from_append, from_map, from_flat_map}
 use Rattle.cells.specs.WordsInOrder.{of_length, shorter}
 use Rattle.list_laws.proofs.Tests.{from_filter}
 
@@ -21,7 +21,7 @@ differ_append : {A : Type 0} (xs ys : List A) → Distinct xs → Distinct ys �
     → Distinct (xs ++ ys)
 differ_append [] ys d e h = e
 differ_append (x ∷ xs) ys d e h = (
-  (λ i. ⊎_elim d.0 (λ j. h x (inl refl) j) (in_append x xs ys i)),
+  (λ i. ⊎_elim d.0 (λ j. h x (inl refl) j) (from_append x xs ys i)),
   differ_append xs ys d.1 e (λ y i j. h y (inr i) j),
 )
 
@@ -70,7 +70,7 @@ module _ (characters : List ℕ) (different : Distinct characters)
   shorter_is (suc n) w i = ⊎_elim
       (λ j. let (l, s) = shorter_is n w j in (omega (arith, l), s))
       (λ j. let (l, s) = of_length_is n w j in (omega (arith, l), s))
-      (in_append w (shorter characters n) (of_length characters n) i)
+      (from_append w (shorter characters n) (of_length characters n) i)
 
   pub shorter_differ : (n : ℕ) → Distinct (shorter characters n)
   shorter_differ zero = tt

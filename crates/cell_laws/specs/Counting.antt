@@ -17,7 +17,7 @@ abbrev pub sum_to : ℕ → (ℕ → ℕ) → ℕ
 sum_to zero f = 0
 sum_to (suc n) f = f n + sum_to n f
 
--- what the labels of its targets ask of a row, by class and width
+-- what the labels of its targets require of a row, by class and width
 abbrev pub asked_by : (classes : ℕ) (width : ℕ → ℕ) (target : ℕ → ℕ → ℕ) (in_cell : ℕ → Bool) (label : ℕ → ℕ) (r : ℕ)
     → ℕ
 asked_by classes width target in_cell label r =

@@ -12,7 +12,7 @@ IsOf T C c w = (every is_scalar w ≡ true) × (cell_of T C w ≡ c)
 
 -- what the cells of a set have to be
 pub record AreCells (T : List Position) (S : List Signed) (C : Cells) : Type 0 where
-  -- each name has a cell, which tells what the literals of the set say of it
+  -- each name has a cell, which gives what the literals of the set say of it
   pub known : (w : List ℕ) → every is_scalar w ≡ true → cell_of T C w < length C.vectors
   pub exact : (x : Signed) (w : List ℕ) → IsIn x S → every is_scalar w ≡ true → truth C (cell_of T C w) x ≡ says T x w
 

@@ -39,7 +39,7 @@ vector_at [] c = []
 vector_at (v ∷ vs) zero = v
 vector_at (v ∷ vs) (suc c) = vector_at vs c
 
--- what the vector tells of the literal
+-- what the vector says of the literal
 abbrev pub told : List Signed → List Bool → Signed → Bool
 told [] v x = false
 told (y ∷ xs) [] x = false

@@ -32,7 +32,7 @@ cut_from n (p ∷ q ∷ ps) = cond (fits p) (begun n (line_of p) (cut_from (suc 
 abbrev pub cut : List ℕ → Cut
 cut bytes = cut_from 1 (pieces 10 bytes)
 
--- the reader stands where the bytes are cut: it gave these lines but for the one that waits, which is the last of them
+-- the reader is where the bytes are cut: it gave these lines but for the one that waits, which is the last of them
 pub record Stands (bytes : List ℕ) (ls : List Line) (r : Reader) : Type 0 where
   pub cut : cut bytes ≡ record { lines = ls; left = r.held; fault = r.fault }
   pub count : r.taken ≡ length ls

@@ -1,5 +1,5 @@
--- What a reader must believe: the lines of a certificate, the text of each, which bytes are the text of lines, and what
--- a reader of bytes stands at after each piece.
+-- What a reader must believe: the lines of a certificate, the text of each, which bytes are the text of lines, and
+-- where a reader of bytes is after each piece.
 pub mod Line
 pub mod Text
 pub mod Reader

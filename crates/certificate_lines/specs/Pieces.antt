@@ -9,7 +9,7 @@ pieces_on b w (x ∷ xs) = cond (nat_eq x b) (w ∷ pieces_on b [] xs) (pieces_o
 abbrev pub pieces : ℕ → List ℕ → List (List ℕ)
 pieces b xs = pieces_on b [] xs
 
--- what stands before the first byte `b` and behind it, after w was read; none where there is no such byte
+-- what comes before the first byte `b` and behind it, after w was read; none where there is no such byte
 abbrev pub split_on : ℕ → List ℕ → List ℕ → Option (List ℕ × List ℕ)
 split_on b w [] = None
 split_on b w (x ∷ xs) = cond (nat_eq x b) (Some (w, xs)) (split_on b (w ++ x ∷ []) xs)

@@ -1,4 +1,4 @@
--- A reader of lines: what it stands at, and what each piece of bytes makes of it.
+-- A reader of lines: where it is, and what each piece of bytes makes of it.
 use Rattle.std.specs.Prelude.{ℕ, suc, ◌+◌, List, [], ◌∷◌, ◌++◌, length, Bool, true, false, cond, Option, Some, None}
 use Rattle.certificate_lines.specs.Line.{Line}
 use Rattle.certificate_lines.specs.Text.{fits}

@@ -57,7 +57,7 @@ kind_of_word xs = kind_among all_kinds xs
 abbrev pub ending_of : List ℕ → Option Ending
 ending_of xs = cond (is_word (codes "clash") xs) (Some Clashes) (headed (codes "goal ") number_of Cites xs)
 
--- nothing stands before the first blank
+-- nothing comes before the first blank
 abbrev pub after_first : List (List ℕ) → Option (List (List ℕ))
 after_first ([] ∷ ps) = Some ps
 after_first _ = None

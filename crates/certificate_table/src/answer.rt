@@ -1,4 +1,4 @@
-//! The verdict that a line asks for.
+//! The verdict that a line requests.
 
 ghost use Rattle.std.specs.Prelude.{◌<◌, ◌^◌, length, IfOk, IfSome};
 
@@ -9,7 +9,8 @@ use js_guard::{Guarded, guard};
 use js_json::{JsonFault, read_json};
 use js_keywords::SchemaFault;
 use js_normal::{join_tables, normalise};
-use js_schema::{Schema, read_schema};
+use js_reader::read_schema;
+use js_schema::Schema;
 use std::alloc::Global;
 use std::thread::Threads;
 

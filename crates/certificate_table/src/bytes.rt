@@ -3,14 +3,14 @@
 use js_doc::{Json, Memory};
 use std::alloc::Global;
 
-/// Bytes, and how often they stand.
+/// Bytes, and how often they come.
 #[derive(Drop)]
 pub(crate) struct Piece {
     pub bytes: Vec<u8>,
     pub times: u32,
 }
 
-/// The bytes of a piece: a text stands once, and a list of a text and a number so often. None of any other value.
+/// The bytes of a piece: a text comes once, and a list of a text and a number so often. None of any other value.
 pub(crate) fn piece_of(alloc: Global, json: &Json) -> Result<Option<Piece>, Memory> {
     match json {
         Json::Text(text) => piece_of_text(alloc, text.as_text(), 1),

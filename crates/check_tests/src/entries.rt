@@ -57,7 +57,7 @@ fn set(lines: &mut Vec<CertLine>, at: usize, line: CertLine) {
     }
 }
 
-/// What is told of lines by so many workers.
+/// What is reported of lines by so many workers.
 fn told<R: Threads + Sync>(
     rt: &R,
     alloc: Global,
@@ -92,7 +92,7 @@ fn two_entries_at_once(rt: HostRuntime) -> Result<(), Fail> {
         Ok(())
     );
     assert_eq!(rt; checker.finish(), Ok(Accepted));
-    assert!(rt; gate.was_met());
+    assert!(rt; gate.was_each_met());
     Ok(())
 }
 
@@ -112,11 +112,11 @@ fn one_worker_asks_for_no_thread(rt: HostRuntime) -> Result<(), Fail> {
         Ok(())
     );
     assert_eq!(rt; checker.finish(), Ok(Accepted));
-    assert!(rt; gate.was_met());
+    assert!(rt; gate.was_each_met());
     Ok(())
 }
 
-/// The first fault is told, whatever the number of workers.
+/// The first fault is reported, whatever the number of workers.
 #[test]
 fn the_first_fault_is_told(rt: HostRuntime) -> Result<(), Fail> {
     let core = table(rt.alloc())?;

@@ -4,7 +4,7 @@ use Rattle.std.proofs.lemmas.Bool.{and_parts, and_from, ltb-false}
 use Rattle.documents.specs.Tests.{every}
 use Rattle.goals.specs.Signed.{Signed}
 use Rattle.list_laws.specs.In.{IsIn, Distinct}
-use Rattle.list_laws.proofs.Lists.{every_at, every_from, in_append}
+use Rattle.list_laws.proofs.Lists.{every_at, every_from, from_append}
 use Rattle.cell_laws.proofs.Lists.{distinct_append}
 use Rattle.alternatives.specs.Alternative.{named, places}
 use Rattle.alternatives.specs.Limit.{LimitKind, Goals, Total}
@@ -68,7 +68,7 @@ module _ (most most_total : ℕ) (expansion : List Signed → Expansion) (good :
       differ = distinct_append s.goals (g ∷ []) h.differ ((λ i. i), tt) (fresh e);
       are_good = every_from good (s.goals ++ g ∷ []) (λ x i. ⊎_elim (λ j. every_at good x s.goals h.are_good j)
           (λ j. ⊎_elim (λ q. subst (λ z. good z ≡ true) (sym q) good_g) (λ z. absurd z) j)
-          (in_append x s.goals (g ∷ []) i));
+          (from_append x s.goals (g ∷ []) i));
     }
     go false false e f = record {
       limits = with_goals s.over h.limits;

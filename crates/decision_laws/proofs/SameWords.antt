@@ -1,45 +1,30 @@
--- The words of a branch by its cells are those by its set, where an alternative names them: so parts and decisions are
--- the same by either.
-use Rattle.std.proofs.Common.{◌≡◌, ℕ, ◌<◌, ◌≤◌, ◌⊎◌, inl, inr, Bool, true, false, cond, nat_lt, List, [], ◌∷◌, map, length, take, get_or, Option, Some, None, Result, Ok, Err, is_some, slice_get, refl, ap, ap₂, sym, ◌∙◌, subst, arith}
-use Rattle.std.proofs.lemmas.Bool.{cases_lt}
-use Rattle.std.proofs.lemmas.List.{get_or_past}
+-- Parts and decisions are the same by the words of cells and by those of sets, since these agree where an alternative
+-- names them.
+use Rattle.std.proofs.Common.{◌≡◌, ℕ, inl, inr, Bool, true, false, cond, nat_lt, List, [], ◌∷◌, map, length, take, Option, Some, None, Ok, is_some, slice_get, refl, ap, ap₂, sym, subst}
 use Rattle.documents.specs.Kind as K
 use Rattle.documents.specs.Kind.{Kind}
-use Rattle.shared_documents.specs.Part.{Part}
 use Rattle.shared_documents.specs.Part as P
 use Rattle.positions.specs.Position.{Position}
 use Rattle.positions.specs.Holds.{IsTable}
 use Rattle.goals.specs.Signed.{Signed}
-use Rattle.goals.specs.Tree as G
 use Rattle.goal_laws.specs.Saturated.{IsSaturated}
 use Rattle.list_laws.specs.In.{IsIn}
-use Rattle.list_laws.proofs.Lists.{from_flat_map, in_slice}
+use Rattle.list_laws.proofs.Lists.{from_flat_map, slice_get-in}
 use Rattle.cells.specs.Cells.{Cells}
 use Rattle.alternatives.specs.Alternative as Alt
-use Rattle.alternatives.specs.Alternative.{Slot, Index, Name, Shape, Alternative}
-use Rattle.alternatives.specs.Limit.{LimitKind}
-use Rattle.alternatives.specs.Slots.{word_at}
+use Rattle.alternatives.specs.Alternative.{Shape, Alternative}
 use Rattle.alternatives.specs.Expansion.{Expansion}
-use Rattle.expansions.specs.Leaves.{Finders, leaf, name, names_of, word_of, words_of}
+use Rattle.expansions.specs.Leaves.{Finders, leaf, words_of}
 use Rattle.expansions.specs.Expansion.{expansion}
-use Rattle.expansions.specs.DocumentOf.{slot_name, by_branch}
+use Rattle.expansions.specs.DocumentOf.{by_branch}
 use Rattle.expansion_laws.proofs.Containers.{IsCells}
-use Rattle.expansion_laws.proofs.Goals.{get_is}
-use Rattle.expansion_laws.proofs.Origins.{IsFrom, origin}
 use Rattle.search.specs.Explored.{Found, explored}
 use Rattle.search.specs.Rounds.{NumberedPlaced, Numbered, number_members, with_members, numbered, alternatives_at, alternatives_of}
 use Rattle.search.specs.Uses.{satisfied, last_round, chosen_in, chosen, contents, used_goals}
 use Rattle.search.specs.Witness.{sorted, place_in, named, by_shape, of_goal, part, parts}
-use Rattle.expander_laws.specs.Expander.{text_cells, name_cells, set_cells, branch_cells}
-use Rattle.expander_laws.proofs.Alternatives.{cell_is, cells_many, of_branch}
-use Rattle.expander_laws.proofs.Laws.{branch_saturated}
+use Rattle.expander_laws.specs.Expander.{branch_cells, words_by}
+use Rattle.expander_laws.proofs.Words.{Agree, slot_same, words_agree}
 use Rattle.decisions.specs.Decision.{Document, by_limits, first_hole, of_found, of_root}
-
--- words of a branch that agree where an alternative of a shape names them
-abbrev pub Agree : Shape → (ℕ → ℕ → List ℕ) → (ℕ → ℕ → List ℕ) → Type 0
-Agree Alt.Text v w = v 0 0 ≡ w 0 0
-Agree Alt.Members v w = (c k : ℕ) → v c k ≡ w c k
-Agree s v w = Unit {0}
 
 -- parts
 
@@ -47,10 +32,7 @@ module _ (v w : ℕ → ℕ → List ℕ) (place : ℕ → ℕ) where
   named_same : ((c k : ℕ) → v c k ≡ w c k) → (ps : List NumberedPlaced)
       → map (named v place) ps ≡ map (named w place) ps
   named_same h [] = refl
-  named_same h (p ∷ ps) = ap₂ (λ n r. (n, place p.goal) ∷ r) (slot_same p.slot) (named_same h ps) where
-    slot_same : (s : Slot) → slot_name v s ≡ slot_name w s
-    slot_same (Index i) = refl
-    slot_same (Name c k) = h c k
+  named_same h (p ∷ ps) = ap₂ (λ n r. (n, place p.goal) ∷ r) (slot_same v w h p.slot) (named_same h ps)
 
   shape_same : (s : Shape) (ps : List NumberedPlaced) → Agree s v w → by_shape v place s ps ≡ by_shape w place s ps
   shape_same Alt.Null ps h = refl
@@ -81,7 +63,7 @@ module _ (v w : List Signed → Kind → ℕ → ℕ → ℕ → List ℕ) (expa
   part_same place n = go (slice_get f.goals n) refl (chosen expansion f n) refl where
     picked : (bs : List Numbered) (s : Option (ℕ × ℕ)) (a : Numbered) → chosen_in bs s ≡ Some a → IsIn a bs
     picked bs None a e = cc
-    picked bs (Some x) a e = in_slice a bs x.1 e
+    picked bs (Some x) a e = slice_get-in a bs x.1 e
 
     listed : (g : List Signed) → slice_get f.goals n ≡ Some g → (b : Bool) (a : Numbered)
         → IsIn a (cond b (alternatives_at expansion f (slice_get f.goals n)) [])
@@ -115,72 +97,13 @@ module _ (v w : List Signed → Kind → ℕ → ℕ → ℕ → List ℕ) (expa
     rounds = last_round expansion f;
   }) (parts_same 0)
 
--- the words that are found
-
-everywhere : (s : Shape) (v w : ℕ → ℕ → List ℕ) → ((c k : ℕ) → v c k ≡ w c k) → Agree s v w
-everywhere Alt.Text v w h = h 0 0
-everywhere Alt.Members v w h = h
-everywhere Alt.Null v w h = tt
-everywhere (Alt.Truth b) v w h = tt
-everywhere (Alt.Number n) v w h = tt
-everywhere Alt.Elements v w h = tt
-
 module _ (F : Finders) (T : List Position) (ok : IsTable T)
     (right : (S : List Signed) → IsSaturated T K.Object S → (C : Cells) → F.cells S ≡ Ok C → IsCells T ok S C) where
-  -- past all cells there is no name
-  no_name : (S : List Signed) (C : Cells) → IsCells T ok S C → (c : ℕ) → length C.vectors ≤ c → C.words c ≡ []
-  no_name S C h c l = go (C.words c) refl where
-    go : (ws : List (List ℕ)) → C.words c ≡ ws → ws ≡ []
-    go [] e = refl
-    go (w ∷ ws) e =
-        let (scalar, is) = h.words.of_cell c w (subst (λ z. IsIn w z) (sym e) (inl refl)) in
-        let m = h.cells.known w scalar in absurd (omega (arith, is, m, l))
-
-  names_same : (S : List Signed) (r : Result Cells LimitKind) → ((C : Cells) → r ≡ Ok C → IsCells T ok S C)
-      → (c k : ℕ) → word_at (name_cells r) c k ≡ names_of r c k
-  names_same S (Err l) h c k = refl
-  names_same S (Ok C) h c k = by (cases_lt c (length C.vectors)) where
-    by : (c < length C.vectors) ⊎ (length C.vectors ≤ c) → word_at (name_cells (Ok C)) c k ≡ name C c k
-    by (inl l) = ap (λ ws. get_or ws k []) (cell_is C c l)
-    by (inr l) =
-        let m = cells_many C in
-        ap (λ ws. get_or ws k []) (get_or_past (name_cells (Ok C)) c [] (omega (arith, l, m))
-        ∙ sym (no_name S C (h C refl) c l))
-
-  kind_agrees : (t : Kind) (k : ℕ) (S : List Signed) → IsSaturated T t S → (a : Alternative) → IsFrom F T t k S a
-      → Agree a.shape (word_at (set_cells F t S)) (words_of F t S)
-  kind_agrees K.Null k S full a h = everywhere a.shape (word_at []) (λ c k. []) (λ c k. refl)
-  kind_agrees K.Boolean k S full a h = everywhere a.shape (word_at []) (λ c k. []) (λ c k. refl)
-  kind_agrees K.Number k S full a h = everywhere a.shape (word_at []) (λ c k. []) (λ c k. refl)
-  kind_agrees K.Array k S full a h = everywhere a.shape (word_at []) (λ c k. []) (λ c k. refl)
-  kind_agrees K.Text k S full a (w, f, e) =
-      subst (λ z. Agree z.shape (word_at (text_cells (F.strings S))) (word_of (F.strings S))) (sym e)
-      (subst (λ r. word_at (text_cells r) 0 0 ≡ word_of r 0 0) (sym f) refl)
-  kind_agrees K.Object k S full a h = everywhere a.shape (word_at (name_cells (F.cells S))) (names_of (F.cells S))
-      (names_same S (F.cells S) (right S full))
-
-  words_agree : (g : List Signed) (a : Alternative) → IsIn a (expansion T (leaf F T) g).alternatives
-      → Agree a.shape (word_at (branch_cells F T g a.kind a.branch)) (by_branch T (words_of F) g a.kind a.branch)
-  words_agree g a i =
-      let o = origin F T g a i in
-      let (x, y) = of_branch F T o.kind o.number o.branch a o.from in
-      let s : IsSaturated T o.kind o.branch = branch_saturated T [] ok o.kind g o.branch o.number o.at in
-      let at = get_is [] o.branch (G.branches (G.steps T o.kind g)) o.number o.at in
-      let here : Agree a.shape
-      (word_at (set_cells F o.kind (get_or (G.branches (G.steps T o.kind g)) o.number [])))
-      (words_of F o.kind (get_or (G.branches (G.steps T o.kind g)) o.number [])) =
-      subst (λ z. Agree a.shape (word_at (set_cells F o.kind z)) (words_of F o.kind z)) (sym at)
-      (kind_agrees o.kind o.number o.branch s a o.from) in
-      subst (λ z. Agree a.shape (word_at (set_cells F z (get_or (G.branches (G.steps T z g)) a.branch [])))
-      (words_of F z (get_or (G.branches (G.steps T z g)) a.branch []))) (sym x)
-      (subst (λ n. Agree a.shape (word_at (set_cells F o.kind (get_or (G.branches (G.steps T o.kind g)) n [])))
-      (words_of F o.kind (get_or (G.branches (G.steps T o.kind g)) n []))) (sym y) here)
-
   -- so what is decided with the words of cells is what is decided
   pub same_decided : (most most_places : ℕ) (o : Option (List Signed))
-      → of_root (λ g t k c i. word_at (branch_cells F T g t k) c i) (expansion T (leaf F T)) most most_places o
+      → of_root (words_by (branch_cells F T)) (expansion T (leaf F T)) most most_places o
       ≡ of_root (by_branch T (words_of F)) (expansion T (leaf F T)) most most_places o
   same_decided most most_places None = refl
   same_decided most most_places (Some root) =
-      found_same (λ g t k c i. word_at (branch_cells F T g t k) c i) (by_branch T (words_of F)) (expansion T (leaf F T))
-      (explored most most_places (expansion T (leaf F T)) root) words_agree
+      found_same (words_by (branch_cells F T)) (by_branch T (words_of F)) (expansion T (leaf F T))
+      (explored most most_places (expansion T (leaf F T)) root) (words_agree F T ok right)

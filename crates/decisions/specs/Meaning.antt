@@ -20,7 +20,7 @@ pub record IsCounterexample (T : List Position) (a b : ℕ) (ps : List Part) (i 
   pub good : is_document (unshared ps i) ≡ true
   pub first : holds T a (unshared ps i) ≡ true
   pub second : holds T b (unshared ps i) ≡ false
-  -- it is the last part
+  -- part i is the last of the table
   pub last : suc i ≡ length ps
 
 -- each document of which the first position holds has the second one holding

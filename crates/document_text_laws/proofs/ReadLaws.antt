@@ -11,7 +11,7 @@ use Rattle.document_text_laws.specs.Lines.{Within, FirstLine}
 use Rattle.document_text_laws.proofs.PartLaws.{same-line, same-count, same-table}
 use Rattle.document_text_laws.proofs.LineLaws.{Whole, whole-append, whole-line, line-whole, count-whole, lines-whole}
 use Rattle.list_laws.proofs.Numbers.{suc_add-add_suc}
-use Rattle.list_laws.proofs.Every.{every-append}
+use Rattle.list_laws.proofs.Every.{every_joined}
 
 -- ---- one table for each text, one line for each fault
 
@@ -109,17 +109,6 @@ pub record Reading (count : ℕ) (ps : List Part) (left bytes : List ℕ) : Type
   pub within : length ps ≤ count
   pub text : count_text count ++ (lines_text 0 ps ++ left) ≡ bytes
 
-pub reading-begins : (n : ℕ) (line left bytes : List ℕ) → 0 < n → n ≤ 4294967295 → line ++ left ≡ bytes
-    → line ≡ count_text n → Reading n [] left bytes
-reading-begins n line left bytes some few text is = record {
-  table = refl;
-  told = refl;
-  some = some;
-  few = few;
-  within = omega arith;
-  text = ap (λ xs. xs ++ left) (sym is) ∙ text;
-}
-
 pub reading-next : (n : ℕ) (ps : List Part) (p : Part) (line left rest bytes : List ℕ) → Reading n ps rest bytes
     → length ps < n → line ++ left ≡ rest → line ≡ line_text (length ps) p → IsPart (length ps) p → is_told p ≡ true
     → Reading n (ps ++ p ∷ []) left bytes
@@ -130,7 +119,7 @@ reading-next n ps p line left rest bytes r less cut is part told =
     lines-append 0 k ps (p ∷ []) (omega arith) ∙ ap (λ xs. lines_text 0 ps ++ xs) one in
     record {
       table = is_table-pushed ps p r.table part;
-      told = every-append is_told ps (p ∷ []) r.told (and_from (is_told p) true told refl);
+      told = every_joined is_told ps (p ∷ []) r.told (and_from (is_told p) true told refl);
       some = r.some;
       few = r.few;
       within = omega (arith, length-append ps (p ∷ []), less);
@@ -196,7 +185,7 @@ front-begins n ps left bytes r =
       behind = lines_text (length ps) more.others;
       read = record {
         table = more.table;
-        told = every-append is_told ps more.others r.told more.told;
+        told = every_joined is_told ps more.others r.told more.told;
         some = omega (arith, size, r.some);
         few = omega (arith, size, r.few);
         text = ap (λ k. count_text k ++ lines_text 0 (ps ++ more.others)) size

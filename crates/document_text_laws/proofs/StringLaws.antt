@@ -201,7 +201,7 @@ behind-text : (s rest : List ℕ) → behind (string_text s ++ rest) ≡ Some (e
 behind-text s rest =
     ap (read_on plain []) (append_assoc (flat_map character_text s) (34 ∷ []) rest) ∙ read_on-text s [] rest
 
--- a string is read back from what stands behind its first quote
+-- a string is read back from what comes behind its first quote
 pub read_on-string : (s rest : List ℕ)
     → read_on plain [] (drop 1 (string_text s ++ rest)) ≡ Some (encode_utf8_all s, rest)
 read_on-string s rest = behind-text s rest

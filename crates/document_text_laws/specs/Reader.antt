@@ -51,7 +51,7 @@ abbrev pub ends : List ℕ → Bool
 ends [] = true
 ends (d ∷ ds) = cond (is_ascii_digit d) false true
 
--- what stands behind a comma, or all where none comes first
+-- what comes behind a comma, or all where none comes first
 abbrev pub behind_comma : List ℕ → List ℕ
 behind_comma [] = []
 behind_comma (x ∷ xs) = cond (nat_eq x 44) xs (x ∷ xs)

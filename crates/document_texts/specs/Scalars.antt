@@ -6,7 +6,7 @@ use Rattle.std.specs.Char.{digit_char, encode_utf8}
 abbrev pub unescaped : ℕ → List ℕ
 unescaped c = cond (nat_lt c 32) (codes "\\u00" ++ digit_char (c / 16) ∷ digit_char (c % 16) ∷ []) (encode_utf8 c)
 
--- what stands in a string for a character: the shortest escape of those that need one, and no other is escaped
+-- what is in a string for a character: the shortest escape of those that need one, and no other is escaped
 abbrev pub character_text : ℕ → List ℕ
 character_text c =
     cond (nat_eq c 34 || nat_eq c 92) (92 ∷ c ∷ [])

@@ -83,7 +83,7 @@ number_depth = refl
 empty_depth : depth (array no_items) ≡ 1
 empty_depth = refl
 
--- the deepest element counts, wherever it stands
+-- the deepest element counts, wherever it is
 deepest_depth : depth (array (item null (item (single (single null)) (item (array no_items) no_items)))) ≡ 3
 deepest_depth = refl
 

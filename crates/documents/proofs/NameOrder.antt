@@ -31,6 +31,7 @@ first_trans c d e u v w later (inl l) (inr r) = let same = r.0 in smaller_first 
 first_trans c d e u v w later (inr l) (inl r) = let same = l.0 in smaller_first c e u w (omega (arith, same))
 first_trans c d e u v w later (inr l) (inr r) = same_first c e u w (l.0 ∙ r.0) (later l.1 r.1)
 
+-- the order of names is transitive
 pub comes_before-trans : (u v w : List ℕ) → comes_before u v ≡ true → comes_before v w ≡ true
     → comes_before u w ≡ true
 comes_before-trans [] [] w h k = absurd (true≢false (sym h))

@@ -5,18 +5,11 @@ use Rattle.documents.specs.Tests.{every, is_scalar}
 use Rattle.documents.specs.Json as J
 use Rattle.documents.specs.WellFormed as W
 use Rattle.documents.specs.Document as D
-use Rattle.documents.proofs.Parts.{member_parts}
 
 -- the last two of four tests
 last_two : (a b c d : Bool) → (a && b && c && d) ≡ true → (c ≡ true) × (d ≡ true)
 last_two a b c d h =
     let four = and_parts (a && b && c) d h in let three = and_parts (a && b) c four.0 in (three.1, four.1)
-
-pub names_rise-are_members : (ms : J.Members) → W.are_members ms ≡ true → W.names_rise ms ≡ true
-names_rise-are_members J.no_members h = refl
-names_rise-are_members (J.member k v ms) h =
-    let parts = member_parts k v ms h in
-    and_from (W.is_before k ms) (W.names_rise ms) parts.before (names_rise-are_members ms parts.others)
 
 pub names_rise-document_members : (ms : D.Members) → D.are_members ms ≡ true → D.names_rise ms ≡ true
 names_rise-document_members D.no_members h = refl

@@ -44,8 +44,8 @@ has_name w ms = some (λ m. same_word w m.0) ms
 abbrev pub every_in : (List ℕ → Bool) → (Document → Bool) → List (List ℕ × Document) → Bool
 every_in set p ms = every (λ m. not (set m.0) || p m.1) ms
 
--- JSON equality: lists in order, numbers by value. Members stand in the order of their names, so objects are equal
--- member by member
+-- JSON equality: lists in order, numbers by value. Members are in the order of their names, so objects are equal member
+-- by member
 abbrev mutual
   pub same_document : Document → Document → Bool
   same_document null null = true

@@ -73,7 +73,7 @@ twice_negated : says (keyword "not" (keyword "not" (keyword "type" (text "number
 unfolding valid entry_valid is_met places walk shape_of index_token
 twice_negated = refl
 
--- whatever stands beside a reference asks nothing
+-- whatever is beside a reference asks nothing
 beside_reference :
     says (object (("$ref", text "#/definitions/a")
     ∷ ("definitions", keyword "a" (keyword "type" (text "number"))) ∷ ("maximum", S.number 1)

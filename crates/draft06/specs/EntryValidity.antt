@@ -1,5 +1,5 @@
 -- When a document is valid for an entry of a schema, keyword by keyword (JSON Schema validation, draft-06). The section
--- of the standard stands beside each keyword.
+-- of the standard is beside each keyword.
 use Rattle.std.specs.Prelude.{ℕ, zero, suc, int_le, int_lt, nat_le, List, [], ◌∷◌, length, drop, Bool, true, false, ◌&&◌, ◌||◌, Option, Some, None}
 use Rattle.std.specs.Prelude as P
 use Rattle.documents.specs.Tests.{every, some, same_word}
@@ -39,9 +39,9 @@ abbrev pub need_asks : (ℕ → Bool) → Needs → List (List ℕ × Document) 
 need_asks here (Names ws) ms = every (λ w. has_name w ms) ws
 need_asks here (Whole e) ms = here e
 
--- `matches t w` tells whether the pattern with the text t matches somewhere in w
+-- `matches t w` says whether the pattern with the text t matches somewhere in w
 module _ (matches : List ℕ → List ℕ → Bool) (here : ℕ → Bool) (below : ℕ → Document → Bool) (k : Keywords) where
-  -- of every document
+  -- what the keywords ask of every document
   abbrev pub asks_any : Document → Bool
   asks_any J =
       meets (some (λ d. same_document d J)) k.enumeration  -- section 6.23
@@ -66,7 +66,7 @@ module _ (matches : List ℕ → List ℕ → Bool) (here : ℕ → Bool) (below
       && meets (λ n. nat_le n (length w)) k.min_length  -- 6.7
       && meets (λ t. matches t w) k.pattern  -- 6.8
 
-  -- of an array's elements
+  -- what the keywords ask of an array's elements
   abbrev pub asks_array : List Document → Bool
   asks_array ds =
       meets (λ s. items_ask below s ds) k.items  -- section 6.9
@@ -79,7 +79,7 @@ module _ (matches : List ℕ → List ℕ → Bool) (here : ℕ → Bool) (below
   abbrev pub is_other : List ℕ → Bool
   is_other w = is_additional matches (keys k.properties) (keys k.pattern_properties) w
 
-  -- of an object's members, by name and value
+  -- what the keywords ask of an object's members, by name and value
   abbrev pub asks_object : List (List ℕ × Document) → Bool
   asks_object ms =
       meets (λ n. nat_le (length ms) n) k.max_properties  -- section 6.15
@@ -97,7 +97,7 @@ module _ (matches : List ℕ → List ℕ → Bool) (here : ℕ → Bool) (below
       asks_any J && at_number asks_number J && at_string asks_string J && at_array asks_array J
       && at_object asks_object J
 
--- what a form asks of a document. `here` tells which entries the document itself meets, `below` which ones its elements
+-- what a form asks of a document. `here` says which entries the document itself meets, `below` which ones its elements
 -- and members meet, and its names as strings
 abbrev pub asks : (List ℕ → List ℕ → Bool) → (here : ℕ → Bool) (below : ℕ → Document → Bool) → Form → Document → Bool
 asks matches here below Always J = true

@@ -5,8 +5,8 @@ use Rattle.documents.specs.Tests.{same_word}
 use Rattle.documents.specs.Json as J
 use Rattle.documents.specs.Document as D
 
--- lists in order, numbers by value; a number that isn't whole is none of a document. Members stand in the order of
--- their names, so objects are equal member by member
+-- lists in order, numbers by value; a number that isn't whole is none of a document. Members are in the order of their
+-- names, so objects are equal member by member
 abbrev mutual
   pub is_equal : J.Json → D.Document → Bool
   is_equal J.null D.null = true

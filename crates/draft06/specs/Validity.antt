@@ -1,5 +1,5 @@
 -- When a document is valid for a schema, read off the schema's JSON value (JSON Schema validation, draft-06), and when
--- one schema includes another. The section of the standard stands beside each keyword.
+-- one schema includes another. The section of the standard is beside each keyword.
 use Rattle.std.specs.Prelude.{◌≡◌, ℕ, suc, ℤ, pos, int_le, int_lt, nat_abs, List, [], map, length, drop, Bool, true, false, ◌&&◌, ◌||◌, not, Option, Some, None, Result, Ok, Err, codes}
 use Prim.Native.String.{String}
 use Rattle.documents.specs.Tests.{every, some, same_word}
@@ -53,13 +53,13 @@ abbrev pub names_in : Option Json → List (List ℕ)
 names_in None = []
 names_in (Some v) = map (λ m. m.0) (members v)
 
--- `matches t w` tells whether the pattern with the text t matches somewhere in w
+-- `matches t w` says whether the pattern with the text t matches somewhere in w
 module _ (matches : List ℕ → List ℕ → Bool) (here : Json → Bool) (below : Json → Document → Bool) (ms : Members) where
   -- the value of a keyword, where it is there
   abbrev pub keyword : String → Option Json
   keyword k = lookup (codes k) ms
 
-  -- of every document
+  -- what the keywords ask of every document
   abbrev pub asks_any : Document → Bool
   asks_any J =
       meets (λ v. some (λ w. is_equal w J) (listed v)) (keyword "enum")  -- section 6.23
@@ -84,7 +84,7 @@ module _ (matches : List ℕ → List ℕ → Bool) (here : Json → Bool) (belo
       && meets (λ v. int_le (whole v) (pos (length w))) (keyword "minLength")  -- 6.7
       && meets (λ v. matches (word v) w) (keyword "pattern")  -- 6.8
 
-  -- of an array's elements
+  -- what the keywords ask of an array's elements
   abbrev pub asks_array : List Document → Bool
   asks_array ds =
       meets (λ v. items_ask below v ds) (keyword "items")  -- section 6.9
@@ -97,7 +97,7 @@ module _ (matches : List ℕ → List ℕ → Bool) (here : Json → Bool) (belo
   abbrev pub is_other : List ℕ → Bool
   is_other w = is_additional matches (names_in (keyword "properties")) (names_in (keyword "patternProperties")) w
 
-  -- of an object's members, by name and value
+  -- what the keywords ask of an object's members, by name and value
   abbrev pub asks_object : List (List ℕ × Document) → Bool
   asks_object ns =
       meets (λ v. int_le (pos (length ns)) (whole v)) (keyword "maxProperties")  -- section 6.15
@@ -118,12 +118,12 @@ module _ (matches : List ℕ → List ℕ → Bool) (here : Json → Bool) (belo
 
 -- `target r` is the value to which the reference with the text r leads
 module _ (matches : List ℕ → List ℕ → Bool) (target : List ℕ → Option Json) where
-  -- a reference asks what its target asks, and whatever stands beside it asks nothing (core, section 8)
+  -- a reference asks what its target asks, and whatever is beside it asks nothing (core, section 8)
   abbrev pub object_asks : Option Json → (Json → Bool) → (Json → Document → Bool) → Members → Document → Bool
   object_asks (Some r) here below ms J = if_there false here (target (word r))
   object_asks None here below ms J = asks_keywords matches here below ms J
 
-  -- what a schema asks of a document. `here` tells which schemas the document itself meets, `below` which ones its
+  -- what a schema asks of a document. `here` says which schemas the document itself meets, `below` which ones its
   -- elements and members meet, and its names as strings
   abbrev pub asks : (here : Json → Bool) (below : Json → Document → Bool) → Json → Document → Bool
   asks here below (boolean b) J = b

@@ -15,7 +15,8 @@ use Rattle.schemas.specs.Reading.{id_fault, shape_fault, fault_at}
 use Rattle.schemas.specs.Entry.{Keywords}
 use Rattle.schemas.specs.Entries.{number_of, document_of, listed, word, whole, natural, types_of, field, one_number, list_numbers, items_part, named_numbers, all_needs, keywords_of}
 use Rattle.schemas.specs.Schema.{meets}
-use Rattle.schema_laws.specs.Values.{IsIn, names_differ}
+use Rattle.list_laws.specs.In.{IsIn}
+use Rattle.schema_laws.specs.Values.{names_differ}
 use Rattle.schema_laws.proofs.Shapes.{IsShaped, is_shaped, read_shape-of}
 use Rattle.schema_laws.proofs.Faultless.{member_faultless}
 use Rattle.schema_laws.proofs.KeywordLaws.{keyword-number}
@@ -191,6 +192,7 @@ module _ {P R : Type 0} (rules : Rules P R) (root : Json) (differ : names_differ
       (least_field (codes "minProperties") (is_shaped refl refl refl) (length ns))) required) properties) patterns)
       others) needs) named
 
+  -- the keywords of an entry require of a document what the members of its object require
   pub keywords_law : (K : Document)
       → E.asks_keywords matches here_at below_at keywords K ≡ V.asks_keywords matches here below ms K
   keywords_law null = both (both (both (both (any_law null) refl) refl) refl) refl

@@ -10,7 +10,8 @@ use Rattle.schemas.specs.Reading.{reference_fault, object_fault, first_fault}
 use Rattle.schemas.specs.Entry.{Entry}
 use Rattle.schemas.specs.Entries.{number_of, referred_form, reference_form, object_form, form_at}
 use Rattle.schemas.specs.Schema.{if_there}
-use Rattle.schema_laws.specs.Values.{IsIn, names_differ}
+use Rattle.list_laws.specs.In.{IsIn}
+use Rattle.schema_laws.specs.Values.{names_differ}
 use Rattle.schema_laws.specs.Sound.{IsSound}
 use Rattle.schema_laws.proofs.NamesLaws.{names_differ-is_json}
 use Rattle.schema_laws.proofs.Faultless.{faultless}

@@ -10,7 +10,7 @@ use Rattle.schemas.specs.SubSchemas.{in_list, in_list_or_one, members_under, in_
 use Rattle.schemas.specs.Entry.{Needs}
 use Rattle.schemas.specs.Entries.{listed, members, word, one_number, list_numbers, items_part, named_numbers, needs_of, all_needs, rest_number}
 use Rattle.schemas.specs.Schema.{meets}
-use Rattle.schema_laws.specs.Values.{IsIn}
+use Rattle.list_laws.specs.In.{IsIn}
 use Rattle.draft06.specs.Names.{keys}
 use Rattle.draft06.specs.Validity as V
 use Rattle.draft06.specs.EntryValidity as E

@@ -15,7 +15,6 @@ use Rattle.schemas.specs.Entry.{Entry}
 use Rattle.schemas.specs.Entries.{number_of, entry_at, entries_at}
 use Rattle.schemas.specs.Schema.{of_parts, is_table}
 use Rattle.schema_laws.specs.Sound.{IsSound}
-use Rattle.schema_laws.proofs.TableLaws.{is_table-length}
 use Rattle.schema_laws.proofs.TableLaw.{is_table-entries}
 use Rattle.draft06.specs.Matching.{finds_text}
 use Rattle.draft06.specs.Validity as V
@@ -62,9 +61,6 @@ module _ {P R : Type 0} (rules : Rules P R) (root : Json) (sound : IsSound rules
 
   few_entries : length es ≤ count root
   few_entries = let few = length-places rules root in let same = length-es in omega (arith, few, same)
-
-  root_is_entry : 0 < length es
-  root_is_entry = let parts = is_table-length es table in parts.0
 
   module _ (rank : ℕ → ℕ) (falls : FallInPlace (entries_at rules root (places rules root)) rank) where
     -- an entry accepts what the value at its place accepts, with any number of steps that is no less than the entries

@@ -1,2 +1,2 @@
--- What the laws ask of a table: ranks that fall in place.
+-- What the laws require of a table: ranks that fall in place.
 pub mod Ranks

@@ -21,8 +21,8 @@ use Rattle.frame_laws.proofs.FewMembers as F
 use Rattle.list_laws.specs.In.{IsIn, Distinct}
 use Rattle.list_laws.proofs.Lists.{every_from, in_map, from_map, from_flat_map}
 use Rattle.list_laws.proofs.Tests.{same_word-true, from_filter, from_range}
-use Rattle.list_laws.proofs.Pigeons.{range_distinct}
-use Rattle.list_laws.proofs.Counts.{distinct_filter}
+use Rattle.list_laws.proofs.Pigeons.{Distinct-range}
+use Rattle.list_laws.proofs.Counts.{Distinct-filter}
 use Rattle.cells.specs.Cells.{Cells}
 use Rattle.cell_laws.proofs.Lists.{distinct_append}
 use Rattle.cell_laws.specs.RightCells.{AreWords}
@@ -141,8 +141,8 @@ module _ (T : List Position) (S : List Signed) (C : Cells) (k : ℕ) (q : Plan)
       (members_named_once T object 0 [] (placed (object_frame T C S) q))
       (fillers_named_once (length (placed (object_frame T C S) q)) (fillers T object q)
       (fillers_differ T object q
-      (distinct_filter (is_allowed T C S) (range_with_len 0 (length C.vectors))
-      (range_distinct 0 (length C.vectors)))))
+      (Distinct-filter (is_allowed T C S) (range_with_len 0 (length C.vectors))
+      (Distinct-range 0 (length C.vectors)))))
       (λ x a b.
       let (c, (j, e, u, l)) = member_named x a in
       let (f, y, z) = from_flat_map filler_slots x named.fillers b in

@@ -14,7 +14,7 @@ use Rattle.goals.specs.Goal.{form, contains}
 use Rattle.goals.specs.Tree as G
 use Rattle.goal_laws.specs.Saturated.{IsSaturated}
 use Rattle.goal_laws.proofs.Branches.{branches-are}
-use Rattle.list_laws.proofs.Lists.{every_from, every_at, in_slice}
+use Rattle.list_laws.proofs.Lists.{every_from, every_at, slice_get-in}
 use Rattle.cells.specs.Cells.{Cells}
 use Rattle.alternatives.specs.Alternative.{Alternative, named}
 use Rattle.alternatives.specs.Slots.{has_words, has_fitting_slots, has_different_slots, has_different_words}
@@ -28,7 +28,7 @@ use Rattle.expander_laws.proofs.Inside.{goals_named, formed_goal}
 use Rattle.expander_laws.proofs.Alternatives.{of_branch, fits, once, has, apart}
 
 module _ (T : List Position) (ranks : List ℕ) where
-  taken_parts : (g : List Signed) → takes T ranks g ≡ true
+  pub taken_parts : (g : List Signed) → takes T ranks g ≡ true
       → (is_table T ranks ≡ true) × (nat_lt 0 (length T) ≡ true) × (is_goal T g ≡ true)
   taken_parts g e =
       let (front, goal) = and_parts (is_table T ranks && nat_lt 0 (length T)) (is_goal T g) e in
@@ -52,7 +52,7 @@ module _ (T : List Position) (ranks : List ℕ) where
       → slice_get (G.branches (G.steps T t g)) k ≡ Some S → IsSaturated T t S
   branch_saturated ok t g S k e =
       (all_in (λ C. IsSaturated T t C × (contains C g ≡ true)) S (G.branches (G.steps T t g)) (branches-are T ok t g)
-      (in_slice S (G.branches (G.steps T t g)) k e)).0
+      (slice_get-in S (G.branches (G.steps T t g)) k e)).0
 
   module _ (F : Finders) (g : List Signed) where
     -- what holds of each alternative of a branch, by its kind, its number and its set, holds of those of the goal

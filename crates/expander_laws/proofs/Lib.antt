@@ -4,4 +4,6 @@ pub mod Slots
 pub mod Alternatives
 pub mod Laws
 pub mod Named
+pub mod Words
+pub mod Sound
 pub mod Examples

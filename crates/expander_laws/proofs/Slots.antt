@@ -10,7 +10,7 @@ use Rattle.frames.specs.Plan.{goal_of}
 use Rattle.frames.specs.Fillers.{Filler, times}
 use Rattle.list_laws.specs.In.{IsIn, Distinct}
 use Rattle.list_laws.proofs.Lists.{in_map, from_map, from_flat_map}
-use Rattle.list_laws.proofs.Tests.{some_none}
+use Rattle.list_laws.proofs.Tests.{none_from}
 use Rattle.cell_laws.proofs.Lists.{distinct_append}
 use Rattle.alternatives.specs.Alternative as Alt
 use Rattle.alternatives.specs.Alternative.{Slot, Index, Name, Placed}
@@ -24,7 +24,7 @@ pub different : {A : Type 0} (same : A → A → Bool) → ((x y : A) → same x
 different same means [] d = refl
 different {A = A} same means (x ∷ xs) d =
     and_from (not (some (same x) xs)) (are_different same xs)
-    (ap not (some_none (same x) xs (λ y i. other y i (same x y) refl))) (different same means xs d.1)
+    (ap not (none_from (same x) xs (λ y i. other y i (same x y) refl))) (different same means xs d.1)
   where
     other : (y : A) → IsIn y xs → (b : Bool) → same x y ≡ b → b ≡ false
     other y i true e = absurd (d.0 (subst (λ z. IsIn z xs) (sym (means x y e)) i))
@@ -90,7 +90,7 @@ filler_slots f = slots_from f.slot f.room
 -- elements
 
 module _ (T : List Position) (frame : Frame) where
-  -- members stand at different indices, all of them below their number
+  -- members are at different indices, all of them below their number
   pub index_of_member : (i : ℕ) (before : List ℕ) (ss : List (Place × List Signed)) (x : Slot)
       → IsIn x (map member_slot (members_of by_index T frame i before ss))
       → (j : ℕ) × (x ≡ Index j) × (i ≤ j) × (j < i + length ss)

@@ -1,4 +1,4 @@
--- The goals that an expander takes, how many branches a goal has at a kind, and the cells of a branch.
+-- The goals that an expander takes, how many branches a goal has at a kind, and the cells and words of a branch.
 use Rattle.std.specs.Prelude.{ℕ, List, [], ◌∷◌, map, length, Bool, not, ◌&&◌, nat_lt, Option, Some, Result, Ok, Err, get_or}
 use Rattle.std.specs.Option.{is_none}
 use Rattle.std.specs.List.{range_with_len}
@@ -11,6 +11,7 @@ use Rattle.goals.specs.Goal.{reference, is_always, clashes}
 use Rattle.goals.specs.Tree as G
 use Rattle.cells.specs.Cells.{Cells}
 use Rattle.alternatives.specs.Limit.{LimitKind}
+use Rattle.alternatives.specs.Slots.{word_at}
 use Rattle.expansions.specs.Leaves.{Finders}
 
 -- forming a list leaves such a goal as it is: it rises, it has no clash, and none of it is met by every document or
@@ -18,7 +19,7 @@ use Rattle.expansions.specs.Leaves.{Finders}
 abbrev pub is_formed : List Position → List Signed → Bool
 is_formed T g = is_rising g && not (clashes T g) && every (λ x. not (is_always T x) && is_none (reference T x)) g
 
--- and each of its positions is in the table
+-- the goal is formed, and each of its positions is in the table
 abbrev pub is_goal : List Position → List Signed → Bool
 is_goal T g = is_formed T g && every (λ x. nat_lt (position_of x) (length T)) g
 
@@ -49,3 +50,7 @@ set_cells F _ S = []
 -- the cells of a branch of a goal by its number, each by its words in order
 abbrev pub branch_cells : Finders → List Position → List Signed → Kind → ℕ → List (List (List ℕ))
 branch_cells F T g t k = set_cells F t (get_or (G.branches (G.steps T t g)) k [])
+
+-- word k of cell c of a branch of a goal, by the cells of branches
+abbrev pub words_by : (List Signed → Kind → ℕ → List (List (List ℕ))) → List Signed → Kind → ℕ → ℕ → ℕ → List ℕ
+words_by cells g t b c k = word_at (cells g t b) c k

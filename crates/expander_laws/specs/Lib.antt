@@ -1,2 +1,4 @@
--- What a reader must believe: the goals that an expander takes, and the branches and cells of such a goal.
+-- What a reader must believe: the goals that an expander takes, the branches and cells of such a goal, and what makes
+-- its alternatives sound.
 pub mod Expander
+pub mod Sound

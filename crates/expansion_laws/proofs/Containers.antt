@@ -30,8 +30,8 @@ use Rattle.alternatives.specs.Limit.{LimitKind}
 use Rattle.expansions.specs.Leaves.{by_index, by_name, plan_alternative, result_map, array_leaf, object_leaf, names_of}
 use Rattle.expansions.specs.DocumentOf.{document_of}
 use Rattle.expansion_laws.proofs.Parts.{array_same, object_same}
-use Rattle.list_laws.proofs.Pigeons.{range_distinct}
-use Rattle.list_laws.proofs.Counts.{distinct_filter}
+use Rattle.list_laws.proofs.Pigeons.{Distinct-range}
+use Rattle.list_laws.proofs.Counts.{Distinct-filter}
 use Rattle.std.specs.List.{range_with_len}
 use Rattle.expansion_laws.proofs.Leaf.{ok_same, AllPass, AreChildren, IsMade, IsLeaf}
 use Rattle.expansion_laws.proofs.PlanLeaf.{met_same, complete_plan, IsOpen, leaf_is}
@@ -121,6 +121,7 @@ module _ (T : List Position) (ok : IsTable T) where
       (ap (λ z. z.kind) s, ap (λ z. z.branch) s))
       (leaf_is (plan_alternative by_index K.Array k T) T (A.lower T S) (A.below T S) (Ok (array_frame T S)) more e)
 
+  -- what the expander gives for a branch at arrays is a leaf, whatever names it is given
   pub array_is_leaf : (names : List Signed → ℕ → ℕ → List ℕ) → IsLeaf T K.Array names (λ k S. array_leaf T k S)
   array_is_leaf names = record {
     follows = λ k S full more e d can pass J good kind deep m. array_down k S more e d can pass J good kind deep m;
@@ -173,8 +174,8 @@ module _ (T : List Position) (ok : IsTable T) where
       (right : (S : List Signed) → IsSaturated T K.Object S → (C : Cells) → find S ≡ Ok C → IsCells S C) where
     cells_once : (C : Cells) (S : List Signed) → Distinct (object_frame T C S).cells
     cells_once C S =
-        distinct_filter (is_allowed T C S) (range_with_len 0 (length C.vectors))
-        (range_distinct 0 (length C.vectors))
+        Distinct-filter (is_allowed T C S) (range_with_len 0 (length C.vectors))
+        (Distinct-range 0 (length C.vectors))
 
     object_open : (k : ℕ) (S : List Signed) (more : List Alternative)
         → IsOpen (plan_alternative by_name K.Object k T) T (O.lower T S)
@@ -270,6 +271,7 @@ module _ (T : List Position) (ok : IsTable T) where
         (leaf_is (plan_alternative by_name K.Object k T) T (O.lower T S) (O.below T S)
         (result_map (λ C. object_frame T C S) (find S)) more e)
 
+    -- what the expander gives for a branch at objects, with the cells that were found, is a leaf
     pub object_is_leaf : IsLeaf T K.Object (λ S. names_of (find S)) (λ k S. object_leaf T k S (find S))
     object_is_leaf = record {
       follows = λ k S full more e d can pass J good kind deep m. object_down k S full more e d can pass J good kind

@@ -13,7 +13,7 @@ use Rattle.frames.specs.Frame.{Place, In, Frame, list_at}
 use Rattle.frames.specs.Plan.{Plan, placed, goal_of}
 use Rattle.cells.specs.Cells.{Cells}
 use Rattle.list_laws.specs.In.{IsIn}
-use Rattle.list_laws.proofs.Lists.{in_append, from_map}
+use Rattle.list_laws.proofs.Lists.{from_append, from_map}
 use Rattle.frames.specs.ObjectFrame.{object_frame}
 use Rattle.frames.specs.Fillers.{fillers}
 use Rattle.frame_laws.proofs.FillersLaws.{fillers_from}
@@ -22,7 +22,7 @@ use Rattle.expansions.specs.Leaves.{Naming, by_index, by_name, cell_of, placed_a
 use Rattle.expansions.specs.Expansion.{expansion}
 use Rattle.expansion_laws.proofs.Origins.{IsScalar, IsFrom, origin}
 
--- what stands somewhere and serves something
+-- what is placed somewhere and serves something
 abbrev pub IsListed : List Position → Frame → List Signed → Type 0
 IsListed T frame h = (at : Place) × ((ds : List Signed) × (form T (list_at frame at ds) ≡ Some h))
 
@@ -60,7 +60,7 @@ module _ (N : Naming) (t : Kind) (k : ℕ) (T : List Position) where
   plan_formed frame q h j = ⊎_elim
       (λ i. members_formed frame 0 [] (placed frame q) h i)
       (λ i. fillers_formed frame q (length (placed frame q)) h i)
-      (in_append h (map member_goal (members_of N T frame 0 [] (placed frame q)))
+      (from_append h (map member_goal (members_of N T frame 0 [] (placed frame q)))
       (map filler_goal (map (filling_of N (length (placed frame q))) (fillers T frame q))) j)
 
 -- the frames of the alternatives of a branch

@@ -23,14 +23,14 @@ use Rattle.expansion_laws.proofs.Leaf.{Answer, AllPass, AreChildren, IsMade, IsL
 use Rattle.expansion_laws.proofs.Kept.{expansion_has, expansion_from}
 use Rattle.expansion_laws.proofs.Scalars.{listing_leaf, finder_leaf, null_listing, boolean_listing}
 use Rattle.expansion_laws.proofs.Containers.{IsCells, array_is_leaf, object_is_leaf}
-use Rattle.list_laws.proofs.Lists.{in_slice}
+use Rattle.list_laws.proofs.Lists.{slice_get-in}
 
 pub all_in : {A : Type 0} (P : A → Type 0) (x : A) (xs : List A) → AllByRecursion P xs → IsIn x xs → P x
 all_in P x [] h i = absurd i
 all_in P x (y ∷ ys) h (inl e) = subst P (sym e) h.0
 all_in P x (y ∷ ys) h (inr i) = all_in P x ys h.1 i
 
--- what stands at a place of a list is there whatever default is given
+-- what is at a place of a list is there whatever default is given
 pub get_is : {A : Type 0} (d x : A) (xs : List A) (n : ℕ) → slice_get xs n ≡ Some x → get_or xs n d ≡ x
 get_is d x [] n e = cc
 get_is d x (y ∷ xs) zero e = cc
@@ -63,7 +63,7 @@ module _ (T : List Position) (ok : IsTable T) (words : Kind → List Signed → 
       → IsMade T (suc d) g (document_of can child (words a.kind (branch_of T g a)) a)
   expansion_made g d can child are a i u =
       let (t, (k, (S, j, few, (more, e, l)))) = expansion_from T leaves g a i in
-      let (full, big) = branch_is t g S (in_slice S (G.branches (G.steps T t g)) k j) in
+      let (full, big) = branch_is t g S (slice_get-in S (G.branches (G.steps T t g)) k j) in
       let (x, y) = (right t).of_branch k S more e a l in
       let same : branch_of T g a ≡ S = ap (λ z. get_or (G.branches (G.steps T z g)) a.branch []) x
       ∙ ap (λ z. get_or (G.branches (G.steps T t g)) z []) y ∙ get_is [] S (G.branches (G.steps T t g)) k j in

@@ -8,7 +8,7 @@ use Rattle.positions.specs.Position.{Position}
 use Rattle.goals.specs.Signed.{Signed}
 use Rattle.goals.specs.Tree as G
 use Rattle.list_laws.specs.In.{IsIn}
-use Rattle.list_laws.proofs.Lists.{in_left, in_right, in_append, in_flat_map, from_flat_map}
+use Rattle.list_laws.proofs.Lists.{in_left, in_right, from_append, in_flat_map, from_flat_map}
 use Rattle.alternatives.specs.Alternative.{Alternative, named, places}
 use Rattle.alternatives.specs.Limit.{LimitKind, Branches, Width, Places, most_ends, most_places}
 use Rattle.alternatives.specs.Expansion.{Expansion, expansion_of, first_limit, with_limit, is_wide, keep, keep_all}
@@ -88,7 +88,7 @@ kept_from (r ∷ rs) e a i =
             → IsIn a e.alternatives ⊎ ((new : List Alternative) × IsIn (Ok new) (Ok more ∷ rs) × IsIn a new)
         go true y j = inl j
         go false true j = inl j
-        go false false j = ⊎_elim (λ u. inl u) (λ u. inr (more, inl refl, u)) (in_append a e.alternatives more j)
+        go false false j = ⊎_elim (λ u. inl u) (λ u. inr (more, inl refl, u)) (from_append a e.alternatives more j)
 
 module _ (T : List Position) (leaf : Kind → ℕ → List Signed → Answer) where
   branch_in : (t : Kind) (k : ℕ) (S : List Signed) (Ss : List (List Signed)) → IsIn S Ss

@@ -33,10 +33,12 @@ IsMade T d S K = (is_document K ≡ true) × (depth K ≤ d) × (meets T S K ≡
 -- `words`: word k of cell c of a branch
 pub record IsLeaf (T : List Position) (t : Kind) (words : List Signed → ℕ → ℕ → List ℕ)
     (leaf : ℕ → List Signed → Answer) : Type 0 where
+  -- where a document of the kind meets the set, one of the leaf's alternatives is met
   pub follows : (k : ℕ) (S : List Signed) → IsSaturated T t S → (more : List Alternative) → leaf k S ≡ Ok more
       → (d : ℕ) (can : List Signed → Bool) → AllPass T d can
       → (J : Document) → is_document J ≡ true → kind_of J ≡ t → depth J ≤ d → meets T S J ≡ true
       → (a : Alternative) × IsIn a more × (is_met can a ≡ true)
+  -- the document of an alternative that is met meets the set
   pub made : (k : ℕ) (S : List Signed) → IsSaturated T t S → (more : List Alternative) → leaf k S ≡ Ok more
       → (d : ℕ) (can : List Signed → Bool) (child : List Signed → Document) → AreChildren T d can child
       → (a : Alternative) → IsIn a more → is_met can a ≡ true → IsMade T (suc d) S (document_of can child (words S) a)

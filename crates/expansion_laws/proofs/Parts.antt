@@ -28,7 +28,7 @@ part_value s = s.1
 abbrev value_of : ℕ × Document → Document
 value_of v = v.1
 
--- without first places nothing stands at them
+-- without first places nothing is at them
 pub no_heads : (n : ℕ) (xs : List (List Signed)) → length xs ≡ 0 → take n (heads_from 0 xs) ≡ []
 no_heads zero xs e = refl
 no_heads (suc n) [] e = refl

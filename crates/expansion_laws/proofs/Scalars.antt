@@ -13,7 +13,7 @@ use Rattle.goals.specs.Choices.{plus_choices, minus_choices, choices, plus_wrong
 use Rattle.goal_laws.specs.Saturated.{IsSaturated}
 use Rattle.goal_laws.proofs.Saturated.{meets-saturated}
 use Rattle.list_laws.specs.In.{IsIn}
-use Rattle.list_laws.proofs.Lists.{every_at, every_from, in_map, from_map, to_filter}
+use Rattle.list_laws.proofs.Lists.{every_at, every_from, in_map, from_map, in_filter}
 use Rattle.list_laws.proofs.Tests.{from_filter}
 use Rattle.frame_laws.proofs.Signs.{has_in}
 use Rattle.alternatives.specs.Alternative.{Shape, Null, Truth, Alternative}
@@ -185,7 +185,7 @@ module _ (T : List Position) (ok : IsTable T) where
   any_bool true = inr (inl refl)
 
   both_in : (b : Bool) (S : List Signed) → every (agrees T b) S ≡ true → IsIn b (truth_values T S)
-  both_in b S h = to_filter (λ b. every (agrees T b) S) b (false ∷ true ∷ []) (any_bool b) h
+  both_in b S h = in_filter (λ b. every (agrees T b) S) b (false ∷ true ∷ []) (any_bool b) h
 
   truth_met : (S : List Signed) → IsSaturated T K.Boolean S → (b : Bool) → IsIn b (truth_values T S)
       → meets T S (boolean b) ≡ true

@@ -34,7 +34,7 @@ abbrev pub one_or_none : {A : Type 0} → Option A → List A
 one_or_none None = []
 one_or_none (Some x) = x ∷ []
 
--- of the one that is found
+-- the leaf of the scalar that is found, or of none
 abbrev pub scalar_leaf : {A : Type 0} → Kind → (A → Shape) → ℕ → Result (Option A) LimitKind
     → Result (List Alternative) LimitKind
 scalar_leaf t shape k found = result_map (λ o. scalars t shape k (one_or_none o)) found

@@ -7,13 +7,13 @@ use Rattle.families.specs.Families.{Chain, Wide, Patterns, Tree, family, numbere
 
 -- ---- members in any order
 
--- members stand by name, and a name that comes twice keeps its last value
+-- members are ordered by name, and a name that comes twice keeps its last value
 any_order : object_of ((codes "b", null) ∷ (codes "a", null) ∷ (codes "b", boolean false) ∷ [])
     ≡ object (members_of ((codes "a", null) ∷ (codes "b", boolean false) ∷ []))
 unfolding with_member
 any_order = refl
 
--- names that end in numbers stand as texts do, and not as the numbers
+-- names that end in numbers are ordered as texts, and not as the numbers
 names_as_texts : object_of (first (λ i. (numbered (codes "d") i, number (pos i))) 12)
     ≡ object (members_of (
     (codes "d0", number (pos 0)) ∷ (codes "d1", number (pos 1)) ∷ (codes "d10", number (pos 10))
@@ -49,7 +49,7 @@ chain_at_1 : family Chain 1
 unfolding with_member digits
 chain_at_1 = refl
 
--- where the second definition stands
+-- where the second definition is
 abbrev next : List ℕ
 next = codes "#/definitions/d1"
 

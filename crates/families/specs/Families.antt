@@ -14,14 +14,14 @@ pub data Family : Type 0 where
   -- definitions in a circle, each of which names the next one in an array
   Tree : Family
 
--- its word
+-- the word of a family
 abbrev pub family_word : Family → List ℕ
 family_word Chain = codes "chain"
 family_word Wide = codes "wide"
 family_word Patterns = codes "patterns"
 family_word Tree = codes "tree"
 
--- its greatest number
+-- the greatest number of a family
 abbrev pub greatest : Family → ℕ
 greatest Chain = 1000
 greatest Wide = 200

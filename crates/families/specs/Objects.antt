@@ -3,7 +3,7 @@ use Rattle.std.specs.Prelude.{ℕ, zero, suc, List, [], ◌∷◌, ◌++◌, con
 use Rattle.documents.specs.Json.{Json, array, object, items_of, members_of}
 use Rattle.documents.specs.Tests.{comes_before}
 
--- members by name, with one more: it stands behind those whose names come before its own, and replaces one of that name
+-- members by name, with one more: it comes behind those whose names come before its own, and replaces one of that name
 unfoldable pub with_member : List (List ℕ × Json) → List ℕ × Json → List (List ℕ × Json)
 with_member [] m = m ∷ []
 with_member (n ∷ ns) m =

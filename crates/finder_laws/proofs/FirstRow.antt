@@ -1,6 +1,6 @@
 -- The word of the first row whose word is wanted is the first word that is wanted, and none is where no row's word is.
 use Rattle.std.proofs.Common.{◌≡◌, ℕ, zero, suc, ◌<◌, ◌≤◌, ◌⊎◌, inl, inr, ⊎_elim, List, [], ◌∷◌, take, true, false, length, get_or, Some, None, refl, ap, sym, ◌∙◌, subst, arith}
-use Rattle.list_laws.proofs.Lists.{in_get, in_at}
+use Rattle.list_laws.proofs.Lists.{get_or-in, in-get_or}
 use Rattle.std.specs.List.{list_all}
 use Rattle.std.proofs.lemmas.Bool.{true≢false}
 use Rattle.patterns.specs.CharSet.{is_scalar}
@@ -27,7 +27,7 @@ ordered_at : {A : Type 0} (R : A → A → Type 0) (xs : List A) (d : A) (i j : 
     → R (get_or xs i d) (get_or xs j d)
 ordered_at R [] d i j o l m = absurd (omega (arith, m))
 ordered_at R (x ∷ xs) d zero zero o l m = absurd (omega (arith, l))
-ordered_at R (x ∷ xs) d zero (suc j) o l m = o.0 (get_or xs j d) (in_get xs j d (omega (arith, m)))
+ordered_at R (x ∷ xs) d zero (suc j) o l m = o.0 (get_or xs j d) (get_or-in xs j d (omega (arith, m)))
 ordered_at R (x ∷ xs) d (suc i) zero o l m = absurd (omega (arith, l))
 ordered_at R (x ∷ xs) d (suc i) (suc j) o l m = ordered_at R xs d i j o.1 (omega (arith, l)) (omega (arith, m))
 
@@ -38,14 +38,14 @@ take_first x (y ∷ xs) e = (let q : y ≡ x = cc e in ap (λ z. z ∷ []) q)
 module _ (T : List Position) (S : List Signed) (L : List (List ℕ)) (rows : AreRows (string_atoms T S) L)
     (few : length L ≤ most_states) where
   row_word : (i : ℕ) → i < length L → list_all is_scalar (get_or L i []) ≡ true
-  row_word i l = rows_words (string_atoms T S) L rows (get_or L i []) (in_get L i [] l)
+  row_word i l = rows_words (string_atoms T S) L rows (get_or L i []) (get_or-in L i [] l)
 
   -- a wanted word has a row whose word is wanted and comes no later
   wanted_row : (w : List ℕ) → list_all is_scalar w ≡ true → is_wanted T S w ≡ true
       → (j : ℕ) × (j < length L) × (is_wanted T S (get_or L j []) ≡ true) × NoLater (get_or L j []) w
   wanted_row w s t =
       let h = word_row (string_atoms T S) L rows w s in
-      let (j, l, e) = in_at L h.first [] h.is_in in (
+      let (j, l, e) = in-get_or L h.first [] h.is_in in (
         j,
         l,
         subst (λ z. is_wanted T S z ≡ true) e (sym (wanted_same T S w h.first h.is_same) ∙ t),

@@ -12,7 +12,7 @@ use Rattle.word_laws.proofs.Rows as R
 use Rattle.finders.specs.RowsFound.{grow}
 
 module _ {A : Type 0} (same : A → A → Bool) (laws : IsEquivalence same) (extend : A → List A) (start : A) where
-  -- one row more
+  -- with one row more, what it leads to is mentioned behind the others
   pub mentioned_more : (K : List A) (x : A)
       → R.mentioned same laws extend start (K ++ x ∷ [])
       ≡ mention_all same (R.mentioned same laws extend start K) (extend x)
@@ -52,7 +52,7 @@ module _ {A : Type 0} (same : A → A → Bool) (laws : IsEquivalence same) (ext
   grow_rows n l =
       grow_through n ∙ ap (λ z. R.mentioned same laws extend start z) (take_all n (grow same extend start n) l)
 
-  -- nothing stands twice in a list that is grown
+  -- nothing is there twice in a list that is grown
   pub grow_distinct : (n : ℕ) → IsDistinct same (grow same extend start n)
   unfolding IsDistinct
   grow_distinct n =

@@ -1,11 +1,11 @@
--- What is mentioned in order stands in order, and of all that are the same the first stands there.
+-- What is mentioned in order is in order, and of all that are the same the first is there.
 use Rattle.std.proofs.Common.{◌≡◌, ◌⊎◌, inl, inr, ⊎_elim, List, [], ◌∷◌, ◌++◌, Bool, true, false, if◌then◌else◌, refl, sym, subst, append-nil, append_assoc}
 use Rattle.std.specs.Cmp.{IsEquivalence}
 use Rattle.std.specs.List.{list_any}
 use Rattle.word_states.specs.Mention.{mention, mention_all}
 use Rattle.word_laws.proofs.Mentions as M
 use Rattle.list_laws.specs.In.{IsIn}
-use Rattle.list_laws.proofs.Lists.{in_left, in_right, in_append}
+use Rattle.list_laws.proofs.Lists.{in_left, in_right, from_append}
 use Rattle.cell_laws.specs.FirstWords.{IsOrdered}
 
 module _ {A : Type 0} (R : A → A → Type 0) where
@@ -14,7 +14,7 @@ module _ {A : Type 0} (R : A → A → Type 0) where
       → IsOrdered R (L ++ M)
   ordered_append [] M a b h = b
   ordered_append (x ∷ L) M a b h = (
-    (λ y i. ⊎_elim (λ l. a.0 y l) (λ r. h x y (inl refl) r) (in_append y L M i)),
+    (λ y i. ⊎_elim (λ l. a.0 y l) (λ r. h x y (inl refl) r) (from_append y L M i)),
     ordered_append L M a.1 b (λ u v i j. h u v (inr i) j),
   )
 
@@ -31,7 +31,7 @@ module _ {A : Type 0} (R : A → A → Type 0) where
   ordered_skip [] x xs o = o.1
   ordered_skip (y ∷ L) x xs o = (
     (λ z i. o.0 z
-        (⊎_elim (λ l. in_left z L (x ∷ xs) l) (λ r. in_right z L (x ∷ xs) (inr r)) (in_append z L xs i))),
+        (⊎_elim (λ l. in_left z L (x ∷ xs) l) (λ r. in_right z L (x ∷ xs) (inr r)) (from_append z L xs i))),
     ordered_skip L x xs o.1,
   )
 
@@ -71,6 +71,7 @@ module _ {A : Type 0} (R : A → A → Type 0) where
         no_later = inl refl;
       }
 
+    -- of each element of a list in order, the first one that is the same is mentioned
     pub mentions_first : (L xs : List A) (x : A) → IsOrdered R (L ++ xs) → IsIn x xs
         → HasFirst (mention_all same L xs) x
     mentions_first L [] x o i = absurd i

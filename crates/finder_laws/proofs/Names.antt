@@ -1,4 +1,4 @@
--- The cells that are found for a set are cells of names: each name is in one, which tells what the literals of the set
+-- The cells that are found for a set are cells of names: each name is in one, which gives what the literals of the set
 -- say of it, and the words of a cell are different names of it, all of them where they are few.
 use Rattle.std.proofs.Common.{◌≡◌, ℕ, ◌*◌, ◌≤◌, ◌<◌, inl, inr, Bool, true, ◌||◌, ◌&&◌, not, List, [], ◌∷◌, map, length, nat_eq, get_or, Option, Some, None, Ok, is_some, refl, ap, ap₂, sym, ◌∙◌, subst, arith}
 use Rattle.documents.specs.Tests.{every, some, same_word}
@@ -14,7 +14,7 @@ use Rattle.positions.specs.NameFormula as F
 use Rattle.positions.specs.NameFormula.{NameFormula, name_meets}
 use Rattle.goals.specs.Signed.{Signed, position_of}
 use Rattle.list_laws.specs.In.{IsIn, Distinct}
-use Rattle.list_laws.proofs.Lists.{in_left, in_right, in_map, in_get, in_flat_map}
+use Rattle.list_laws.proofs.Lists.{in_left, in_right, in_map, get_or-in, in_flat_map}
 use Rattle.list_laws.proofs.Tests.{from_filter, same_word_comm}
 use Rattle.name_truths.specs.NameTruth.{atoms, AreTrue}
 use Rattle.name_truths.specs.NameAtoms.{formula_of, set_atoms, formula_atoms, position_atoms, name_atoms}
@@ -123,7 +123,7 @@ module _ (T : List Position) (S : List Signed) where
     rowed w s =
         let (l, e) = row_is (atoms_of_names T S) L rows w (sym (scalars_same w) ∙ s) in (
           get_or L (row_of (atoms_of_names T S) L w) [],
-          in_get L (row_of (atoms_of_names T S) L w) [] l,
+          get_or-in L (row_of (atoms_of_names T S) L w) [] l,
           vector_same w (get_or L (row_of (atoms_of_names T S) L w) []) e,
         )
 

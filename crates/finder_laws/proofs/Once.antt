@@ -7,7 +7,7 @@ use Rattle.word_laws.proofs.Mentions as M
 use Rattle.list_laws.specs.In.{IsIn}
 use Rattle.finders.specs.Once.{once}
 
--- each atom is in the list in which each stands once
+-- each atom is in the list in which each is once
 pub once_has : (a : Atom) (atoms : List Atom) → IsIn a atoms → IsIn a (once atoms)
 once_has a atoms i =
     let (b, j, e) = M.in_has same_atom same_atom_equiv a (once atoms)

@@ -1,4 +1,4 @@
--- Rows stand in the order of their words, and the word of a row is the first that leads there.
+-- Rows are in the order of their words, and the word of a row is the first that leads there.
 use Rattle.std.proofs.Common.{◌≡◌, ℕ, suc, ◌<◌, ◌⊎◌, inl, inr, List, [], ◌∷◌, ◌++◌, true, map, flat_map, length, refl, ap, ap₂, sym, ◌∙◌, subst, append-nil, append_assoc, arith}
 use Rattle.std.specs.List.{list_all}
 use Rattle.std.proofs.lemmas.Bool.{and_parts}
@@ -154,6 +154,6 @@ module _ (atoms : List Atom) where
         let (a, b) = and_parts (is_scalar c) (list_all is_scalar w) s in
         subst (λ z. HasRow z) (append_assoc u (c ∷ []) w) (row_from (u ++ c ∷ []) w (row_with_end u c a h) b)
 
-    -- each word has one
+    -- each word has a row
     pub word_row : (w : List ℕ) → list_all is_scalar w ≡ true → HasRow w
     word_row w s = row_from [] w (mentioned_row [] (inl refl)) s

@@ -1,10 +1,9 @@
 -- The rows that are found are the rows of the atoms, and the limits are those that the automaton has.
 use Rattle.std.proofs.Common.{◌≡◌, ℕ, zero, suc, ◌≤◌, ◌<◌, inl, inr, ⊎_elim, List, [], ◌∷◌, ◌++◌, Bool, true, false, cond, Option, Some, None, take, get_or, length, nat_lt, refl, sym, subst, arith}
 use Rattle.list_laws.specs.In.{IsIn}
-use Rattle.list_laws.proofs.Lists.{from_map, in_get}
+use Rattle.list_laws.proofs.Lists.{from_map, get_or-in}
 use Rattle.std.specs.List.{list_all, IsDistinct, AllByRecursion}
 use Rattle.std.proofs.lemmas.Bool.{cases_lt, lt-ltb, le-ltb, ltb-true, ltb-false}
-use Rattle.std.proofs.lemmas.List.{length-take}
 use Rattle.patterns.specs.CharSet.{is_scalar}
 use Rattle.word_states.specs.Atom.{Atom}
 use Rattle.word_states.specs.AtomPositions.{positions_of}
@@ -20,7 +19,7 @@ use Rattle.alternatives.specs.Limit.{LimitKind, Positions, Classes, States, most
 use Rattle.finders.specs.RowsFound.{longer, rows_by}
 use Rattle.finders.specs.Limits.{limit_passed}
 use Rattle.finder_laws.proofs.Grow.{grow_rows, grow_distinct}
-use Rattle.list_laws.proofs.Tests.{all_from, all_take}
+use Rattle.list_laws.proofs.Tests.{all_from}
 
 distinct_take : {A : Type 0} (same : A → A → Bool) (n : ℕ) (K : List A) → IsDistinct same K → IsDistinct same (take n K)
 unfolding IsDistinct
@@ -55,7 +54,7 @@ module _ (atoms : List Atom) where
         go G h false e i = h w i
         go G h true e i = ⊎_elim
             (λ j. h w j)
-            (λ j. extended_words (get_or G n []) (h (get_or G n []) (in_get G n [] (ltb-true n (length G) e))) w j)
+            (λ j. extended_words (get_or G n []) (h (get_or G n []) (get_or-in G n [] (ltb-true n (length G) e))) w j)
             (M.mentions_only (have_same_state atoms) (same_laws atoms) G (longer (class_firsts atoms) (get_or G n [])) w
             i)
 
@@ -65,15 +64,6 @@ module _ (atoms : List Atom) where
     refl,
     (all_from (list_all is_scalar) (rows_by (class_firsts atoms) atoms n)) (grown_words n),
     grow_distinct (have_same_state atoms) (same_laws atoms) (longer (class_firsts atoms)) [] n,
-  )
-
-  -- fewer states are there too
-  fewer_states : (m n : ℕ) → m ≤ n → HaveStates atoms n → HaveStates atoms m
-  fewer_states m n l (ws, e, s, d) = (
-    take m ws,
-    (let q = length-take m ws in grind (arith, q, e, l)),
-    all_take (list_all is_scalar) m ws s,
-    distinct_take (have_same_state atoms) m ws d,
   )
 
   -- the rows, where there are no more of them

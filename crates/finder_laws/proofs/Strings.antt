@@ -164,7 +164,7 @@ module _ (T : List Position) (S : List Signed) where
             (below_none (below T S) (first_of (wanted_words T S)) o.is)
 
 module _ (T : List Position) (ok : IsTable T) where
-  -- then none meets the set
+  -- where no word is found, no string meets the set
   pub none_meets : (S : List Signed) → strings_of T S ≡ Ok None → (w : List ℕ) → list_all is_scalar w ≡ true
       → meets T S (string w) ≡ true → ⊥
   none_meets S e w s m = let (t, h) = wanted_from T ok S w m in none_wanted T S e w s t h

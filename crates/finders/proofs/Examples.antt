@@ -32,7 +32,7 @@ longer_one : string_found letters 9 5 T (Plus 0 ∷ Plus 1 ∷ []) ≡ Ok (Some 
 unfolding letters pattern T pattern_state
 longer_one = refl
 
--- at least three characters and at most two, in both ways to ask for it
+-- at least three characters and at most two, in both ways to require it
 crossed : string_found letters 9 5 T (Plus 1 ∷ Plus 2 ∷ []) ≡ Ok None
 unfolding letters pattern T pattern_state
 crossed = refl

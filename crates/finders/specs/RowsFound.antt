@@ -1,4 +1,5 @@
--- Rows as a function: they are gone through in order, so many at most. Each stands as what was mentioned first of it.
+-- Rows as a function: they are gone through in order, so many at most. Each is represented by what was mentioned first
+-- of it.
 use Rattle.std.specs.Prelude.{ℕ, zero, suc, List, [], ◌∷◌, ◌++◌, map, length, get_or, Bool, cond, nat_lt}
 use Rattle.word_states.specs.Atom.{Atom}
 use Rattle.word_states.specs.Mention.{mention_all}
@@ -18,6 +19,6 @@ module _ {A : Type 0} (same : A → A → Bool) (extend : A → List A) (start :
 abbrev pub longer : List ℕ → List ℕ → List (List ℕ)
 longer cs w = map (λ c. w ++ c ∷ []) cs
 
--- of atoms, by the first characters of their classes
+-- the rows of atoms, by the first characters of their classes
 abbrev pub rows_by : List ℕ → List Atom → ℕ → List (List ℕ)
 rows_by firsts atoms n = grow (have_same_state atoms) (longer firsts) [] n

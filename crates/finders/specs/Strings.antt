@@ -61,7 +61,7 @@ abbrev pub string_atoms : List Position → List Signed → List Atom
 string_atoms T S =
     once (flat_map (λ x. word_atoms (position_at T (position_of x))) S ++ length_atoms (lower T S))
 
--- what a literal that lists words or has a pattern asks of a word
+-- what a literal that lists words or has a pattern requires of a word
 abbrev pub wants : List Position → List ℕ → Signed → Bool
 wants T w (Plus p) = every (λ a. is_true a w) (word_atoms (position_at T p))
 wants T w (Minus p) = every (λ a. not (is_true a w)) (word_atoms (position_at T p))
@@ -70,7 +70,7 @@ wants T w (Minus p) = every (λ a. not (is_true a w)) (word_atoms (position_at T
 abbrev pub is_wanted : List Position → List Signed → List ℕ → Bool
 is_wanted T S w = every (wants T w) S && nat_le (lower T S) (length w)
 
--- where it has fewer characters than that many
+-- the word, where it has fewer characters than the bound
 abbrev pub if_below : Option ℕ → Option (List ℕ) → Option (List ℕ)
 if_below b None = None
 if_below b (Some w) = cond (is_at_end (length w) b) None (Some w)

@@ -1,4 +1,4 @@
--- What stands where in an array or an object follows one of the frame's complete plans.
+-- What is at which place of an array or an object follows one of the frame's complete plans.
 use Rattle.std.proofs.Common.{◌≡◌, ℕ, zero, suc, ◌+◌, ◌-◌, ◌<◌, ◌≤◌, ◌⊎◌, inl, inr, ⊎_elim, Bool, true, false, ◌&&◌, cond, not, List, [], ◌∷◌, ◌++◌, map, filter, flat_map, length, take, nat_eq, Option, Some, None, refl, ap, sym, ◌∙◌, subst, arith, suc-ne-zero, add-zero, zero-add}
 use Rattle.std.proofs.lemmas.Bool.{and_from, cases_lt, lt-leb, eqb-true}
 use Rattle.std.specs.Option.{is_none}
@@ -10,14 +10,14 @@ use Rattle.goals.specs.Goal.{form}
 use Rattle.frames.specs.Frame.{Place, Head, In, Frame, list_at, is_at_end}
 use Rattle.frames.specs.Plan.{Member, Plan, plan, member, serve_head, serve_member, count_in, has_room, servers, options, one_more, used, with_members, size, heads_from, placed, clash_from, PlanStep, Over, Clashing, Split, Complete, unless_dropped, steps, complete}
 use Rattle.list_laws.specs.In.{IsIn, Distinct}
-use Rattle.list_laws.proofs.Lists.{every_at, every_from, in_left, in_right, in_append, from_flat_map, in_map, to_filter}
+use Rattle.list_laws.proofs.Lists.{every_at, every_from, in_left, in_right, from_append, from_flat_map, in_map, in_filter}
 use Rattle.list_laws.proofs.Pigeons.{dec_in, pigeon}
 use Rattle.list_laws.proofs.Numbers.{suc_add-add_suc}
 use Rattle.std.proofs.Math.Numerals.{suc-eq-add-one}
 use Rattle.frame_laws.proofs.Lengths.{length-serve_head}
 use Rattle.frame_laws.proofs.Ends.{at_end_down}
 
--- the elements or members of a document by number: where each stands, and what it meets
+-- the elements or members of a document by number: where each is, and what it meets
 pub record Arrangement : Type 0 where
   pub count : ℕ
   pub at : ℕ → Place
@@ -30,7 +30,7 @@ abbrev pub IsInside : Frame → Signed → Place → Type 0
 IsInside frame d (Head i) = Unit {0}
 IsInside frame d (In c) = frame.inside d c ≡ true
 
--- what stands where fits the frame: the count, first places, cells, and what serves demands
+-- what is at which place fits the frame: the count, first places, cells, and what serves demands
 pub record IsArranged (T : List Position) (frame : Frame) (A : Arrangement) : Type 0 where
   pub low : frame.lower ≤ A.count
   pub floor : frame.floor ≤ A.count
@@ -72,11 +72,6 @@ module _ (T : List Position) (frame : Frame) (A : Arrangement) where
 
   -- heads
 
-  in_bound : (e : Signed) (xs : List (List Signed)) (k : ℕ) → IsIn e (at_list xs k) → k < length xs
-  in_bound e [] k i = absurd i
-  in_bound e (x ∷ xs) zero i = omega arith
-  in_bound e (x ∷ xs) (suc k) i = omega (arith, in_bound e xs k i)
-
   from_serve : (e d : Signed) (xs : List (List Signed)) (k m : ℕ) → IsIn e (at_list (serve_head d xs k) m)
       → ((e ≡ d) × (m ≡ k)) ⊎ IsIn e (at_list xs m)
   from_serve e d [] k m i = absurd i
@@ -115,12 +110,6 @@ module _ (T : List Position) (frame : Frame) (A : Arrangement) where
   stand_in [] (y ∷ ys) s z i = absurd s
   stand_in (m ∷ ms) [] s z i = absurd i
 
-  stand_find : (m : Member) (ms : List Member) (ys : List ℕ) → Stand ms ys → IsIn m ms → (y : ℕ) × Stands m y
-  stand_find m [] ys s i = absurd i
-  stand_find m (n ∷ ms) (y ∷ ys) s (inl e) = (y, subst (λ z. Stands z y) (sym e) s.0)
-  stand_find m (n ∷ ms) (y ∷ ys) s (inr i) = stand_find m ms ys s.1 i
-  stand_find m (n ∷ ms) [] s i = absurd s
-
   push : (ms : List Member) (ys : List ℕ) (m : Member) (y : ℕ) → Stand ms ys → Stands m y
       → Stand (ms ++ m ∷ []) (ys ++ y ∷ [])
   push [] [] m y s t = (t, tt)
@@ -131,7 +120,7 @@ module _ (T : List Position) (frame : Frame) (A : Arrangement) where
   distinct_push : (xs : List ℕ) (j : ℕ) → Distinct xs → (IsIn j xs → ⊥) → Distinct (xs ++ j ∷ [])
   distinct_push [] j d h = ((λ i. i), tt)
   distinct_push (x ∷ xs) j d h = (
-    (λ i. ⊎_elim d.0 (λ k. ⊎_elim (λ e. h (inl (sym e))) (λ z. z) k) (in_append x xs (j ∷ []) i)),
+    (λ i. ⊎_elim d.0 (λ k. ⊎_elim (λ e. h (inl (sym e))) (λ z. z) k) (from_append x xs (j ∷ []) i)),
     distinct_push xs j d.1 (λ i. h (inr i)),
   )
 
@@ -178,7 +167,7 @@ module _ (T : List Position) (frame : Frame) (A : Arrangement) where
   chosen_distinct c [] (x ∷ ys) s d = absurd s
   chosen_distinct c (m ∷ ms) [] s d = absurd s
 
-  -- a member that stands where a demand is served may serve it
+  -- a member that is where a demand is served may serve it
   serves_there : (d : Signed) (b j : ℕ) (ms : List Member) (ys : List ℕ) → Stand ms ys → IsIn j ys
       → IsInside frame d (A.at j) → Meets A j (frame.serving (A.at j) d)
       → (i : ℕ) × IsIn (b + i) (servers frame d b ms) × Stand (serve_member d ms i) ys
@@ -317,7 +306,7 @@ module _ (T : List Position) (frame : Frame) (A : Arrangement) where
                 (in_right _ (by_head d p ++ by_member d p) (by_new d p)
                     (in_map (λ c. plan p.heads (p.members ++ member c (d ∷ []) ∷ [])) c
                     (filter (λ c. frame.inside d c && has_room frame p.members c) frame.cells)
-                    (to_filter (λ c. frame.inside d c && has_room frame p.members c) c frame.cells ic
+                    (in_filter (λ c. frame.inside d c && has_room frame p.members c) c frame.cells ic
                     (and_from _ _ inside free)))),
                 record {
                   heads_long = f.heads_long;
@@ -336,7 +325,7 @@ module _ (T : List Position) (frame : Frame) (A : Arrangement) where
         ]
       ]
 
-    -- what stands at a place meets the list of that place
+    -- what is at a place meets the list of that place
     abbrev Is : Place × List Signed → Type 0
     Is s = (j : ℕ) × (j < A.count) × (A.at j ≡ s.0) × Meets A j (list_at frame s.0 s.1)
 
@@ -348,7 +337,7 @@ module _ (T : List Position) (frame : Frame) (A : Arrangement) where
         (subst (λ z. Meets A j (flat_map (frame.each z) frame.set)) e (k.each j l)) a)
         (λ a. let (d, b, c) = from_flat_map (frame.serving at) y ds a in
         every_at (A.met j) y (frame.serving at d) (h d b) c)
-        (in_append y (flat_map (frame.each at) frame.set) (flat_map (frame.serving at) ds) i))
+        (from_append y (flat_map (frame.each at) frame.set) (flat_map (frame.serving at) ds) i))
 
     heads_met : (n a : ℕ) (xs : List (List Signed)) → a + length xs ≡ frame.heads → a + n ≤ A.count
         → ((i : ℕ) (d : Signed) → IsIn d (at_list xs i) → Meets A (a + i) (frame.serving (Head (a + i)) d))
@@ -382,7 +371,7 @@ module _ (T : List Position) (frame : Frame) (A : Arrangement) where
         (λ a. heads_met (size frame p) 0 p.heads (omega (arith, f.heads_long)) (omega (arith, size_le p f))
         (λ i d j. subst (λ z. Meets A z (frame.serving (Head z) d)) (sym (zero-add i)) (f.heads_fit i d j).1) s a)
         (λ a. members_met p.members f.who f.stand s a)
-        (in_append s (take (size frame p) (heads_from 0 p.heads)) (map (λ m. (In m.cell, m.served)) p.members) i)
+        (from_append s (take (size frame p) (heads_from 0 p.heads)) (map (λ m. (In m.cell, m.served)) p.members) i)
 
     no_clash : (n : ℕ) (ss : List (Place × List Signed)) → ((s : Place × List Signed) → IsIn s ss → Is s)
         → clash_from T frame n ss ≡ None

@@ -8,7 +8,7 @@ use Rattle.goals.specs.Signed.{Signed}
 use Rattle.frames.specs.Frame.{Frame, is_at_end}
 use Rattle.frames.specs.Plan.{Member, Plan, plan, member, empty_plan, serve_head, serve_member, count_in, has_room, servers, options, size, first_clash, PlanStep, Over, Clashing, Split, Complete, by_clash, unless_dropped, steps, complete}
 use Rattle.list_laws.specs.In.{IsIn}
-use Rattle.list_laws.proofs.Lists.{in_append, from_map}
+use Rattle.list_laws.proofs.Lists.{from_append, from_map}
 use Rattle.frame_laws.proofs.Arranged.{at_list}
 use Rattle.frame_laws.proofs.Lengths.{length-serve_head}
 use Rattle.list_laws.proofs.Tests.{from_filter}
@@ -45,16 +45,6 @@ module _ (T : List Position) (frame : Frame) where
   count_serve c d [] k = refl
   count_serve c d (m ∷ ms) zero = refl
   count_serve c d (m ∷ ms) (suc k) = ap (λ n. cond (nat_eq m.cell c) (suc n) n) (count_serve c d ms k)
-
-  -- each member stays, but for one that serves one more
-  from_member : (n : Member) (d : Signed) (ms : List Member) (k : ℕ) → IsIn n (serve_member d ms k)
-      → IsIn n ms ⊎ ((m : Member) × IsIn m ms × (n ≡ member m.cell (d ∷ m.served)))
-  from_member n d [] k i = absurd i
-  from_member n d (m ∷ ms) zero (inl e) = inr (m, inl refl, e)
-  from_member n d (m ∷ ms) zero (inr i) = inl (inr i)
-  from_member n d (m ∷ ms) (suc k) (inl e) = inl (inl e)
-  from_member n d (m ∷ ms) (suc k) (inr i) =
-      ⊎_elim (λ j. inl (inr j)) (λ (x, j, e). inr (x, inr j, e)) (from_member n d ms k i)
 
   member_stays : (m : Member) (e d : Signed) (ms : List Member) (k : ℕ) → IsIn m ms → IsIn e m.served
       → (n : Member) × IsIn n (serve_member d ms k) × IsIn e n.served
@@ -159,7 +149,7 @@ module _ (T : List Position) (frame : Frame) where
       (λ m. let (n, j, e) =
       from_map (λ n. plan p.heads (serve_member d p.members n)) q (servers frame d 0 p.members) m in
       subst (IsKept left) (sym e) (by_member n j))
-      (in_append q (map (λ n. plan (serve_head d p.heads n) p.members) (range_with_len 0 (length p.heads)))
+      (from_append q (map (λ n. plan (serve_head d p.heads n) p.members) (range_with_len 0 (length p.heads)))
       (map (λ n. plan p.heads (serve_member d p.members n)) (servers frame d 0 p.members)) a))
       (λ a. let (c, j, e) =
       from_map (λ c. plan p.heads (p.members ++ member c (d ∷ []) ∷ [])) q
@@ -167,7 +157,7 @@ module _ (T : List Position) (frame : Frame) where
       let (x, y) = from_filter (λ c. frame.inside d c && has_room frame p.members c) c frame.cells j in
       let (u, v) = and_parts (frame.inside d c) (has_room frame p.members c) y in
       subst (IsKept left) (sym e) (by_new c x u v))
-      (in_append q (map (λ n. plan (serve_head d p.heads n) p.members) (range_with_len 0 (length p.heads))
+      (from_append q (map (λ n. plan (serve_head d p.heads n) p.members) (range_with_len 0 (length p.heads))
       ++ map (λ n. plan p.heads (serve_member d p.members n)) (servers frame d 0 p.members))
       (map (λ c. plan p.heads (p.members ++ member c (d ∷ []) ∷ []))
       (filter (λ c. frame.inside d c && has_room frame p.members c) frame.cells)) i)
@@ -208,12 +198,12 @@ module _ (T : List Position) (frame : Frame) where
         heads_long = k.heads_long;
         cells = λ m h. ⊎_elim (λ j. k.cells m j)
             (λ j. ⊎_elim (λ e. subst (λ t. IsIn t.cell frame.cells) (sym e) x) (λ z. absurd z) j)
-            (in_append m p.members (member c (d ∷ []) ∷ []) h);
+            (from_append m p.members (member c (d ∷ []) ∷ []) h);
         inside = λ m e h g. ⊎_elim (λ j. k.inside m e j g)
             (λ j. ⊎_elim (λ r. let g' : IsIn e (d ∷ []) = subst (λ t. IsIn e t.served) r g in
             subst (λ t. frame.inside e t.cell ≡ true) (sym r)
             (⊎_elim (λ z. subst (λ t. frame.inside t c ≡ true) (sym z) u) (λ z. absurd z) g')) (λ z. absurd z) j)
-            (in_append m p.members (member c (d ∷ []) ∷ []) h);
+            (from_append m p.members (member c (d ∷ []) ∷ []) h);
         capped = λ a b e. subst (λ t. t ≤ b) (sym (count_push a p.members (member c (d ∷ []))))
             (at a b e (nat_eq c a) refl);
         served = served_on d left p (plan p.heads (p.members ++ member c (d ∷ []) ∷ [])) k

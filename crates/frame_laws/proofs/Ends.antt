@@ -13,6 +13,7 @@ pub at_end_down : (n m : ℕ) (o : Option ℕ) → n ≤ m → is_at_end m o ≡
 at_end_down n m None l e = refl
 at_end_down n m (Some b) l e = let h = leb-false b m e in lt-leb b n (omega (arith, h, l))
 
+-- a count is at the lesser of two ends exactly where it is at one of them
 pub lesser_end : (n : ℕ) (a b : Option ℕ) → is_at_end n (lesser a b) ≡ (is_at_end n a || is_at_end n b)
 lesser_end n None b = refl
 lesser_end n (Some k) None = sym (or-false (nat_le k n))

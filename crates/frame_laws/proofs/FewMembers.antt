@@ -8,7 +8,8 @@ use Rattle.goals.specs.Signed.{Signed}
 use Rattle.frames.specs.Frame.{Frame, is_at_end}
 use Rattle.frames.specs.Plan.{Member, Plan, plan, member, empty_plan, serve_head, serve_member, count_in, has_room, servers, options, size, first_clash, PlanStep, Over, Split, Complete, by_clash, unless_dropped, steps, plan_steps, is_end, ends, complete}
 use Rattle.list_laws.specs.In.{IsIn}
-use Rattle.list_laws.proofs.Lists.{in_append, from_map}
+use Rattle.list_laws.proofs.Lists.{from_append, from_map, in_map}
+use Rattle.list_laws.proofs.Tests.{from_filter}
 use Rattle.frame_laws.proofs.CompletePlans.{count_serve, count_push, from_complete_of, unless}
 
 pub ends_append : (xs ys : List PlanStep) → ends (xs ++ ys) ≡ ends xs + ends ys
@@ -33,20 +34,6 @@ ends_at f (x ∷ ps) p (inl e) =
     let a = ends_append (f x) (flat_map f ps) in
     let b : ends (f p) ≡ ends (f x) = ap (λ z. ends (f z)) e in omega (arith, a, b)
 ends_at f (x ∷ ps) p (inr i) = let a = ends_append (f x) (flat_map f ps) in omega (arith, a, ends_at f ps p i)
-
-in_some : (f : ℕ → Plan) (x : ℕ) (xs : List ℕ) → IsIn x xs → IsIn (f x) (map f xs)
-in_some f x [] i = absurd i
-in_some f x (y ∷ xs) (inl e) = inl (ap f e)
-in_some f x (y ∷ xs) (inr i) = inr (in_some f x xs i)
-
-in_filter : (p : ℕ → Bool) (x : ℕ) (xs : List ℕ) → IsIn x (filter p xs) → p x ≡ true
-in_filter p x [] i = absurd i
-in_filter p x (y ∷ xs) i = go (p y) refl i (in_filter p x xs) where
-  go : (b : Bool) → p y ≡ b → IsIn x (cond b (y ∷ filter p xs) (filter p xs)) → (IsIn x (filter p xs) → p x ≡ true)
-      → p x ≡ true
-  go true e (inl q) more = subst (λ z. p z ≡ true) (sym q) e
-  go true e (inr j) more = more j
-  go false e j more = more j
 
 module _ (T : List Position) (frame : Frame) where
   pub unless_same : (p : Plan) (ss : List PlanStep) → is_at_end (size frame p) frame.below ≡ false
@@ -115,13 +102,13 @@ module _ (T : List Position) (frame : Frame) where
       (λ h. let (x, y, e) =
       from_map (λ k. plan p.heads (serve_member d p.members k)) r (servers frame d 0 p.members) h in
       ap (λ z. count_in c z.members) e ∙ count_serve T frame c d p.members x)
-      (in_append r by_head by_member j) in
+      (from_append r by_head by_member j) in
       omega (arith, a, same))
       (λ j. let (x, y, e) =
       from_map (λ c. plan p.heads (p.members ++ member c (d ∷ []) ∷ [])) r
       (filter (λ c. frame.inside d c && has_room frame p.members c) frame.cells) j in
       let inside = (and_parts (frame.inside d x) (has_room frame p.members x)
-      (in_filter (λ c. frame.inside d c && has_room frame p.members c) x frame.cells y)).0 in
+      (from_filter (λ c. frame.inside d c && has_room frame p.members c) x frame.cells y).1).0 in
       let count : count_in c r.members ≡ count_in c (p.members ++ member x (d ∷ []) ∷ []) =
       ap (λ z. count_in c z.members) e in
       let more = count_push T frame c p.members (member x (d ∷ [])) in
@@ -143,12 +130,12 @@ module _ (T : List Position) (frame : Frame) where
                   let (k, at) = some_server d c 0 p.members (subst (λ z. frame.inside d z ≡ true) q inside)
                   (omega (arith, nz)) in
                   let first = ends_at (Steps left) by_member (plan p.heads (serve_member d p.members k))
-                  (in_some (λ k. plan p.heads (serve_member d p.members k)) k (servers frame d 0 p.members) at) in
+                  (in_map (λ k. plan p.heads (serve_member d p.members k)) k (servers frame d 0 p.members) at) in
                   let some = some_end left (plan p.heads (serve_member d p.members k)) in
                   omega (arith, a, b, last, count, one, first, some)
             ]
       ])
-      (in_append r (by_head ++ by_member) by_new i)
+      (from_append r (by_head ++ by_member) by_new i)
     where
       by_head : List Plan
       by_head = map (λ k. plan (serve_head d p.heads k) p.members) (range_with_len 0 (length p.heads))

@@ -8,7 +8,7 @@ use Rattle.goals.specs.Signed.{Signed}
 use Rattle.frames.specs.Frame.{In, Frame}
 use Rattle.frames.specs.Plan.{Plan, count_in, goal_of, need}
 use Rattle.list_laws.specs.In.{IsIn, Distinct}
-use Rattle.list_laws.proofs.Lists.{in_append, from_flat_map}
+use Rattle.list_laws.proofs.Lists.{from_append, from_flat_map}
 use Rattle.frame_laws.proofs.Occurrences.{cells_of, times_append, cells_append}
 use Rattle.frames.specs.Fillers.{Filler, with_room, filler_at, fillers, rooms_of, times, fill}
 
@@ -70,7 +70,7 @@ module _ (can : List Signed → Bool) (child : List Signed → Document) where
     go true e i more = ⊎_elim
         (λ j. (f, inl refl, e, in_replicate v (f.cell, child f.goal) (min n f.room) j))
         (λ j. let (g, a, b, c) = more (n - f.room) j in (g, inr a, b, c))
-        (in_append v (replicate (min n f.room) (f.cell, child f.goal)) (fill can child (n - f.room) fs) i)
+        (from_append v (replicate (min n f.room) (f.cell, child f.goal)) (fill can child (n - f.room) fs) i)
 
   pub fill_length : (n : ℕ) (fs : List Filler) → n ≤ rooms_of can fs → length (fill can child n fs) ≡ n
   fill_length n [] l = omega (arith, l)

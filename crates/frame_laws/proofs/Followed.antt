@@ -1,4 +1,4 @@
--- What is arranged by a frame meets one of the alternatives of its plans. A test tells which goals are met by
+-- What is arranged by a frame meets one of the alternatives of its plans. A test says which goals are met by
 -- documents that count as children.
 use Rattle.std.proofs.Common.{◌≡◌, ℕ, zero, suc, ◌+◌, ◌-◌, ◌<◌, ◌≤◌, Bool, true, false, not, cond, List, [], ◌∷◌, ◌++◌, map, flat_map, nat_eq, replicate, Option, Some, None, refl, ap, sym, ◌∙◌, subst, arith}
 use Rattle.std.proofs.Math.ListN.{length-replicate}

@@ -3,6 +3,7 @@ use Rattle.std.proofs.Common.{◌≡◌, ℕ, zero, suc, List, [], ◌∷◌, le
 use Rattle.goals.specs.Signed.{Signed}
 use Rattle.frames.specs.Plan.{Member, serve_head, serve_member, heads_from, used, one_more}
 
+-- to serve a demand at a first place leaves the number of first places as it was
 pub length-serve_head : (d : Signed) (xs : List (List Signed)) (k : ℕ) → length (serve_head d xs k) ≡ length xs
 length-serve_head d [] k = refl
 length-serve_head d (x ∷ xs) zero = refl

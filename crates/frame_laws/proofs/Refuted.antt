@@ -7,9 +7,9 @@ use Rattle.frames.specs.Frame.{Place, Head, In, Frame, list_at, is_at_end}
 use Rattle.frames.specs.Plan.{Member, Plan, count_in, options, size, placed, need}
 use Rattle.frames.specs.PlanLines.{Ending, Entry, Kept, Ends, PlanLine, Count, Split, At, Short, is_refuted, plus, room_of, rooms, is_short, is_refuted_at, where_true, after}
 use Rattle.list_laws.specs.In.{IsIn, Distinct}
-use Rattle.list_laws.proofs.Counts.{sum_over, up_from, subset_length, with_key, from_key, distinct_key, keyed, all_keyed, up_from_low, up_from_distinct, up_from_length}
+use Rattle.list_laws.proofs.Counts.{sum_over, up_from, subset_length, with_key, from_with_key, Distinct-with_key, keyed, all_keyed, from_up_from, Distinct-up_from, length-up_from}
 use Rattle.frame_laws.proofs.Arranged.{Arrangement, Meets, IsArranged, Stand, Fits, chosen, chosen_count, size_le, option_fits, placed_met, list_met}
-use Rattle.list_laws.proofs.Lists.{in_slice}
+use Rattle.list_laws.proofs.Lists.{slice_get-in}
 use Rattle.frame_laws.proofs.Ends.{at_end_up}
 
 module _ (T : List Position) (frame : Frame) (A : Arrangement) (k : IsArranged T frame A)
@@ -28,7 +28,7 @@ module _ (T : List Position) (frame : Frame) (A : Arrangement) (k : IsArranged T
   others = up_from frame.heads (A.count - frame.heads)
 
   other_at : (j : ℕ) → IsIn j others → (j < A.count) × (frame.heads ≤ j)
-  other_at j i = let (a, b) = up_from_low frame.heads (A.count - frame.heads) j i in (omega (arith, a, b), a)
+  other_at j i = let (a, b) = from_up_from frame.heads (A.count - frame.heads) j i in (omega (arith, a, b), a)
 
   in_cell : (j : ℕ) → IsIn j others → (A.at j ≡ In (Key j)) × IsIn (Key j) frame.cells
   in_cell j i =
@@ -38,7 +38,7 @@ module _ (T : List Position) (frame : Frame) (A : Arrangement) (k : IsArranged T
 
   with_cell : (c j : ℕ) → IsIn j (with_key Key c others) → (j < A.count) × (A.at j ≡ In c)
   with_cell c j i =
-      let (a, e) = from_key Key c j others i in
+      let (a, e) = from_with_key Key c j others i in
       ((other_at j a).0, (in_cell j a).0 ∙ ap In e)
 
   -- of the rooms that lines keep
@@ -58,7 +58,7 @@ module _ (T : List Position) (frame : Frame) (A : Arrangement) (k : IsArranged T
         go (Some b) p None q e more = cc
         go (Some b) p (Some m) q e more =
             let h = k.capped c b p (with_key Key c others)
-            (distinct_key Key c others (up_from_distinct frame.heads (A.count - frame.heads))) (with_cell c) in
+            (Distinct-with_key Key c others (Distinct-up_from frame.heads (A.count - frame.heads))) (with_cell c) in
             let f : (b - count_in c ms) + m ≡ n = cc in
             omega (arith, h, f, more m q)
   rooms_bound ms ys s d (c ∷ cs) (Ends x ∷ es) n e =
@@ -80,7 +80,7 @@ module _ (T : List Position) (frame : Frame) (A : Arrangement) (k : IsArranged T
         go false p e more = cc
         go true p e more =
             let h = subset_length (with_key Key c others) (chosen T frame A c ms ys)
-            (distinct_key Key c others (up_from_distinct frame.heads (A.count - frame.heads))) (taken p) in
+            (Distinct-with_key Key c others (Distinct-up_from frame.heads (A.count - frame.heads))) (taken p) in
             omega (arith, h, chosen_count T frame A c ms ys s, more e)
   rooms_bound ms ys s d [] (x ∷ es) n e = cc
   rooms_bound ms ys s d (c ∷ cs) [] n e = cc
@@ -125,7 +125,7 @@ module _ (T : List Position) (frame : Frame) (A : Arrangement) (k : IsArranged T
       let a = rooms_bound p.members f.who f.stand f.distinct frame.cells es n e in
       let b = all_keyed Key frame.cells others (λ j i. (in_cell j i).1) in
       let c = count_all p.members frame.cells once in
-      let d : length others ≡ A.count - frame.heads = up_from_length frame.heads (A.count - frame.heads) in
+      let d : length others ≡ A.count - frame.heads = length-up_from frame.heads (A.count - frame.heads) in
       omega (arith, a, b, c, d, k.low, size_le T frame A k p f)
 
   -- nothing is arranged by a plan that is shown dead
@@ -159,7 +159,7 @@ module _ (T : List Position) (frame : Frame) (A : Arrangement) (k : IsArranged T
             → is_refuted_at T cite frame o x ≡ true → ⊥
         go None q r = cc
         go (Some s) q r =
-            let (j, l, at, m) = placed_met T frame A k p f s (in_slice s (placed frame p) n q) in
+            let (j, l, at, m) = placed_met T frame A k p f s (slice_get-in s (placed frame p) n q) in
             let y : true ≡ false = sym r ∙ safe j (list_at frame s.0 s.1) x l m in cc
   after_free p [] (Short es) qs e more f w =
       go (rooms T cite frame p.members frame.cells es) refl

@@ -1,4 +1,4 @@
--- What a reader must believe: what a frame asks, which plans serve its demands, the frames of sets at arrays and at
+-- What a reader must believe: what a frame requires, which plans serve its demands, the frames of sets at arrays and at
 -- objects, and the fillers of a plan. `PlanLines` says what lines of a certificate show of a plan.
 pub mod Frame
 pub mod Plan

@@ -79,7 +79,7 @@ abbrev pub heads_from : ℕ → List (List Signed) → List (Place × List Signe
 heads_from k [] = []
 heads_from k (x ∷ xs) = (Head k, x) ∷ heads_from (suc k) xs
 
--- what stands where, and serves what
+-- what is at which place, and serves what
 abbrev pub placed : Frame → Plan → List (Place × List Signed)
 placed frame p = take (size frame p) (heads_from 0 p.heads) ++ map (λ m. (In m.cell, m.served)) p.members
 
@@ -97,7 +97,7 @@ first_clash T frame p = clash_from T frame 0 (placed frame p)
 pub data PlanStep : Type 0 where
   -- more than there may be
   Over : PlanStep
-  -- what stands there clashes
+  -- what is placed there clashes
   Clashing : ℕ → PlanStep
   -- so many options
   Split : ℕ → PlanStep

@@ -18,7 +18,7 @@ pub data Entry : Type 0 where
 pub data PlanLine : Type 0 where
   Count : PlanLine
   Split : PlanLine
-  -- of what is placed, by its number
+  -- the line of what is placed, by its number
   At : ℕ → Ending → PlanLine
   Short : List Entry → PlanLine
 

@@ -8,7 +8,7 @@ use Rattle.documents.specs.Kind.{Kind}
 use Rattle.documents.specs.Document.{Document, kind_of}
 use Rattle.positions.specs.Position.{Position}
 use Rattle.positions.specs.Holds.{holds, IsTable}
-use Rattle.position_laws.proofs.Lists.{all-weaker, all-everywhere, all-flat_map, some-same, some-flat_map}
+use Rattle.list_laws.proofs.Elements.{all-weaker, all-everywhere, all-flat_map, some-same, some-flat_map}
 use Rattle.goals.specs.Signed.{Signed, Plus, has, add_all, met, meets}
 use Rattle.goals.specs.Choices.{choices}
 use Rattle.goals.specs.Goal.{contains}

@@ -172,7 +172,7 @@ module _ (T : List Position) (ok : IsTable T) (J : Document) where
   meets-root a b =
       sym (meets-form (Plus a ∷ Minus b ∷ [])) ∙ ap (λ c. holds T a J && c) (and-true (not (holds T b J)))
 
-  -- the big goal asks for more
+  -- the big goal requires more
   pub contains-met : (big small : List Signed) → contains big small ≡ true → meets T big J ≡ true
       → meets T small J ≡ true
   contains-met big small e m =

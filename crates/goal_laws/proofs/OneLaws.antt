@@ -2,7 +2,7 @@
 use Rattle.std.proofs.Common.{◌≡◌, ℕ, Bool, ◌&&◌, ◌||◌, List, [], ◌∷◌, map, refl, ap, ap₂, sym, ◌∙◌}
 use Rattle.std.proofs.Math.Bool.{and-true, and-false, and-or_distrib_left}
 use Rattle.documents.specs.Tests.{every, some}
-use Rattle.position_laws.proofs.Lists.{some-append}
+use Rattle.list_laws.proofs.Elements.{some-append}
 use Rattle.goals.specs.Signed.{Signed, Plus, Minus}
 use Rattle.goals.specs.Choices.{one_plus, two_plus}
 

@@ -10,7 +10,7 @@ use Rattle.documents.specs.Document.{Document, null, boolean, number, string, ar
 use Rattle.positions.specs.Position.{Position, True, False, Same, Not, All, Any, One, Depends, Types}
 use Rattle.positions.specs.Position.{speaks_of, position_at, in_place}
 use Rattle.positions.specs.Holds.{asks, holds, IsTable}
-use Rattle.position_laws.proofs.Lists.{all-weaker, all-map, all-append, every-map}
+use Rattle.list_laws.proofs.Elements.{all-weaker, all-map, all-append, every-map}
 use Rattle.position_laws.proofs.Asks.{holds-asks}
 use Rattle.goals.specs.Signed.{Signed, Plus, Minus, opposite, position_of, has, met, meets}
 use Rattle.goals.specs.Choices.{one_plus, two_plus, for_objects, plus_choices, minus_choices, choices}
@@ -119,7 +119,7 @@ module _ (here : ℕ → Bool) where
     plus_wrong-asks (Types ts) J e = not-true (some (same_kind (kind_of J)) ts) e
     plus_wrong-asks _ J e = cc
 
-    -- a typed position holds of each document of another kind: whichever the position is, it asks nothing of this
+    -- a typed position holds of each document of another kind: whichever the position is, it requires nothing of this
     -- document, or it isn't elsewhere
     pub asks-elsewhere : (J : Document) (P : Position) → is_elsewhere (kind_of J) (speaks_of P) ≡ true
         → asks here below P J ≡ true

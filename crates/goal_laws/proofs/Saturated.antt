@@ -10,7 +10,7 @@ use Rattle.positions.specs.Position.{Position, Types, position_at}
 use Rattle.positions.specs.Holds.{asks, holds, IsTable}
 use Rattle.position_laws.specs.Plain.{is_untyped, is_plain}
 use Rattle.position_laws.proofs.Plainness.{is_plain-untyped}
-use Rattle.position_laws.proofs.Lists.{all-at, some-find, some-contains}
+use Rattle.list_laws.proofs.Elements.{all-at, some-element, contains-some}
 use Rattle.position_laws.proofs.Asks.{holds-asks}
 use Rattle.goals.specs.Signed.{Signed, Plus, Minus, position_of, has, met, meets}
 use Rattle.goals.specs.Choices.{plus_choices, minus_choices, choices, plus_wrong, minus_wrong, is_wrong}
@@ -42,10 +42,10 @@ module _ (T : List Position) (ok : IsTable T) (J : Document) (S : List Signed)
             → met (λ p. holds T p J) x ≡ true
         go None e c exact names more = literals x i e
         go (Some cs) e c exact names more =
-            let (C, k, h) = some-find (λ C. every (λ y. has y S) C) cs c in
+            let (C, k, h) = some-element (λ C. every (λ y. has y S) C) cs c in
             let lower = all-at _ cs C names k in
             sym exact
-            ∙ some-contains (λ C. meets T C J) cs C k
+            ∙ contains-some (λ C. meets T C J) cs C k
             (has-every (met (λ p. holds T p J)) C
             (λ y j. more y (all-has _ C y lower j) (every-has (λ y. has y S) C y h j)))
 
@@ -54,7 +54,7 @@ module _ (T : List Position) (ok : IsTable T) (J : Document) (S : List Signed)
   meets-saturated =
       has-every (met (λ p. holds T p J)) S (λ x i. all_met (suc (ok.rank (position_of x))) x (omega arith) i)
 
--- an untyped literal that isn't wrong at the document's kind is met: it asks for a kind alone
+-- an untyped literal that isn't wrong at the document's kind is met: it requires a kind alone
 module _ (here : ℕ → Bool) (below : ℕ → Document → Bool) where
   plus_literal : (P : Position) (J : Document) → is_untyped P ≡ true → plus_choices (kind_of J) P ≡ None
       → plus_wrong (kind_of J) P ≡ false
@@ -83,7 +83,7 @@ module _ (T : List Position) (ok : IsTable T) (plain : is_plain T ≡ true) (J :
   is_saturated-met S full =
       meets-saturated T ok J S (λ x i e. literal-met x e (full.none_wrong x i)) full.chosen
 
--- what the branches of a tree tell of every document of its kind
+-- what the branches of a tree say of every document of its kind
 module _ (T : List Position) (ok : IsTable T) (J : Document) (t : Kind) (of_kind : kind_of J ≡ t) where
   pub branches-none_met : (S : List Signed) → branches (steps T t S) ≡ [] → meets T S J ≡ false
   branches-none_met S e =

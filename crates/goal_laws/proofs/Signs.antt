@@ -4,7 +4,7 @@ use Rattle.std.proofs.Math.Bool.{and_assoc, or_assoc, not-not, and_self_left, or
 use Rattle.std.specs.List.{AllByRecursion}
 use Rattle.std.proofs.lemmas.Bool.{eqb-true, eqb-false, eq-eqb, ltb-true, ltb-false, lt-ltb, leb-true, leb-false, le-leb, and_parts, and_from, or_cases, or_left, or_right, cases_eq}
 use Rattle.documents.specs.Tests.{every, some}
-use Rattle.position_laws.proofs.Lists.{some-contains}
+use Rattle.list_laws.proofs.Elements.{contains-some}
 use Rattle.goals.specs.Signed.{Signed, Plus, Minus, opposite, same_signed, comes_before, has, add, add_all, is_rising, met, position_of}
 use Rattle.list_laws.proofs.Booleans.{and_left_comm, or_left_comm}
 
@@ -93,7 +93,7 @@ all-has P (y ∷ S) x h i =
     ]
 
 pub contains-has : (S : List Signed) (x : Signed) → Contains S x → has x S ≡ true
-contains-has S x i = some-contains (same_signed x) S x i (same_signed-itself x)
+contains-has S x i = contains-some (same_signed x) S x i (same_signed-itself x)
 
 module _ (p : Signed → Bool) where
   -- a test that all of a set pass is passed by what the set has
@@ -179,9 +179,6 @@ module _ (p : Signed → Bool) where
       some-add x (add_all C S) ∙ ap (λ b. p x || b) (some-add_all C S)
       ∙ sym (or_assoc (p x) (some p C) (some p S))
 
-pub has-add : (z x : Signed) (S : List Signed) → has z (add x S) ≡ (same_signed z x || has z S)
-has-add z x S = some-add (same_signed z) x S
-
 pub has-add_all : (z : Signed) (C S : List Signed) → has z (add_all C S) ≡ (has z C || has z S)
 has-add_all z C S = some-add_all (same_signed z) C S
 
@@ -211,7 +208,7 @@ pub is_rising-add_all : (C S : List Signed) → is_rising S ≡ true → is_risi
 is_rising-add_all [] S e = e
 is_rising-add_all (x ∷ C) S e = is_rising-add x (add_all C S) (is_rising-add_all C S e)
 
--- what comes before all of a set stands at its head
+-- what comes before all of a set is at its head
 pub add-head : (x : Signed) (S : List Signed) → every (comes_before x) S ≡ true → add x S ≡ x ∷ S
 add-head x [] e = refl
 add-head x (y ∷ S) e =

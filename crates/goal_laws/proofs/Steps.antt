@@ -7,7 +7,7 @@ use Rattle.documents.specs.Kind.{Kind}
 use Rattle.positions.specs.Position.{Position}
 use Rattle.positions.specs.Holds.{IsTable}
 use Rattle.position_laws.proofs.Counts.{passing, passing-bound, passing-rises, passing-less}
-use Rattle.position_laws.proofs.Lists.{all-weaker, all-both, some-all, flat_map-same}
+use Rattle.list_laws.proofs.Elements.{all-weaker, all-both, some-all, flat_map-same}
 use Rattle.goals.specs.Signed.{Signed, Plus, Minus, position_of, opposite, has, add_all}
 use Rattle.goals.specs.Choices.{choices, is_wrong}
 use Rattle.goals.specs.Tree.{Step, Clash, Wrong, Rule, Saturated, has_choice, first, choice_list, step_at, next, steps_from, steps_within, steps}
@@ -16,7 +16,7 @@ use Rattle.goal_laws.proofs.Firsts.{first-some, first-none}
 use Rattle.goal_laws.proofs.Signs.{has-add_all, every-fails, all-has, contains-has}
 use Rattle.goal_laws.proofs.Rules.{AreNames, choices-names}
 
--- what a step tells of its set
+-- what a step says of its set
 
 abbrev pub Told : List Position → Kind → List Signed → Step → Type 0
 Told T t S (Clash p) = (has (Plus p) S ≡ true) × (has (Minus p) S ≡ true)

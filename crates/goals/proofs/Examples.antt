@@ -119,7 +119,7 @@ rule_without_choices : steps table Null (Plus 8 ∷ []) ≡ Rule (Plus 8) [] ∷
 unfolding steps
 rule_without_choices = refl
 
--- it counts as an end
+-- a rule without choices counts as an end
 rule_without_choices_ends : ends (steps table Null (Plus 8 ∷ [])) ≡ 1
 unfolding steps
 rule_without_choices_ends = refl

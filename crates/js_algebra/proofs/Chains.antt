@@ -4,7 +4,7 @@ use Rattle.std.proofs.lemmas.Bool.{eq-eqb, and_from, cases_lt, lt-ltb}
 use Rattle.std.proofs.lemmas.List.{length-append}
 use Rattle.documents.specs.Tests.{every}
 use Rattle.positions.specs.Position.{Position, Not, LengthMin, in_place, names_below, in_range, ranks_fall, is_table}
-use Rattle.list_laws.proofs.Every.{every-append}
+use Rattle.list_laws.proofs.Every.{every_joined}
 use Rattle.position_laws.proofs.Joined.{ranks_fall-append}
 
 -- ranks
@@ -64,7 +64,7 @@ module _ (link : ℕ → Position) where
     below : (n m : ℕ) → n < m → every (names_below m) (chain n) ≡ true
     below zero m l = refl
     below (suc n) m l =
-        every-append (names_below m) (chain n) (link n ∷ []) (below n m (omega (arith, l)))
+        every_joined (names_below m) (chain n) (link n ∷ []) (below n m (omega (arith, l)))
         (ap (λ b. b && true) ((is n).named m (omega (arith, l))))
 
     fall : (n m : ℕ) → n ≤ m → ranks_fall (numbers m) 0 (chain n) ≡ true
@@ -79,8 +79,9 @@ module _ (link : ℕ → Position) where
 
     ranged : (n : ℕ) → every in_range (chain n) ≡ true
     ranged zero = refl
-    ranged (suc n) = every-append in_range (chain n) (link n ∷ []) (ranged n) (ap (λ b. b && true) (is n).ranged)
+    ranged (suc n) = every_joined in_range (chain n) (link n ∷ []) (ranged n) (ap (λ b. b && true) (is n).ranged)
 
+    -- a chain of links is a table, whose ranks are the numbers from 0 on
     pub chain-is_table : (n : ℕ) → is_table (chain n) (numbers n) ≡ true
     chain-is_table n =
         and_from _ (ranks_fall (numbers n) 0 (chain n))

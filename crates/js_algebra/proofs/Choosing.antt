@@ -163,12 +163,6 @@ length-not_one ps =
     length-two_plus (places ps) ∙ ap pairs (length-places ps) in
     omega (arith, same)
 
-pub not_one-at : (ps : List Pos) (i : ℕ) → 0 < i
-    → get_or (map Minus (places ps) ∷ two_plus (places ps)) i [] ≡ get_or (two_plus (places ps)) (i - 1) []
-not_one-at ps zero l = absurd (omega arith)
-not_one-at ps (suc i) l =
-    let same : i ≡ suc i - 1 = omega arith in ap (λ j. get_or (two_plus (places ps)) j []) same
-
 pub length-each : (s : Bool) (ps : List Pos) → length (map (with_sign s) (places ps)) ≡ length ps
 length-each s ps = length-map (places ps) (with_sign s) ∙ length-places ps
 

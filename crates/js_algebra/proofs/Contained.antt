@@ -1,4 +1,4 @@
--- One pass over two rising lists tells whether one contains the other.
+-- One pass over two rising lists decides whether one contains the other.
 use Rattle.std.proofs.Common.{◌≡◌, ℕ, ◌+◌, ◌-◌, ◌<◌, ◌≤◌, Bool, true, false, ◌&&◌, ◌||◌, List, [], ◌∷◌, map, take, drop, length, get_or, refl, arith, ap, ap₂, nat_eq, sym, ◌∙◌, add-one, drop-cons}
 use Rattle.std.proofs.lemmas.Bool.{and_parts, ne_eqb}
 use Rattle.std.proofs.lemmas.Grind.{common_steps}
@@ -106,7 +106,7 @@ pub keeps_none : (answer : Bool) (B R : List Signed) → length R ≡ 0 → Keep
 keeps_none answer B [] e k = k.decides
 keeps_none answer B (y ∷ R) e k = absurd (omega (arith, e))
 
--- the greater goal asks for more
+-- the greater goal requires more
 pub contained-met : (big small : List G.Signed) (r : Bool) → r ≡ contains big small
     → (T : List Position) (J : Document) → r ≡ true → G.meets T big J ≡ true → G.meets T small J ≡ true
 contained-met big small r e T J h m =

@@ -1,5 +1,5 @@
--- Threads may send and share core tables. Types that hold a pattern's tree are shown to be so here, each by its fields,
--- since a check shows it by itself only of types that don't reach a type that holds itself.
+-- Threads may send and share core tables. Of types that hold a pattern's tree this is shown here, each by its fields,
+-- since a check finds it by itself only of types that don't reach a type that holds itself.
 use denote.Hole.{as_row}
 use denote.Param.Send.{IsSend, IsSync, sendable, view_send, view_sync}
 use denote.Param.SendFields.{as_row_send, as_row_sync, declared_send, declared_sync, variants_send, variants_sync}

@@ -4,7 +4,7 @@ use Rattle.std.proofs.Math.Bool.{or_comm, or-false}
 use Rattle.std.proofs.lemmas.List.{take-append-le}
 use Rattle.std.proofs.lemmas.Bool.{true≢false, or_cases, or_left, or_right}
 use Rattle.std.proofs.lemmas.Grind.{common_steps}
-use Rattle.position_laws.proofs.Lists.{some-append}
+use Rattle.list_laws.proofs.Elements.{some-append}
 use Rattle.positions.specs.Position.{Position}
 use Rattle.goals.specs.Signed as G
 use Rattle.goals.specs.Signed.{has, same_signed, add_all}
@@ -64,7 +64,7 @@ pub length-with_members : (C xs : List G.Signed) → length xs ≤ length (with_
 length-with_members [] xs = omega arith
 length-with_members (x ∷ C) xs = omega (arith, length-with_member x xs, length-with_members C (with_member x xs))
 
--- they stay where they are
+-- earlier members keep their places
 pub take-with_members : (k : ℕ) (C xs : List G.Signed) → k ≤ length xs → take k (with_members C xs) ≡ take k xs
 take-with_members k [] xs l = refl
 take-with_members k (x ∷ C) xs l =

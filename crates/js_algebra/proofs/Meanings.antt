@@ -7,7 +7,7 @@ use Rattle.documents.specs.Kind.{Kind}
 use Rattle.documents.specs.Document.{Document, kind_of}
 use Rattle.positions.specs.Position.{Position, names_below, is_table}
 use Rattle.positions.specs.Holds.{holds, IsTable}
-use Rattle.position_laws.proofs.Lists.{all-weaker, all-every}
+use Rattle.list_laws.proofs.Elements.{all-weaker, all-every}
 use Rattle.position_laws.proofs.Tables.{names_below-all, is_table-IsTable}
 use Rattle.goals.specs.Signed.{Signed, position_of, met, meets}
 use Rattle.goals.specs.Choices.{plus_choices, minus_choices, choices}

@@ -1,7 +1,7 @@
 -- Numbers in the order in which they came are kept as their signed positions.
 use Rattle.std.proofs.Common.{◌≡◌, ℕ, zero, suc, ◌/◌, ◌%◌, ◌^◌, ◌<◌, Bool, true, false, ◌||◌, cond, if◌then◌else◌, nat_eq, nat_lt, List, [], ◌∷◌, ◌++◌, map, take, refl, arith, ap, ap₂, sym, ◌∙◌}
 use Rattle.std.specs.List.{list_any}
-use Rattle.std.proofs.lemmas.Bool.{eqb-true, eqb-false, lt-ltb, and_parts, and_from}
+use Rattle.std.proofs.lemmas.Bool.{eqb-true, eqb-false, and_parts, and_from}
 use Rattle.indexmap.specs.IndexSet.{insert_key}
 use Rattle.documents.specs.Tests.{every}
 use Rattle.goals.specs.Signed.{Signed, has}
@@ -42,18 +42,6 @@ insert-with_member x ks =
         ≡ cond b (map signed_at ks) (map signed_at ks ++ x ∷ [])
     go true = refl
     go false = map-put ks (order_of x) ∙ ap (λ y. map signed_at ks ++ y ∷ []) (signed_at-order_of x)
-
-every-put : (p : ℕ → Bool) (ks : List ℕ) (k : ℕ) → every p ks ≡ true → p k ≡ true → every p (ks ++ k ∷ []) ≡ true
-every-put p [] k a b = and_from _ _ b refl
-every-put p (j ∷ ks) k a b =
-    let (c, d) = and_parts (p j) (every p ks) a in and_from _ _ c (every-put p ks k d b)
-
-pub numbers-put : (n : ℕ) (ks : List ℕ) → n < 2 ^ 33 → are_numbers ks ≡ true
-    → are_numbers (insert_key nat_eq ks n) ≡ true
-numbers-put n ks l e = go (list_any (nat_eq n) ks) where
-  go : (b : Bool) → are_numbers (if b then ks else (ks ++ n ∷ [])) ≡ true
-  go true = e
-  go false = every-put (λ m. nat_lt m (2 ^ 33)) ks n e (lt-ltb _ _ l)
 
 every-take : (p : ℕ → Bool) (k : ℕ) (ks : List ℕ) → every p ks ≡ true → every p (take k ks) ≡ true
 every-take p zero ks e = refl

@@ -1,6 +1,6 @@
 -- Signed positions are ordered as their numbers are.
 use Rattle.std.proofs.Common.{◌≡◌, ◌+◌, ◌*◌, ◌<◌, ◌≤◌, true, false, arith, ap, sym, ◌∙◌, nat_eq, nat_lt}
-use Rattle.std.proofs.lemmas.Bool.{ltb-true, ltb-false, leb-true, eqb-true, eqb-false, lt-ltb, le-leb, eq-eqb, ne_eqb}
+use Rattle.std.proofs.lemmas.Bool.{ltb-true, leb-true, eqb-true, eqb-false, lt-ltb, le-leb, eq-eqb, ne_eqb}
 use Rattle.goals.specs.Signed.{Signed, Plus, Minus, same_signed, comes_before}
 use Rattle.js_algebra.specs.Order.{order_of}
 use Rattle.list_laws.proofs.Booleans.{same_test}
@@ -29,14 +29,8 @@ before_lt x y e = ltb-true _ _ (sym (before-order x y) ∙ e)
 pub lt_before : (x y : Signed) → order_of x < order_of y → comes_before x y ≡ true
 lt_before x y l = before-order x y ∙ lt-ltb _ _ l
 
-pub not_before_le : (x y : Signed) → comes_before x y ≡ false → order_of y ≤ order_of x
-not_before_le x y e = ltb-false _ _ (sym (before-order x y) ∙ e)
-
 pub same_eq : (x y : Signed) → same_signed x y ≡ true → order_of x ≡ order_of y
 same_eq x y e = eqb-true _ _ (sym (same-order x y) ∙ e)
-
-pub eq_same : (x y : Signed) → order_of x ≡ order_of y → same_signed x y ≡ true
-eq_same x y e = same-order x y ∙ eq-eqb _ _ e
 
 pub ne_same : (x y : Signed) → (order_of x ≡ order_of y → ⊥) → same_signed x y ≡ false
 ne_same x y n = same-order x y ∙ ne_eqb _ _ n

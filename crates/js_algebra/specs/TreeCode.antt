@@ -1,4 +1,4 @@
--- A code for trees of patterns: a list that gives each tree back. So values that hold trees can be told apart.
+-- A code for trees of patterns: a list that gives each tree back. So values that hold trees can be distinguished.
 use Rattle.std.specs.Prelude.{◌≡◌, ℕ, zero, suc, List, [], ◌∷◌, Option, None}
 use mathlib.Core.Path.{refl, ap, ◌∙◌}
 use Rattle.std.specs.Coded.{Coded, code_by, coded×, coded_ℕ, coded_list, coded_option}

@@ -145,7 +145,7 @@ impl Core {
         Ok(found)
     }
 
-    /// Whether a rising list clashes: opposites stand side by side in it.
+    /// Whether a rising list clashes: opposites are side by side in it.
     fn clashes_nearby(&self, items: &[Signed]) -> bool
         requires { are_in_table self.now.positions (map signed_view items.now) ≡ true }
         ensures { result ≡ clashes_nearby self.now.positions (map signed_view items.now) }

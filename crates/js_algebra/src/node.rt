@@ -21,8 +21,8 @@ pub enum JsonKind {
     Object,
 }
 
-/// What a position asks of a document; `node_view` is the position that it stands for. A typed position, from `BoolIs`
-/// on, asks nothing of documents of other kinds.
+/// What a position requires of a document; `node_view` is the position that it stands for. A typed position, from
+/// `BoolIs` on, requires nothing of documents of other kinds.
 #[derive(Drop)]
 pub enum Node {
     True,

@@ -90,12 +90,7 @@ fn dependency(h: Pos, q: Pos, plus: bool, kind: JsonKind) -> Rule<'static>
 fn has_kind(kinds: &[JsonKind], kind: JsonKind) -> bool
     ensures { result ≡ some (same_kind (kind_view kind)) (map kind_view kinds.now) }
 {
-    for k in kinds {
-        if *k == kind {
-            return true;
-        }
-    }
-    false
+    kinds.contains(&kind)
 }
 
 /// Whether a typed position speaks of another kind.

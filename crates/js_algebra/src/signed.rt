@@ -18,7 +18,7 @@ impl Signed {
     ghost use Rattle.js_algebra.specs.Order.{order_of};
     ghost use Rattle.js_algebra.specs.Numbers.{signed_at};
 
-    /// That the position holds.
+    /// The signed position that says that `pos` holds.
     pub fn plus(pos: Pos) -> Signed
         ensures { signed_view result ≡ S.Plus pos.0 }
     {

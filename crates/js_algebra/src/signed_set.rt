@@ -1,7 +1,7 @@
 //! A set of signed positions that grows, and goes back to what it was.
 //!
-//! The members stand in the order in which they came, so to go back is to forget the later ones. A set costs what is
-//! put into it, whatever the size of the table: a member is found by a hash of its number, and going back costs what is
+//! The members are in the order in which they came, so to go back is to forget the later ones. A set costs what is put
+//! into it, whatever the size of the table: a member is found by a hash of its number, and going back costs what is
 //! forgotten. The trees, the search and the checker keep the set of their path in one.
 
 ghost use Rattle.std.specs.Prelude.{◌≡◌, ◌<◌, [], map, take, length, get_or, IfOk, OnOk, OnErr};

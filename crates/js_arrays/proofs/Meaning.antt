@@ -11,6 +11,7 @@ use Rattle.js_arrays.specs.declared.fault.ArrayFault.{ArrayFault}
 use Rattle.js_arrays.specs.Leaves.{Answers, Follows, Makes}
 
 module _ (T : List Position) (ranks : List ℕ) (table : is_table T ranks ≡ true) (k : ℕ) (S : List Signed) where
+  -- where an array meets the set, one of the alternatives that are returned is met
   pub follows : (r : Result Leaf ArrayFault) → Answers T k S r → IfOk r (λ leaf. Follows T S leaf.alternatives)
   follows (Err e) a = tt
   follows (Ok leaf) a = λ l full d can pass J good kind deep m.
@@ -19,6 +20,7 @@ module _ (T : List Position) (ranks : List ℕ) (table : is_table T ranks ≡ tr
       (array_is_leaf T ok (λ S. λ c n. [])).follows k S full leaf.alternatives a d can pass J good kind deep m in
       some_from (is_met can) x leaf.alternatives i h
 
+  -- where one of the alternatives that are returned is met, its array meets the set
   pub makes : (r : Result Leaf ArrayFault) → Answers T k S r → IfOk r (λ leaf. Makes T S leaf.alternatives)
   makes (Err e) a = tt
   makes (Ok leaf) a = λ l full d can child are x i h names.

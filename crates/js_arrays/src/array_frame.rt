@@ -10,7 +10,7 @@ use js_elements::{asked, demands, longest, served};
 use js_plans::{Place, PlanFrame};
 use std::alloc::Global;
 
-/// What a set asks of the elements of an array: its first elements are the first places, and there is one cell past
+/// What a set requires of the elements of an array: its first elements are the first places, and there is one cell past
 /// them. `frame_view` is the frame that it stands for.
 #[derive(Drop)]
 pub struct ArrayFrame<'a> {
@@ -31,7 +31,7 @@ impl<'a> ArrayFrame<'a> {
     ghost use Rattle.js_plans.specs.Serving.{place_view};
     ghost use Rattle.js_arrays.specs.FrameView.{frame_view};
 
-    /// The frame of a set, which asks for so many elements.
+    /// The frame of a set, which requires so many elements.
     pub fn new(
         alloc: Global,
         core: &'a Core,
@@ -106,8 +106,8 @@ impl PlanFrame for ArrayFrame<'_> {
         &[0]
     }
 
-    fn is_inside(&self, _: usize, _: u32) -> bool {
-        true
+    fn inside(&self, _: usize) -> &[bool] {
+        &[true]
     }
 
     fn cap(&self, _: u32) -> Option<u32> {

@@ -7,7 +7,7 @@ use thiserror::Error;
 /// The count or the plans are beyond a limit, or there is no memory.
 #[derive(Clone, Copy, PartialEq, Eq, Debug, Error)]
 pub enum ArrayFault {
-    /// The branch asks for more than 65,536 elements.
+    /// The branch requires more than 65,536 elements.
     #[error("more than 65536 elements")]
     LimitCounts,
     /// The tree of plans has more than 65,536 ends, dropped plans included.

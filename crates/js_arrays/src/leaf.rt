@@ -13,11 +13,11 @@ use js_plans::{Naming, plan_alternatives};
 use js_tableau::Branch;
 use std::alloc::Global;
 
-/// The most elements that a branch may ask for.
+/// The most elements that a branch may require.
 pub const MOST_COUNTS: u32 = 65_536;
 
 /// The alternatives of a branch at arrays: one for each complete plan, in order. Without any where the bounds of the
-/// count cross; `LimitCounts` exactly where they don't and the branch asks for more than 65,536 elements; `LimitPlans`
+/// count cross; `LimitCounts` exactly where they don't and the branch requires more than 65,536 elements; `LimitPlans`
 /// exactly where neither holds and the tree of plans has more than 65,536 ends.
 pub fn array_alternatives(alloc: Global, core: &Core, branch: &Branch) -> Result<Leaf, ArrayFault>
     requires { are_in_table core.now.positions branch.now.set ≡ true }

@@ -1,5 +1,5 @@
-//! What the literals of a set ask of words. Contracts see the atoms by `atoms_in`, and of a word by `asks` whether it
-//! is as required.
+//! What the literals of a set require of words. Contracts see the atoms by `atoms_in`, and of a word by `asks` whether
+//! it is as required.
 
 ghost use Rattle.std.specs.Prelude.{◌≡◌, ◌&&◌, ℕ, List, map, true, IfOk, OnOk};
 ghost use Rattle.std.specs.Bool.{beq};
@@ -25,7 +25,7 @@ impl Asked {
     ghost use Rattle.js_asked.specs.Wishes.{are_within};
     ghost use Rattle.js_asked.specs.Asking.{atoms_in, asks};
 
-    /// What a set asks, with its lower bound.
+    /// What a set requires, with its lower bound.
     pub fn of(alloc: Global, core: &Core, set: &[Signed], least: u128) -> Result<Asked, Memory>
         requires in_table { are_in_table core.now.positions (map signed_view set.now) ≡ true }
         requires least { least ≡ lower core.now.positions (map signed_view set.now) }
@@ -46,7 +46,7 @@ impl Asked {
         Ok(asked)
     }
 
-    /// Adds what a literal asks.
+    /// Adds what a literal requires.
     fn take(&mut self, alloc: Global, core: &Core, x: Signed) -> Result<(), Memory>
         requires in_table { is_in_table core.now.positions (signed_view x) ≡ true }
         ensures atoms { OnOk result (atoms_in self.new ≡ mention_all same_atom (atoms_in self.old)

@@ -1,4 +1,4 @@
--- Which characters sets tell apart.
+-- Which characters sets distinguish.
 use Rattle.std.proofs.Common.{◌≡◌, ℕ, zero, suc, ◌-◌, ◌<◌, ◌≤◌, Bool, true, false, ◌&&◌, ◌||◌, not, nat_eq, if◌then◌else◌, List, [], ◌∷◌, ◌++◌, map, flat_map, Option, refl, sym, ◌∙◌, ap, arith, append-nil, length, take, drop}
 use Rattle.std.proofs.lemmas.List.Folds.{list_any-append}
 use Rattle.std.proofs.lemmas.List.{length-drop, take_all, take-append-drop}
@@ -18,7 +18,7 @@ alike-append (x ∷ s) t c d =
     ap (λ y. beq (has x c) (has x d) && y) (alike-append s t c d)
     ∙ sym (and_assoc (beq (has x c) (has x d)) (are_alike s c d) (are_alike t c d))
 
--- copies tell no more than one of them
+-- copies distinguish no more than one of them
 pub alike-times : (n : ℕ) (s : List (List (ℕ × ℕ))) (c d : ℕ) → are_alike (times (suc n) s) c d ≡ are_alike s c d
 alike-times zero s c d = ap (λ z. are_alike z c d) (append-nil s)
 alike-times (suc n) s c d =

@@ -10,7 +10,7 @@ use Rattle.patterns.specs.CharSet.{has, is_scalar, comes_no_later}
 use Rattle.word_states.specs.Classes.{are_alike, characters, firsts_among}
 use Rattle.std.proofs.Math.Seq.{get_or-append_seam}
 use Rattle.std.proofs.lemmas.List.{get_or_append_left}
-use Rattle.list_laws.proofs.Lists.{in_left, in_right, in_append}
+use Rattle.list_laws.proofs.Lists.{in_left, in_right, from_append}
 use Rattle.list_laws.specs.In.{IsIn}
 use Rattle.word_laws.proofs.Mentions as M
 use Rattle.word_laws.proofs.Classes.{alike_laws}
@@ -47,7 +47,7 @@ dividing-none sets left h = record {
 rising-push : (cs : List ℕ) (x : ℕ) → Rising cs → ((c : ℕ) → IsIn c cs → Before c x) → Rising (cs ++ x ∷ [])
 rising-push [] x r h = ((λ d i. absurd i), tt)
 rising-push (c ∷ cs) x r h = (
-  (λ d i. elim (in_append d cs (x ∷ []) i) [
+  (λ d i. elim (from_append d cs (x ∷ []) i) [
     | inl j ↦ r.0 d j
     | inr j ↦ elim j [
       | inl e ↦ subst (λ z. Before c z) (sym e) (h c (inl refl))
@@ -106,7 +106,7 @@ module _ (sets : List (List (ℕ × ℕ))) (firsts : List ℕ) (left : List (ℕ
 
   pub dividing-next : Dividing sets (firsts ++ x ∷ []) after
   dividing-next = record {
-    scalar = λ c i. elim (in_append c firsts (x ∷ []) i) [
+    scalar = λ c i. elim (from_append c firsts (x ∷ []) i) [
       | inl j ↦ d.scalar c j
       | inr j ↦ elim j [
         | inl e ↦ ap is_scalar e ∙ open_x.0
@@ -115,8 +115,8 @@ module _ (sets : List (List (ℕ × ℕ))) (firsts : List ℕ) (left : List (ℕ
     ];
     rising = rising-push firsts x d.rising (λ c i. d.later c x i member);
     distinct = IsDistinct-push laws firsts x d.distinct open_x.1;
-    apart = λ c e i j s. elim (in_append c firsts (x ∷ []) i) [
-      | inl k ↦ elim (in_append e firsts (x ∷ []) j) [
+    apart = λ c e i j s. elim (from_append c firsts (x ∷ []) i) [
+      | inl k ↦ elim (from_append e firsts (x ∷ []) j) [
         | inl l ↦ d.apart c e k l s
         | inr l ↦ elim l [
           | inl q ↦ absurd (unlike c k (laws.symm x c ∙ ap (are_alike sets c) (sym q) ∙ s))
@@ -124,7 +124,7 @@ module _ (sets : List (List (ℕ × ℕ))) (firsts : List ℕ) (left : List (ℕ
         ]
       ]
       | inr k ↦ elim k [
-        | inl p ↦ elim (in_append e firsts (x ∷ []) j) [
+        | inl p ↦ elim (from_append e firsts (x ∷ []) j) [
           | inl l ↦ absurd (unlike e l (ap (λ z. are_alike sets z e) (sym p) ∙ s))
           | inr l ↦ elim l [
             | inl q ↦ p ∙ sym q
@@ -134,7 +134,7 @@ module _ (sets : List (List (ℕ × ℕ))) (firsts : List ℕ) (left : List (ℕ
         | inr n ↦ absurd n
       ]
     ];
-    later = λ c e i h. elim (in_append c firsts (x ∷ []) i) [
+    later = λ c e i h. elim (from_append c firsts (x ∷ []) i) [
       | inl j ↦ d.later c e j (stays e h)
       | inr j ↦ elim j [
         | inl p ↦ elim (ordered e (stays e h)) [
@@ -192,7 +192,7 @@ dividing-count sets firsts left x d member =
     M.has_in (are_alike sets) laws c f (firsts_among characters sets) j (laws.congr c e f s ∙ t)) in
     omega (arith, more, length-append firsts (x ∷ [])) where
       known : (e : ℕ) → IsIn e (firsts ++ x ∷ []) → is_scalar x ≡ true → is_scalar e ≡ true
-      known e i s = elim (in_append e firsts (x ∷ []) i) [
+      known e i s = elim (from_append e firsts (x ∷ []) i) [
         | inl j ↦ d.scalar e j
         | inr j ↦ elim j [
           | inl q ↦ ap is_scalar q ∙ s

@@ -1,4 +1,4 @@
--- The sets that tell characters apart, and the letters.
+-- The sets that distinguish characters, and the letters.
 use Rattle.std.proofs.Common.{◌≡◌, ℕ, ◌+◌, ◌<◌, ◌&&◌, ◌||◌, not, nat_eq, if◌then◌else◌, List, [], ◌∷◌, ◌++◌, map, flat_map, drop, length, get_or, refl, sym, ◌∙◌, ap, ap₂, add-one}
 use Rattle.std.proofs.Math.Seq.{drop-cons}
 use Rattle.patterns.specs.CharSet.{has}

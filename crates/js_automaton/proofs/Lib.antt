@@ -5,6 +5,7 @@ pub mod NodeLemmas
 pub mod PartLemmas
 pub mod EndLemmas
 pub mod TupleLemmas
+mod FollowLemmas
 mod KeyLemmas
 mod RowsLemmas
 mod ToldLemmas

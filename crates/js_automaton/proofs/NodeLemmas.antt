@@ -1,4 +1,4 @@
--- Listed words in the states of words: the node of a word tells what is kept of it for all lists of words, and
+-- Listed words in the states of words: the node of a word determines what is kept of it for all lists of words, and
 -- nothing else.
 use Rattle.std.proofs.Common.{◌≡◌, ℕ, ◌⊎◌, inl, inr, true, ◌||◌, List, [], ◌∷◌, ◌++◌, Option, Some, None, map, filter, refl, sym, ◌∙◌, ap, ap₂, subst}
 use Rattle.std.specs.List.{list_any}

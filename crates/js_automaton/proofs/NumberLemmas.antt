@@ -258,7 +258,7 @@ letter-numbers starts sides places new letters by at long more = (
       (at j a) (at k b),
 )
 
--- ---- one range
+-- ---- one range of a set
 pub range-sides : (starts sides old : List ℕ) (low high first i : ℕ) → AreRising starts
     → ((k : ℕ) → k < first → get_or starts k 0 < low)
     → ((k : ℕ) → first ≤ k → k < length starts → low ≤ get_or starts k 0)

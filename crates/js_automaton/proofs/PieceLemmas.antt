@@ -1,12 +1,12 @@
 -- Pieces that no divider cuts.
-use Rattle.std.proofs.Common.{◌≡◌, ℕ, zero, suc, ◌+◌, ◌<◌, ◌≤◌, Bool, true, false, ◌&&◌, ◌||◌, not, nat_eq, nat_le, min, if◌then◌else◌, List, [], ◌∷◌, ◌++◌, length, drop, get_or, refl, sym, ◌∙◌, ap, ap₂, subst, ◌⊎◌, inl, inr, eqb, arith, add-one}
+use Rattle.std.proofs.Common.{◌≡◌, ℕ, zero, suc, ◌+◌, ◌<◌, ◌≤◌, Bool, true, false, ◌&&◌, ◌||◌, not, nat_eq, nat_le, nat_lt, min, if◌then◌else◌, List, [], ◌∷◌, ◌++◌, length, drop, get_or, refl, sym, ◌∙◌, ap, ap₂, subst, ◌⊎◌, inl, inr, eqb, arith, add-one}
 use Rattle.std.proofs.Math.Seq.{drop-cons}
 use Rattle.std.specs.Bool.{beq}
 use Rattle.std.specs.List.{Contains, dedup}
-use Rattle.std.specs.List.Sorted.{IsPermutation, IsSorted, IsStrictlyIncreasing}
+use Rattle.std.specs.List.Sorted.{IsPermutation, IsPartitionedBy, IsSorted, IsStrictlyIncreasing}
 use Rattle.std.specs.Ordering.{nat_cmp}
 use Rattle.std.proofs.lemmas.List.Kept.{Contains-dedup_nat}
-use Rattle.std.proofs.lemmas.List.Sorted.{Contains-permutation}
+use Rattle.std.proofs.lemmas.List.Sorted.{Contains-permutation, IsPartitionedBy-ltb, IsNonDecreasingBy-from_default}
 use Rattle.std.proofs.lemmas.Map.Keys.{below_from_sorted, sorted_from_strictly_increasing, IsStrictlyIncreasing-dedup}
 use Rattle.std.proofs.lemmas.List.Elements.{Contains-push, Contains-append_left}
 use Rattle.std.proofs.lemmas.Bool.Decides.{nat_tests}
@@ -124,7 +124,7 @@ span-each places low high place e span past last after is c d t h =
           let top = t.0 in
           let q : e ≡ c + 1 = omega (arith, is, m, b, top) in subst (λ z. Contains places z) q after
 
--- ---- all sets
+-- ---- the places of all sets
 abbrev pub RestLike : List ℕ → List (List (ℕ × ℕ)) → ℕ → Type 0
 RestLike places sets i =
     (c d : ℕ) → AreTogether places c d → are_alike (drop i sets) c d ≡ true → are_alike sets c d ≡ true
@@ -214,3 +214,14 @@ rising-sorted mid new s e i j less within =
     (sorted_from_strictly_increasing new (subst (λ xs. IsStrictlyIncreasing xs) (sym e)
     (IsStrictlyIncreasing-dedup mid s)))
     less within
+
+-- what comes before a place stands before what doesn't
+pub rising-parted : (starts : List ℕ) (place : ℕ) → AreRising starts → IsPartitionedBy (λ x. nat_lt x place) starts
+rising-parted starts place rising =
+    IsPartitionedBy-ltb (λ x. x) starts place (IsNonDecreasingBy-from_default (λ x. x) starts 0
+    (λ i j le within. elim (cases_lt i j) as (λ _. get_or starts i 0 ≤ get_or starts j 0) [
+      | inl less ↦ omega (arith, rising i j less within)
+      | inr more ↦
+          let same : i ≡ j = omega (arith, le, more) in
+          subst (λ k. get_or starts i 0 ≤ get_or starts k 0) same (omega arith)
+    ]))

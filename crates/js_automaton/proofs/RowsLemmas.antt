@@ -17,7 +17,7 @@ use Rattle.word_laws.proofs.Mentions as M
 use Rattle.word_laws.proofs.Rows as R
 use Rattle.word_laws.proofs.RowLaws.{rows_bound, rows_words, rows_apart, row_below, row_truth, row_next}
 use Rattle.std.proofs.Math.Seq.{take-suc, take-length}
-use Rattle.list_laws.proofs.Lists.{in_get}
+use Rattle.list_laws.proofs.Lists.{get_or-in}
 use Rattle.list_laws.specs.In.{IsIn}
 use Rattle.word_laws.proofs.Classes.{alike_laws, firsts_scalar}
 use Rattle.word_laws.proofs.States.{same_laws}
@@ -195,7 +195,7 @@ module _ (atoms : List Atom) where
 
   first-scalar : (k : ℕ) → k < class_count atoms → is_scalar (get_or (class_firsts atoms) k 0) ≡ true
   first-scalar k l =
-      firsts_scalar atoms (get_or (class_firsts atoms) k 0) (in_get (class_firsts atoms) k 0 l)
+      firsts_scalar atoms (get_or (class_firsts atoms) k 0) (get_or-in (class_firsts atoms) k 0 l)
 
   pub first-member : (k : ℕ) → k < class_count atoms → is_in_class atoms k (get_or (class_firsts atoms) k 0) ≡ true
   first-member k l =
@@ -401,7 +401,7 @@ module _ (atoms : List Atom) where
     pub all-own : (r : ℕ) → r < length h.0
         → (list_all is_scalar (get_or h.0 r []) ≡ true) × (row_of atoms h.0 (get_or h.0 r []) ≡ r)
     all-own r l = (
-      rows_words atoms h.0 h.1.0 (get_or h.0 r []) (in_get h.0 r [] l),
+      rows_words atoms h.0 h.1.0 (get_or h.0 r []) (get_or-in h.0 r [] l),
       position_or_len_is (same (get_or h.0 r [])) h.0 r [] (omega (arith, l))
           (λ k less. (same_laws atoms).symm (get_or h.0 r []) (get_or h.0 k [])
           ∙ apart_from_distinct same h.0 k r [] (rows_apart atoms h.0 h.1.0) less l)
@@ -434,7 +434,7 @@ module _ (atoms : List Atom) where
         let q : x ≡ row_of atoms h.0 (w ++ c ∷ []) =
         e ∙ get_or-map (λ c. row_of atoms h.0 (w ++ c ∷ [])) (class_firsts atoms) k 0 0 m in
         let b = all-below (w ++ c ∷ [])
-        (all-end is_scalar w c (rows_words atoms h.0 h.1.0 w (in_get h.0 r [] l)) (first-scalar k m)) in
+        (all-end is_scalar w c (rows_words atoms h.0 h.1.0 w (get_or-in h.0 r [] l)) (first-scalar k m)) in
         omega (arith, q, b)
 
     pub target-words : (r k x : ℕ) → x ≡ get_or (targets_of atoms h.0 (get_or h.0 r [])) k 0

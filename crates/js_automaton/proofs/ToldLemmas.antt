@@ -10,7 +10,7 @@ use Rattle.word_states.specs.Atom.{Atom}
 use Rattle.state_laws.specs.Flow.{flag_at}
 use Rattle.js_nfa.specs.declared.nfa.Nfa.{Nfa}
 use Rattle.js_nfa.specs.View.{tree_of}
-use Rattle.js_nfa.proofs.BitsLemmas.{flag_at-get_or}
+use Rattle.js_pattern_positions.proofs.BitsLemmas.{flag_at-get_or}
 use Rattle.js_automaton.specs.declared.state.TupleState.{TupleState}
 use Rattle.js_automaton.specs.Building.{AreStates}
 use Rattle.js_automaton.specs.Tuple.{IsStateOf}

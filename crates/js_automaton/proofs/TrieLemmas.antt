@@ -30,7 +30,7 @@ module _ {A : Type 0} (p : A → Bool) where
     go true f h = refl
     go false f h = ap (λ n. 1 + n) (h (omega (arith, f)))
 
-  -- past a list an element stands at the list's length
+  -- past a list an element is at the list's length
   place-last : (xs : List A) (y : A) → list_any p xs ≡ false → p y ≡ true
       → (position_or_len p (xs ++ y ∷ []) ≡ length xs) × (position_or_len p xs ≡ length xs)
   place-last [] y e t = (ap (λ b. cond (not b) (1 + 0) 0) t, refl)

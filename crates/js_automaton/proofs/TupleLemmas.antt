@@ -13,7 +13,7 @@ use Rattle.word_states.specs.PatternState.{pattern_state}
 use Rattle.word_states.specs.WordState.{atom_state, least_length, greatest_least, word_state}
 use Rattle.state_laws.specs.Flow.{next_state, is_accepted}
 use Rattle.state_laws.proofs.States.{state_goes_on, state_decides, not_empty}
-use Rattle.list_laws.proofs.Lists.{in_get}
+use Rattle.list_laws.proofs.Lists.{get_or-in}
 use Rattle.list_laws.specs.In.{IsIn}
 use Rattle.word_laws.proofs.StateSteps.{state_next, whole_prefix}
 use Rattle.js_nfa.specs.declared.nfa.Nfa.{Nfa}
@@ -167,7 +167,7 @@ module _ (ns : List Nfa) (ps : List Part) (placed : are_placed 0 ps (length ns) 
       let inside : (u : List ℕ) → IsIn u ws → IsIn u (listed atoms) =
       λ u i. atom-listed atoms (Words ws) u
       (subst (λ z. IsIn z atoms) a
-      (in_get atoms k (LengthMin 0) (omega (arith, l, length-map ps (part_view (map tree_of ns)))))) i in
+      (get_or-in atoms k (LengthMin 0) (omega (arith, l, length-map ps (part_view (map tree_of ns)))))) i in
       e ∙ ap (λ o. option_map_or (λ n. list_any (same_edge (n, k)) ends) o false) h.node
       ∙ by (node_of (listed atoms) w) refl a inside ∙ sym (ap (λ a. is_true a w) a) where
         by : (o : Option ℕ) → node_of (listed atoms) w ≡ o → get_or atoms k (LengthMin 0) ≡ Words ws

@@ -4,7 +4,7 @@ use Rattle.std.specs.List.{list_any}
 use Rattle.word_states.specs.Atom.{Atom, Match, Words, LengthMin}
 use Rattle.word_states.specs.Position.{sets_of}
 
--- the character stands in one of the words
+-- the character is in one of the words
 abbrev pub is_letter : List (List ℕ) → ℕ → Bool
 is_letter ws c = list_any (list_any (nat_eq c)) ws
 

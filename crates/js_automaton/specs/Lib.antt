@@ -10,6 +10,7 @@ pub mod Trie
 pub mod Parts
 -- The state of a word for a list of atoms.
 pub mod Tuple
+pub mod Follows
 pub mod Faults
 pub mod TuplesView
 -- States as keys of a table.

@@ -14,7 +14,7 @@ AreTogether places c d =
 abbrev pub are_same_letter : List (ℕ × ℕ) → ℕ → ℕ → Bool
 are_same_letter letters c d = if has letters c then nat_eq c d else not (has letters d)
 
--- no letter tells the characters apart, and no set
+-- no letter distinguishes the characters, and no set
 abbrev pub are_like : List (List (ℕ × ℕ)) → List (ℕ × ℕ) → ℕ → ℕ → Bool
 are_like sets letters c d = are_same_letter letters c d && are_alike sets c d
 

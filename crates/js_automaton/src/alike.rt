@@ -1,4 +1,4 @@
-//! The pieces of characters that no atom tells apart.
+//! The pieces of characters that no atom distinguishes.
 //!
 //! The places where a divider may begin or end are sorted once, and a divider costs the pieces, and not the classes.
 

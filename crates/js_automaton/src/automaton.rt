@@ -10,8 +10,8 @@ ghost use Rattle.js_automaton.specs.RowsProp.{HaveRows-prop};
 use crate::state::TupleState;
 use crate::tuples::Tuples;
 use indexmap::IndexSet;
-use js_nfa::PositionSet;
 use js_pattern::CharSet;
+use js_pattern_positions::PositionSet;
 
 /// The rows of a list of atoms: the states that words reach, in order of first mention, with row 0 that of the empty
 /// word. Contracts see the atoms, by `atoms_of`, and the first word of each row, by `rows_of`.

@@ -1,4 +1,4 @@
-//! Classes of characters: those that no atom tells apart.
+//! Classes of characters: those that no atom distinguishes.
 //!
 //! A class is found from its first character, which is the first that lies in none before. So classes come in the order
 //! of their first characters. A class is made of the pieces that have one number, and costs a look at each piece.
@@ -12,7 +12,7 @@ use crate::alike::{everything, find_pieces, meet};
 use crate::class_set::class_of;
 use crate::fault::AutoFault;
 use js_nfa::Atom;
-use js_pattern::CharSet;
+use js_pattern::{CharSet, Memory};
 use std::alloc::Global;
 
 /// The most classes that atoms may have.
@@ -23,6 +23,17 @@ const MOST: usize = 1024;
 pub(crate) struct Class {
     pub(crate) set: CharSet,
     pub(crate) first: char,
+}
+
+/// The first character of each class.
+pub(crate) fn firsts(alloc: Global, classes: &[Class]) -> Result<Vec<char>, Memory>
+    ensures { IfOk result (λ firsts. firsts.items ≡ map first_of classes.now) }
+{
+    let mut firsts = Vec::with_capacity(alloc, classes.len())?;
+    for class in classes {
+        firsts.push(class.first)?;
+    }
+    Ok(firsts)
 }
 
 /// The classes of characters, unless there are more than 1,024.

@@ -1,4 +1,4 @@
-//! The sets that tell characters apart, and the letters.
+//! The sets that distinguish characters, and the letters.
 
 ghost use Rattle.std.specs.Prelude.{◌≡◌, ◌<◌, ◌&&◌, ℕ, map, flat_map, IfOk, OnOk, IsTrue, ◌↔◌};
 ghost use Rattle.patterns.specs.CharSet.{has};

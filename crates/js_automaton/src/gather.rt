@@ -5,7 +5,8 @@ ghost use Rattle.word_states.specs.WordState.{greatest_least};
 ghost use Rattle.js_nfa.specs.AtomView.{atom_view};
 ghost use Rattle.word_states.specs.AtomPositions.{positions_of};
 
-use js_nfa::{Atom, count_positions};
+use js_nfa::Atom;
+use js_pattern_positions::count_positions;
 
 /// One more than the most positions that the patterns may have together.
 pub(crate) const PAST: u32 = 16385;
@@ -30,7 +31,7 @@ fn count_of(atom: &Atom) -> u32
     }
 }
 
-/// The greatest of the least lengths that atoms ask for.
+/// The greatest of the least lengths that atoms require.
 pub(crate) fn longest(atoms: &[Atom]) -> u128
     ensures { result ≡ greatest_least (map atom_view atoms.now) }
 {
@@ -43,7 +44,7 @@ pub(crate) fn longest(atoms: &[Atom]) -> u128
     longest
 }
 
-/// The length of a word with one more character, as far as an atom asks for it.
+/// The length of a word with one more character, as far as an atom requires it.
 pub(crate) fn longer(length: u128, longest: u128) -> u128
     ensures { result ≡ min (length + 1) longest }
 {

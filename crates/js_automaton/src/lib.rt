@@ -1,11 +1,11 @@
-//! States of words for a list of atoms, the classes of characters that the atoms don't tell apart, and the rows: the
+//! States of words for a list of atoms, the classes of characters that the atoms don't distinguish, and the rows: the
 //! states that words reach, numbered.
 //!
 //! `Tuples` goes from state to state by classes, so a state and a class give the next state, and a state gives the
 //! truth of every atom. `build` numbers the states in order of first mention, and its `Automaton` leads from row to
 //! row: the subset construction (M. O. Rabin and D. Scott, 1959), which makes only the sets that words reach, over the
 //! product of the atoms' automata.
-//! The crates that ask for words stand on it.
+//! The crates that look up words use it.
 #![tactic(auto)]
 
 mod alike;

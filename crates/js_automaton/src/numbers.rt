@@ -1,4 +1,4 @@
-//! The numbers of pieces: two pieces have one number where no divider tells them apart.
+//! The numbers of pieces: two pieces have one number where no divider distinguishes them.
 //!
 //! Each divider gives a piece a side, inside or outside, and the pieces of one number and one side get one number.
 
@@ -29,7 +29,7 @@ pub(crate) fn numbers(
     Ok(numbers)
 }
 
-/// The numbers of the pieces where nothing but letters tells them apart.
+/// The numbers of the pieces where nothing but letters distinguishes them.
 fn letter_numbers(alloc: Global, starts: &[u32], letters: &CharSet) -> Result<Vec<usize>, Memory>
     requires { AreRising starts.now }
     ensures { IfOk result (λ numbers. AreNumbers starts.now numbers.items (are_same_letter letters.now)) }

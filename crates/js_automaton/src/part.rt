@@ -2,7 +2,7 @@
 
 use crate::word_list::WordList;
 
-/// An atom. A pattern stands apart, at that place.
+/// An atom. A pattern is kept apart, at that place.
 #[derive(Drop)]
 pub(crate) enum Part {
     Match(usize),

@@ -1,8 +1,11 @@
 //! Atoms, made ready: their patterns apart, and the listed words in a trie.
 
-ghost use Rattle.std.specs.Prelude.{◌≡◌, ◌<◌, ◌⊎◌, ◌++◌, [], ◌∷◌, ℕ, true, map, flat_map, length, get_or, IfOk, IfErr, OnOk};
+ghost use Rattle.std.specs.Prelude.{◌≡◌, ◌<◌, ◌≤◌, ◌⊎◌, ◌++◌, [], ◌∷◌, ℕ, true, map, flat_map, length, get_or, IfOk, IfErr, OnOk};
 ghost use Rattle.std.specs.List.{list_any};
+ghost use Rattle.word_states.specs.Position.{count_of};
+ghost use Rattle.js_pattern.specs.View.{view};
 ghost use Rattle.js_nfa.specs.AtomView.{atom_view};
+ghost use Rattle.js_nfa.specs.View.{tree_of};
 ghost use Rattle.js_automaton.specs.declared.part.Part.TheVariants as part;
 ghost use Rattle.js_automaton.specs.Parts.{are_placed, atoms_made, part_words};
 ghost use Rattle.js_automaton.specs.Trie.{ends_at, edges_of, same_edge, with_words};
@@ -15,10 +18,15 @@ use crate::word_list::WordList;
 use indexmap::IndexSet;
 use js_doc::Memory;
 use js_nfa::{Atom, Nfa, positions};
+use js_pattern::Re;
 use std::alloc::Global;
 
-/// The patterns of the atoms, and their parts.
-pub(crate) fn parts_of(alloc: Global, atoms: &[Atom]) -> Result<(Vec<Nfa>, Vec<Part>), AutoFault>
+/// The patterns of the atoms, and their parts. `firsts` are the first characters of the classes.
+pub(crate) fn parts_of(
+    alloc: Global,
+    atoms: &[Atom],
+    firsts: &[char],
+) -> Result<(Vec<Nfa>, Vec<Part>), AutoFault>
     ensures atoms { IfOk result (λ r. atoms_made r.0.items r.1.items ≡ map atom_view atoms.now) }
     ensures places { IfOk result (λ r. are_placed 0 r.1.items (length r.0.items) ≡ true) }
     ensures limit { IfErr result (λ fault. fault ≡ AutoFault.LimitPositions
@@ -28,7 +36,7 @@ pub(crate) fn parts_of(alloc: Global, atoms: &[Atom]) -> Result<(Vec<Nfa>, Vec<P
     let mut patterns = Vec::new(alloc);
     let mut parts = Vec::with_capacity(alloc, atoms.len())?;
     for atom in atoms {
-        match add_part(alloc, &mut patterns, &mut parts, atom) {
+        match add_part(alloc, &mut patterns, &mut parts, atom, firsts) {
             Ok(()) => {}
             Err(fault) => return Err(fault),
         }
@@ -42,6 +50,7 @@ fn add_part(
     patterns: &mut Vec<Nfa>,
     parts: &mut Vec<Part>,
     atom: &Atom,
+    firsts: &[char],
 ) -> Result<(), AutoFault>
     requires { are_placed 0 parts.old.items (length patterns.old.items) ≡ true }
     ensures atoms { OnOk result (atoms_made patterns.new.items parts.new.items
@@ -53,7 +62,7 @@ fn add_part(
 {
     match atom {
         Atom::Match(re) => {
-            let nfa = positions(alloc, re)?;
+            let nfa = nfa_of(alloc, re, firsts)?;
             parts.push(Part::Match(patterns.len()))?;
             patterns.push(nfa)?;
         }
@@ -64,6 +73,17 @@ fn add_part(
         Atom::LengthMin(n) => parts.push(Part::Length(*n))?,
     }
     Ok(())
+}
+
+/// The automaton of a pattern, ready to go on by each of these characters without a walk for it.
+fn nfa_of(alloc: Global, re: &Re, characters: &[char]) -> Result<Nfa, AutoFault>
+    ensures tree { IfOk result (λ n. tree_of n ≡ view re.now) }
+    ensures within { OnOk result (count_of (view re.now) ≤ 16384) }
+    ensures limit { IfErr result (λ fault. fault ≡ AutoFault.LimitPositions → 16384 < count_of (view re.now)) }
+    ensures only { IfErr result (λ fault. (fault ≡ AutoFault.LimitPositions) ⊎ (fault ≡ AutoFault.Memory)) }
+{
+    let nfa = positions(alloc, re)?;
+    Ok(nfa.with_columns(alloc, characters)?)
 }
 
 /// The beginnings of the words of all lists.

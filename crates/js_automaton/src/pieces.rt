@@ -76,15 +76,5 @@ pub(crate) fn count_before(starts: &[u32], place: u32) -> usize
     ensures before { (i : ℕ) → i < result → get_or starts.now i 0 < place }
     ensures after { (i : ℕ) → result ≤ i → i < length starts.now → place ≤ get_or starts.now i 0 }
 {
-    let mut low = 0;
-    let mut high = starts.len();
-    while low < high {
-        let middle = low + (high - low) / 2;
-        if starts[middle] < place {
-            low = middle + 1;
-        } else {
-            high = middle;
-        }
-    }
-    low
+    starts.partition_point(|start| *start < place)
 }

@@ -23,7 +23,8 @@ use crate::state::TupleState;
 use crate::tuples::Tuples;
 use indexmap::IndexSet;
 use js_doc::Memory;
-use js_nfa::{Atom, PositionSet};
+use js_nfa::Atom;
+use js_pattern_positions::PositionSet;
 use std::alloc::Global;
 
 /// The most rows that atoms may have.
@@ -126,8 +127,9 @@ fn go_through(
         → HaveStates (tuples_view.atoms_of tuples.now) 65537) }
     ensures only { IfErr result (λ fault. (fault ≡ AutoFault.LimitStates) ⊎ (fault ≡ AutoFault.Memory)) }
 {
+    let follows = tuples.follows(alloc, &states[row])?;
     for class in 0..tuples.classes() {
-        let next = tuples.step(alloc, &states[row], class)?;
+        let next = tuples.step_by(alloc, &states[row], &follows, class)?;
         match insert(states, next) {
             Ok(number) => targets.push(number)?,
             Err(fault) => return Err(fault),

@@ -4,7 +4,7 @@
 use js_nfa::PatternState;
 
 /// What is kept of a word for a list of atoms: whether it is empty, its state for each pattern, its node among the
-/// beginnings of listed words where it has one, and its length, as far as an atom asks for it.
+/// beginnings of listed words where it has one, and its length, as far as an atom requires it.
 #[derive(PartialEq, Eq, Hash, Drop)]
 pub struct TupleState {
     pub(crate) is_empty: bool,

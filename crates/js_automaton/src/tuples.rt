@@ -1,13 +1,17 @@
 //! States of words for a list of atoms, taken on by classes of characters.
 
-ghost use Rattle.std.specs.Prelude.{◌≡◌, ◌≤◌, true, length, map};
+ghost use Rattle.std.specs.Prelude.{◌≡◌, ◌≤◌, true, length, map, IfOk};
+ghost use Rattle.std.specs.Option.{ForSome};
+ghost use Rattle.state_laws.specs.Flow.{next_state};
+ghost use Rattle.js_nfa.specs.View.{tree_of, state_view};
+ghost use Rattle.js_nfa.specs.Columns.{IsFollow};
 ghost use Rattle.word_states.specs.Classes.{class_firsts, dividers};
 ghost use Rattle.word_states.specs.WordState.{greatest_least};
 ghost use Rattle.js_automaton.specs.Parts.{are_placed, atoms_made};
 ghost use Rattle.js_automaton.specs.Trie.{AreEnds, edges_of, listed};
 ghost use Rattle.js_automaton.specs.ClassView.{AreClasses, first_of};
 
-use crate::classes::{Class, classes};
+use crate::classes::{Class, classes, firsts};
 use crate::fault::AutoFault;
 use crate::gather::{PAST, count_all, longer, longest};
 use crate::part::Part;
@@ -16,8 +20,9 @@ use crate::state::TupleState;
 use crate::trie::Trie;
 use indexmap::IndexSet;
 use js_doc::Memory;
-use js_nfa::{Atom, Nfa, PositionSet};
+use js_nfa::{Atom, Nfa, PatternState};
 use js_pattern::CharSet;
+use js_pattern_positions::PositionSet;
 use std::alloc::Global;
 
 /// The classes of characters and the states of words for a list of atoms. Contracts see the atoms, by `atoms_of`.
@@ -54,6 +59,7 @@ impl Tuples {
     ghost use Rattle.word_states.specs.AtomPositions.{positions_of};
     ghost use Rattle.js_automaton.specs.Told.{matches_in};
     ghost use Rattle.js_automaton.specs.TuplesView.{atoms_of};
+    ghost use Rattle.js_automaton.specs.Follows.{AreFollows};
 
     /// The classes and states of these atoms. The limit on positions is looked at before that on classes.
     pub fn new(alloc: Global, atoms: &[Atom]) -> Result<Tuples, AutoFault>
@@ -71,7 +77,8 @@ impl Tuples {
             return Err(AutoFault::LimitPositions);
         }
         let classes = classes(alloc, atoms)?;
-        let (patterns, parts) = parts_of(alloc, atoms)?;
+        let firsts = firsts(alloc, &classes)?;
+        let (patterns, parts) = parts_of(alloc, atoms, &firsts)?;
         let trie = trie_of(alloc, &parts)?;
         let ends = ends_of(alloc, &trie, &parts)?;
         let longest = longest(atoms);
@@ -123,10 +130,49 @@ impl Tuples {
         ensures { IfOk result (λ s. (w : List ℕ) (c : ℕ) → IsStateOf (atoms_of self.now) state.now w
             → is_in_class (atoms_of self.now) class c ≡ true → IsStateOf (atoms_of self.now) s (w ++ c ∷ [])) }
     {
+        let follows = self.follows(alloc, state)?;
+        self.step_by(alloc, state, &follows, class)
+    }
+
+    /// What may follow the state in each pattern, where that spares a walk for each class.
+    pub(crate) fn follows(
+        &self,
+        alloc: Global,
+        state: &TupleState,
+    ) -> Result<Vec<Option<PositionSet>>, Memory>
+        requires { (w : List ℕ) × IsStateOf (atoms_of self.now) state.now w }
+        ensures { IfOk result (λ follows. AreFollows self.now.patterns.items state.now.patterns.items follows.items) }
+    {
+        let mut follows = Vec::with_capacity(alloc, self.patterns.len())?;
+        for (i, nfa) in self.patterns.iter().enumerate() {
+            follows.push(nfa.follow(alloc, &state.patterns[i])?)?;
+        }
+        Ok(follows)
+    }
+
+    /// `step` by what may follow the state, which is the same for each class.
+    pub(crate) fn step_by(
+        &self,
+        alloc: Global,
+        state: &TupleState,
+        follows: &[Option<PositionSet>],
+        class: u32,
+    ) -> Result<TupleState, Memory>
+        requires class { class < class_count (atoms_of self.now) }
+        requires made { (w : List ℕ) × IsStateOf (atoms_of self.now) state.now w }
+        requires follows { AreFollows self.now.patterns.items state.now.patterns.items follows.now }
+        ensures { IfOk result (λ s. (w : List ℕ) (c : ℕ) → IsStateOf (atoms_of self.now) state.now w
+            → is_in_class (atoms_of self.now) class c ≡ true → IsStateOf (atoms_of self.now) s (w ++ c ∷ [])) }
+    {
         let c = self.classes[class as usize].first;
         let mut patterns = Vec::with_capacity(alloc, self.patterns.len())?;
         for (i, nfa) in self.patterns.iter().enumerate() {
-            patterns.push(nfa.next_state(alloc, &state.patterns[i], state.is_empty, c)?)?;
+            let place = Place {
+                first: state.is_empty,
+                class: class as usize,
+                character: c,
+            };
+            patterns.push(next_of(alloc, nfa, &state.patterns[i], &follows[i], place)?)?;
         }
         let node = self.trie.child_of(state.node, c);
         let length = longer(state.length, self.longest);
@@ -205,5 +251,32 @@ impl Tuples {
             → (IsTrue result ↔ (word_state (atoms_of self.now) v ≡ word_state (atoms_of self.now) w)) }
     {
         x == y
+    }
+}
+
+/// The next character: whether it is the word's first, its class, and which it is.
+#[derive(Clone, Copy)]
+struct Place {
+    first: bool,
+    class: usize,
+    character: char,
+}
+
+/// The state of a pattern after one more character, by what may follow the state where the word isn't empty.
+fn next_of(
+    alloc: Global,
+    nfa: &Nfa,
+    state: &PatternState,
+    follows: &Option<PositionSet>,
+    place: Place,
+) -> Result<PatternState, Memory>
+    requires { ForSome follows.now (IsFollow (tree_of nfa.now) (state_view state.now)) }
+    ensures { IfOk result (λ s. state_view s
+        ≡ next_state (tree_of nfa.now) place.first place.character (state_view state.now)) }
+{
+    if place.first {
+        nfa.next_state(alloc, state, place.first, place.character)
+    } else {
+        nfa.next_state_by(alloc, state, follows, place.class, place.character)
     }
 }

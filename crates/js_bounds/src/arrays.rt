@@ -1,4 +1,4 @@
-//! How many elements a literal asks for.
+//! How many elements a literal requires.
 
 ghost use Rattle.std.specs.Prelude.{◌≡◌, ◌≤◌, ◌^◌, true};
 ghost use Rattle.js_algebra.specs.View.{signed_view, is_in_table};

@@ -1,4 +1,4 @@
-//! How many characters, elements or members the literals of a set ask for, and whether these bounds cross.
+//! How many characters, elements or members the literals of a set require, and whether these bounds cross.
 //!
 //! A bound costs a pass over the set, and takes no memory.
 #![tactic(auto)]

@@ -1,4 +1,4 @@
-//! How many members a literal asks for.
+//! How many members a literal requires.
 
 ghost use Rattle.std.specs.Prelude.{◌≡◌, ◌≤◌, ◌^◌, true};
 ghost use Rattle.frames.specs.ObjectFrame as O;

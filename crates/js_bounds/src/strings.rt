@@ -1,4 +1,4 @@
-//! How many characters a literal asks for.
+//! How many characters a literal requires.
 
 ghost use Rattle.std.specs.Prelude.{◌≡◌, ◌≤◌, ◌^◌, true};
 ghost use Rattle.finders.specs.Strings as S;

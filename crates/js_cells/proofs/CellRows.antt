@@ -4,7 +4,7 @@ use Rattle.std.specs.List.{list_all, IsDistinct, AllByRecursion}
 use Rattle.std.proofs.lemmas.Bool.{cases_lt}
 use Rattle.patterns.specs.CharSet.{is_scalar}
 use Rattle.list_laws.specs.In.{IsIn}
-use Rattle.list_laws.proofs.Lists.{in_get, in_take, from_map, in_at}
+use Rattle.list_laws.proofs.Lists.{get_or-in, from_take, from_map, in-get_or}
 use Rattle.word_states.specs.Atom.{Atom}
 use Rattle.word_states.specs.Classes.{characters}
 use Rattle.word_states.specs.Rows.{AreRows, row_of}
@@ -57,7 +57,7 @@ module _ (T : List Position) (xs : List Signed) (L : List (List ℕ)) where
       let vs = vectors_of T xs L in
       ⊎_elim (λ i. absurd i)
       (λ i. let (w, j, e) = from_map (vector T xs) (vector_at vs c) L i in
-      let (r, m, f) = in_at L w [] j in (
+      let (r, m, f) = in-get_or L w [] j in (
         r,
         m,
         ap (λ z. place (vector T xs z) vs) (sym f) ∙ ap (λ z. place z vs) (sym e)
@@ -87,7 +87,7 @@ module _ (T : List Position) (S : List Signed) (atoms : List Atom) (L : List (Li
       ]
 
   own : list_all is_scalar (get_or L r []) ≡ true
-  own = rows_words atoms L rows (get_or L r []) (in_get L r [] within)
+  own = rows_words atoms L rows (get_or L r []) (get_or-in L r [] within)
 
   -- the first name of the cell is as long as its first row's word
   pub first_long : map length (take 1 (ends T S atoms L rows few same c [])) ≡ length (get_or L r []) ∷ []
@@ -100,7 +100,7 @@ module _ (T : List Position) (S : List Signed) (atoms : List Atom) (L : List (Li
       (let a = states_far in omega (arith, a, few)) C.rank (C.ordered 0x110000) (omega (arith)) (get_or L r []) own
       (ap (λ z. nat_eq z c) here ∙ nat_eq-refl c) in
       let is = (ends_are T S atoms L rows few same c [] 0 (first_row atoms L rows) refl).1 v
-      (in_take 1 v (ends T S atoms L rows few same c []) (subst (λ z. IsIn v z) (sym one) (inl refl))) in
+      (from_take 1 v (ends T S atoms L rows few same c []) (subst (λ z. IsIn v z) (sym one) (inl refl))) in
       let m = first_shorter v is in
       let q : length v ≡ length (get_or L r []) = omega (arith, l, m) in
       ap (map length) one ∙ ap (λ z. z ∷ []) q

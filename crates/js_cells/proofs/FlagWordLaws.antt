@@ -14,8 +14,8 @@ use Rattle.std.proofs.lemmas.Nat.{mod_below}
 use Rattle.std.proofs.lemmas.Nat.Bits.{bit_at-zero, bit_at_lowest, bit_at-suc, bit_at-lt, same_from_bits_below}
 use Rattle.std.proofs.lemmas.Slice.Eq.{slice_eq-Decides}
 use Rattle.std.specs.Cmp.{unsigned_Decides}
-use Rattle.js_nfa.specs.Bits.{bit_of, flags_of}
-use Rattle.js_nfa.proofs.BitsLemmas.{length-flags_of, flag_at-get_or, get_or-flags_of, bit_of-set_same, bit_of-set_other, positive, bit_at-mod, bit_at-div, flag_at-bit}
+use Rattle.js_pattern_positions.specs.Bits.{bit_of, flags_of}
+use Rattle.js_pattern_positions.proofs.BitsLemmas.{length-flags_of, flag_at-get_or, get_or-flags_of, bit_of-set_same, bit_of-set_other, positive, bit_at-mod, bit_at-div, flag_at-bit}
 use Rattle.js_cells.specs.FlagWords.{number_of, words_of, flags_decide}
 use Rattle.list_laws.proofs.Booleans.{same_test}
 
@@ -103,6 +103,7 @@ module _ (words : List ℕ) (len : ℕ) (long : length words ≡ len / 64 + 1)
       bit_at-number (flags_of words len) (64 * k + i)
       ∙ flag-bit k i (64 * k + i) (omega (arith, l)) (omega (arith, l))
 
+  -- words are determined by their flags
   pub words_are : ((k : ℕ) → slice_index words k < 2 ^ 64) → words_of (flags_of words len) ≡ words
   unfolding words_of
   words_are small =
@@ -122,6 +123,7 @@ module _ (words : List ℕ) (len : ℕ) (long : length words ≡ len / 64 + 1)
 
 -- words are equal where the flags are
 
+-- lengths and words are equal exactly where the lists of flags are
 pub same_words : (xs ys : List ℕ) (m n : ℕ) → length xs ≡ m / 64 + 1 → length ys ≡ n / 64 + 1
     → ((p : ℕ) → m ≤ p → bit_of xs p ≡ false) → ((p : ℕ) → n ≤ p → bit_of ys p ≡ false)
     → ((k : ℕ) → slice_index xs k < 2 ^ 64) → ((k : ℕ) → slice_index ys k < 2 ^ 64)

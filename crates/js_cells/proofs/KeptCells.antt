@@ -1,4 +1,4 @@
--- The cells by an automaton whose rows tell what the literals say are cells of all names, and the numbers of words that
+-- The cells by an automaton whose rows say what the literals say are cells of all names, and the numbers of words that
 -- are listed are exact.
 use Rattle.std.proofs.Common.{◌≡◌, ℕ, ◌*◌, ◌<◌, ◌≤◌, min, true, nat_eq, List, [], ◌++◌, take, length, get_or, refl, ap, sym, ◌∙◌, arith}
 use Rattle.std.specs.List.{list_all}
@@ -9,7 +9,7 @@ use Rattle.documents.specs.Tests.{every}
 use Rattle.documents.specs.Tests as D
 use Rattle.patterns.specs.CharSet.{is_scalar}
 use Rattle.list_laws.specs.In.{IsIn}
-use Rattle.list_laws.proofs.Lists.{in_get, in_take}
+use Rattle.list_laws.proofs.Lists.{get_or-in, from_take}
 use Rattle.list_laws.proofs.Tests.{from_filter}
 use Rattle.word_states.specs.Atom.{Atom}
 use Rattle.word_states.specs.Classes.{characters}
@@ -85,7 +85,7 @@ module _ (T : List Position) (S : List Signed) (atoms : List Atom) (L : List (Li
       some = (
         take n (ends c u),
         length-take-le n (ends c u) (least n (length (ends c u)) e),
-        (distinct_take n (ends c u) ends_are.0, λ w i. ends_are.1 w (in_take n w (ends c u) i)),
+        (distinct_take n (ends c u) ends_are.0, λ w i. ends_are.1 w (from_take n w (ends c u) i)),
       );
       all = λ l ws are.
           let m = cut n (length (ends c u)) e l in
@@ -103,7 +103,7 @@ module _ (T : List Position) (S : List Signed) (atoms : List Atom) (L : List (Li
   rowed w s =
       let (l, e) = row_is atoms L rows w (sym (scalars_same w) ∙ s) in (
         get_or L (row_of atoms L w) [],
-        in_get L (row_of atoms L w) [] l,
+        get_or-in L (row_of atoms L w) [] l,
         same w (get_or L (row_of atoms L w) []) e,
       )
 
@@ -127,7 +127,7 @@ module _ (T : List Position) (S : List Signed) (atoms : List Atom) (L : List (Li
   pub cell_below : (r : ℕ) → r < length L → cell_of T kept (get_or L r []) < length kept.vectors
   cell_below r l =
       kept_cells.known (get_or L r [])
-      (scalars_same (get_or L r []) ∙ rows_words atoms L rows (get_or L r []) (in_get L r [] l))
+      (scalars_same (get_or L r []) ∙ rows_words atoms L rows (get_or L r []) (get_or-in L r [] l))
 
   -- a word that leads to a row is in its cell
   pub cell_led : (w : List ℕ) (r : ℕ) → list_all is_scalar w ≡ true → row_of atoms L w ≡ r

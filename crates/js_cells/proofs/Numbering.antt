@@ -33,6 +33,7 @@ places_stay [] ks X h = refl
 places_stay (v ∷ vs) ks X h =
     ap₂ (λ n ns. n ∷ ns) (place_left v ks X (h v (inl refl))) (places_stay vs ks X (λ u i. h u (inr i)))
 
+-- with one more vector mentioned, and its place added, all vectors are kept and have their places
 pub numbered_more : (vs ks new : List (List Bool)) (v : List Bool) (cs ds : List ℕ) → new ≡ mention same_vector ks v
     → ds ≡ cs ++ place v new ∷ [] → AreNumbered vs ks cs → AreNumbered (vs ++ v ∷ []) new ds
 numbered_more vs ks new v cs ds m d g = record {

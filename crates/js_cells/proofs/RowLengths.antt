@@ -1,10 +1,10 @@
--- The lengths of the words of rows: rows stand by length, no word that leads to a row is shorter than the row's, and
--- each row but the first is led to by a row whose word is shorter by one.
+-- The lengths of the words of rows: rows are ordered by length, no word that leads to a row is shorter than the row's,
+-- and each row but the first is led to by a row whose word is shorter by one.
 use Rattle.std.proofs.Common.{◌≡◌, ℕ, zero, suc, ◌<◌, ◌≤◌, inl, inr, ⊎_elim, List, [], ◌∷◌, ◌++◌, map, true, length, get_or, ap, sym, subst, length-append, arith}
 use Rattle.std.specs.List.{list_all}
 use Rattle.patterns.specs.CharSet.{is_scalar}
 use Rattle.list_laws.specs.In.{IsIn}
-use Rattle.list_laws.proofs.Lists.{in_get, from_map, from_flat_map, in_at}
+use Rattle.list_laws.proofs.Lists.{get_or-in, from_map, from_flat_map, in-get_or}
 use Rattle.word_states.specs.Atom.{Atom}
 use Rattle.word_states.specs.Classes.{class_firsts, class_count}
 use Rattle.word_states.specs.WordState.{have_same_state}
@@ -34,7 +34,7 @@ ordered_longer : (L : List (List ℕ)) (i j : ℕ) → IsOrdered (Before rank) L
 ordered_longer [] i j o l m = absurd (omega (arith, m))
 ordered_longer (w ∷ L) zero zero o l m = omega arith
 ordered_longer (w ∷ L) zero (suc j) o l m =
-    before_longer w (get_or L j []) (o.0 (get_or L j []) (in_get L j [] (omega (arith, m))))
+    before_longer w (get_or L j []) (o.0 (get_or L j []) (get_or-in L j [] (omega (arith, m))))
 ordered_longer (w ∷ L) (suc i) zero o l m = absurd (omega (arith, l))
 ordered_longer (w ∷ L) (suc i) (suc j) o l m = ordered_longer L i j o.1 (omega (arith, l)) (omega (arith, m))
 
@@ -50,7 +50,7 @@ module _ (atoms : List Atom) (L : List (List ℕ)) (rows : AreRows atoms L) wher
   pub row_shortest : (w : List ℕ) (i : ℕ) → list_all is_scalar w ≡ true → IsRowOf atoms L w i → long i ≤ length w
   row_shortest w i s r =
       let h = word_row atoms L rows w s in
-      let (j, l, e) = in_at L h.first [] h.is_in in
+      let (j, l, e) = in-get_or L h.first [] h.is_in in
       let same : have_same_state atoms w (get_or L j []) ≡ true =
       subst (λ z. have_same_state atoms w z ≡ true) e h.is_same in
       let q : i ≡ j = one_row atoms L rows w i j r (l, same) in
@@ -70,8 +70,8 @@ module _ (atoms : List Atom) (L : List (List ℕ)) (rows : AreRows atoms L) wher
       → long (target_in atoms L p k) ≤ suc (long p)
   target_longer p k l m =
       let s = all_end (get_or L p []) (get_or (class_firsts atoms) k 0)
-      (rows_words atoms L rows (get_or L p []) (in_get L p [] l))
-      (firsts_scalar atoms (get_or (class_firsts atoms) k 0) (in_get (class_firsts atoms) k 0 m)) in
+      (rows_words atoms L rows (get_or L p []) (get_or-in L p [] l))
+      (firsts_scalar atoms (get_or (class_firsts atoms) k 0) (get_or-in (class_firsts atoms) k 0 m)) in
       let n = row_shortest (next_word p k) (target_in atoms L p k) s (leads_on atoms L rows p k l m) in
       let e = next_long p k in omega (arith, n, e)
 
@@ -87,7 +87,7 @@ module _ (atoms : List Atom) (L : List (List ℕ)) (rows : AreRows atoms L) wher
   pub led_to : (i : ℕ) → 0 < i → i < length L → IsLed i
   led_to i o l = ⊎_elim (λ z. absurd z) (λ j. ⊎_elim (λ e. absurd (first e)) next j)
       (M.mentions_only (have_same_state atoms) (same_laws atoms) [] ([] ∷ longer_by_one (class_firsts atoms) L)
-      (get_or L i []) (subst (λ z. IsIn (get_or L i []) z) rows (in_get L i [] l))) where
+      (get_or L i []) (subst (λ z. IsIn (get_or L i []) z) rows (get_or-in L i [] l))) where
         first : get_or L i [] ≡ [] → ⊥
         first e =
             let same : have_same_state atoms [] (get_or L i []) ≡ true =
@@ -98,8 +98,8 @@ module _ (atoms : List Atom) (L : List (List ℕ)) (rows : AreRows atoms L) wher
         next j =
             let (v, a, b) = from_flat_map (λ w. map (λ c. w ++ c ∷ []) (class_firsts atoms)) (get_or L i []) L j in
             let (c, d, e) = from_map (λ c. v ++ c ∷ []) (get_or L i []) (class_firsts atoms) b in
-            let (p, m, f) = in_at L v [] a in
-            let (k, n, g) = in_at (class_firsts atoms) c 0 d in
+            let (p, m, f) = in-get_or L v [] a in
+            let (k, n, g) = in-get_or (class_firsts atoms) c 0 d in
             let is : get_or L i [] ≡ next_word p k =
             subst (λ z. get_or L i [] ≡ get_or L p [] ++ z ∷ []) g (subst (λ z. get_or L i [] ≡ z ++ c ∷ []) f e) in
             record {

@@ -5,7 +5,7 @@ use Rattle.std.proofs.lemmas.List.{get_or-map, length-map, map-id}
 use Rattle.std.proofs.lemmas.List.Folds.{list_all-append}
 use Rattle.std.proofs.lemmas.Bool.{and_from}
 use Rattle.patterns.specs.CharSet.{is_scalar}
-use Rattle.list_laws.proofs.Lists.{in_get}
+use Rattle.list_laws.proofs.Lists.{get_or-in}
 use Rattle.word_states.specs.Atom.{Atom}
 use Rattle.word_states.specs.Rows.{AreRows, row_of}
 use Rattle.word_states.specs.WordState.{have_same_state}
@@ -56,7 +56,7 @@ module _ (T : List Position) (xs : List Signed) (atoms : List Atom) (rows : List
       marked_right (v ++ w)
       (list_all-append is_scalar v w
       ∙ and_from (list_all is_scalar v) (list_all is_scalar w)
-      (rows_words atoms rows are v (in_get rows r [] l))
+      (rows_words atoms rows are v (get_or-in rows r [] l))
       (sym (scalars_same w)
       ∙ (shorter_is characters (C.different 0x110000) (C.scalars 0x110000) far w i).1)))
 
@@ -76,7 +76,7 @@ module _ (T : List Position) (xs : List Signed) (atoms : List Atom) (rows : List
   words_in_first l e =
       words_in 0 l ∙ ap (λ v. words_found characters far (λ w. in_cell (v ++ w))) e
 
--- what a vector tells of a literal
+-- what a vector says of a literal
 
 module _ (T : List Position) (xs : List Signed) (rows : List (List ℕ)) (c : ℕ)
     (l : c < length (vectors_of T xs rows)) where
@@ -96,7 +96,7 @@ pub kept_vector : (ks new : List (List Bool)) (c : ℕ) (v : List Bool) (vs : Li
 kept_vector ks new c v vs e g i l =
     i ∙ ap (λ z. get_or z c v) (e ∙ g) ∙ sym (kept_at (λ u. u) vs c v l) ∙ ap (λ z. vector_at z c) (map-id vs)
 
--- what stands at a place doesn't depend on the default that is given for other places
+-- what is at a place doesn't depend on the default that is given for other places
 pub at_default : {A : Type 0} (x : A) (i : ℕ) (xs : List A) (d : A) → i < length xs → x ≡ get_or xs i x
     → x ≡ get_or xs i d
 at_default x i xs d l e = e ∙ sym (get_or-map (λ y. y) xs i x x l) ∙ get_or-map (λ y. y) xs i d x l

@@ -13,8 +13,8 @@ use Rattle.std.proofs.lemmas.List.{get_or-map, get_or_append_left}
 use Rattle.documents.specs.Tests.{every, some}
 use Rattle.patterns.specs.CharSet.{is_scalar}
 use Rattle.list_laws.specs.In.{IsIn}
-use Rattle.list_laws.proofs.Lists.{in_get, in_map, from_map, to_filter}
-use Rattle.list_laws.proofs.Tests.{from_filter, in_range, from_range, from_any, in_any}
+use Rattle.list_laws.proofs.Lists.{get_or-in, in_map, from_map, in_filter}
+use Rattle.list_laws.proofs.Tests.{from_filter, in_range, from_range, any_find, any_from}
 use Rattle.word_states.specs.Atom.{Atom, Words, LengthMin, is_true, same_word}
 use Rattle.word_states.specs.Classes.{class_of, class_count, is_in_class}
 use Rattle.word_states.specs.Rows.{AreRows, row_of}
@@ -39,7 +39,7 @@ module _ (A : List Atom) (L : List (List ℕ)) (rows : AreRows A L) where
   own_row : (r : ℕ) → r < length L → row_of A L (get_or L r []) ≡ r
   own_row r l =
       let w = get_or L r [] in
-      one_row A L rows w (row_of A L w) r (row_is A L rows w (rows_words A L rows w (in_get L r [] l)))
+      one_row A L rows w (row_of A L w) r (row_is A L rows w (rows_words A L rows w (get_or-in L r [] l)))
       (l, (same_laws A).refl w)
 
   -- and the empty word to the first
@@ -59,27 +59,27 @@ module _ (A : List Atom) (L : List (List ℕ)) (rows : AreRows A L) where
       (s : list_all (list_all is_scalar) ws ≡ true) where
     leads_to : (r : ℕ) → list_any (nat_eq r) (map (row_of A L) ws) ≡ true → is_true_at A (get_or L r []) k ≡ true
     leads_to r h =
-        let (n, i, p) = from_any (nat_eq r) (map (row_of A L) ws) h in
+        let (n, i, p) = any_find (nat_eq r) (map (row_of A L) ws) h in
         let (w, j, q) = from_map (row_of A L) n ws i in
         let is : row_of A L w ≡ r = sym (eqb-true r n p ∙ q) in
         subst (λ z. is_true_at A (get_or L z []) k ≡ true) is
         (truth_row k w l (all_in (list_all is_scalar) w ws s j) ∙ ap (λ a. is_true a w) e
-        ∙ in_any (same_word w) w ws j ((word_decides w w).1 refl))
+        ∙ any_from (same_word w) w ws j ((word_decides w w).1 refl))
 
     is_led : (r : ℕ) → r < length L → is_true_at A (get_or L r []) k ≡ true
         → list_any (nat_eq r) (map (row_of A L) ws) ≡ true
     is_led r m h =
         let v = get_or L r [] in
-        let (w, j, p) = from_any (same_word v) ws (sym (ap (λ a. is_true a v) e) ∙ h) in
+        let (w, j, p) = any_find (same_word v) ws (sym (ap (λ a. is_true a v) e) ∙ h) in
         let same : v ≡ w = (word_decides v w).0 p in
-        in_any (nat_eq r) (row_of A L w) (map (row_of A L) ws) (in_map (row_of A L) w ws j)
+        any_from (nat_eq r) (row_of A L w) (map (row_of A L) ws) (in_map (row_of A L) w ws j)
         (eq-eqb r (row_of A L w) (sym (ap (row_of A L) (sym same) ∙ own_row r m)))
 
     pub words_truth : IsTruth A L k (map (row_of A L) ws)
     words_truth = record {
       within = λ i m.
           let n = get_or (map (row_of A L) ws) i 0 in
-          let (w, j, q) = from_map (row_of A L) n ws (in_get (map (row_of A L) ws) i 0 m) in
+          let (w, j, q) = from_map (row_of A L) n ws (get_or-in (map (row_of A L) ws) i 0 m) in
           let b = row_below A L rows w (all_in (list_all is_scalar) w ws s j) in omega (arith, q, b);
       told = λ r m. same_test (list_any (nat_eq r) (map (row_of A L) ws)) (is_true_at A (get_or L r []) k)
           (leads_to r) (is_led r m);
@@ -92,12 +92,12 @@ pub where_truth : (A : List Atom) (L : List (List ℕ)) (k : ℕ)
 where_truth A L k = record {
   within = λ i m.
       let n = get_or (filter p all) i 0 in
-      from_range (length L) n (from_filter p n all (in_get (filter p all) i 0 m)).0;
+      from_range (length L) n (from_filter p n all (get_or-in (filter p all) i 0 m)).0;
   told = λ r m. same_test (list_any (nat_eq r) (filter p all)) (p r)
       (λ h.
-      let (n, i, q) = from_any (nat_eq r) (filter p all) h in
+      let (n, i, q) = any_find (nat_eq r) (filter p all) h in
       subst (λ z. p z ≡ true) (sym (eqb-true r n q)) (from_filter p n all i).1)
-      (λ h. in_any (nat_eq r) r (filter p all) (to_filter p r all (in_range (length L) r m) h) (nat_eq-refl r));
+      (λ h. any_from (nat_eq r) r (filter p all) (in_filter p r all (in_range (length L) r m) h) (nat_eq-refl r));
 } where
   p : ℕ → Bool
   p r = is_true_at A (get_or L r []) k
@@ -137,7 +137,7 @@ text_word bs u = each (chars bs) (scalars-chars bs u) where
 
 pub scalar_at : (w : List ℕ) (i c : ℕ) → list_all is_scalar w ≡ true → i < length w → c ≡ get_or w i c
     → is_scalar c ≡ true
-scalar_at w i c s l e = all_in is_scalar c w s (subst (λ z. IsIn z w) (sym e) (in_get w i c l))
+scalar_at w i c s l e = all_in is_scalar c w s (subst (λ z. IsIn z w) (sym e) (get_or-in w i c l))
 
 module _ (A : List Atom) (c : ℕ) (s : is_scalar c ≡ true) where
   pub class_is : (k : ℕ) → k < class_count A → is_in_class A k c ≡ true → k ≡ class_of A c

@@ -12,7 +12,7 @@ abbrev pub number_of : List Bool → ℕ
 number_of [] = 0
 number_of (b ∷ bs) = (if b then 1 else 0) + 2 * number_of bs
 
--- and as words
+-- the flags as words of 64 bits
 unfoldable pub words_of : List Bool → List ℕ
 words_of bs = map (λ k. number_of bs / 2 ^ (64 * k) % 2 ^ 64) (range_with_len 0 (length bs / 64 + 1))
 

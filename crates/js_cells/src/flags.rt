@@ -26,7 +26,7 @@ pub(crate) struct Flags {
 
 impl Model for Flags {
     ghost use Rattle.std.specs.Prelude.{◌≡◌, ◌<◌, ◌≤◌, ◌+◌, ◌/◌, ◌^◌, ℕ, Bool, List, false, length, slice_index};
-    ghost use Rattle.js_nfa.specs.Bits.{bit_of, flags_of};
+    ghost use Rattle.js_pattern_positions.specs.Bits.{bit_of, flags_of};
 
     ghost Value = { List Bool };
 

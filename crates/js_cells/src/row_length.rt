@@ -1,7 +1,7 @@
 //! The length of a row's word, without the word.
 //!
-//! Rows stand by the length of their words, and each but the first is led to by a row whose word is shorter by one. So
-//! the rows whose words have one letter more end where those end that the rows gone through lead to.
+//! Rows are ordered by the length of their words, and each but the first is led to by a row whose word is shorter by
+//! one. So the rows whose words have one letter more end where those end that the rows gone through lead to.
 
 ghost use Rattle.std.specs.Prelude.{◌≡◌, ◌<◌, ◌≤◌, [], length, get_or};
 ghost use Rattle.word_states.specs.Classes.{class_count};

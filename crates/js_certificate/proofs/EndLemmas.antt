@@ -1,4 +1,4 @@
--- What is told where no byte follows, from what is told of the lines.
+-- What is reported where no byte follows, from what is reported of the lines.
 use Rattle.std.proofs.Common.{◌≡◌, ℕ, List, [], ◌∷◌, Option, Some, None, Result, Ok, Err, refl, ap, sym, ◌∙◌, subst}
 use Rattle.positions.specs.Position.{Position}
 use Rattle.certificate_lines.specs.Line.{Line}
@@ -10,7 +10,7 @@ use Rattle.js_lines.specs.declared.fault.LineFault.{LineFault}
 use Rattle.js_checker.specs.Faults.{Tells}
 use Rattle.js_checker.specs.declared.fault.CheckFault.{CheckFault}
 
--- of the same question
+-- a fact of a table and two positions is one of equal ones
 pub question_same : (P : List Position → ℕ → ℕ → Type 0) (T U : List Position) (a b c d : ℕ) → T ≡ U → a ≡ c → b ≡ d
     → P T a b → P U c d
 question_same P T U a b c d t p q h =
@@ -27,7 +27,7 @@ module _ (T : List Position) (a b : ℕ) (bytes : List ℕ) (ls : List Line) (r 
   abbrev ends : (Stage → ℕ → Verdict) → Verdict
   ends finish = judged T a b finish Start 1 ls
 
-  -- nothing is held
+  -- where no part of a line is held, the verdict is that of the lines at their end
   pub end_whole : (x : Unit {0}) → Ok x ≡ answered (unless r.fault r.held) → verdict_of_bytes T a b bytes ≡ ends at_end
   end_whole x e =
       ap (verdict_of_cut T a b) at.cut ∙ ap (λ o. ends (at_fault o)) (no_fault (unless r.fault r.held) x e)
@@ -44,7 +44,7 @@ module _ (T : List Position) (a b : ℕ) (bytes : List ℕ) (ls : List Line) (r 
       go [] f = cc
       go (x ∷ xs) f = refl
 
-    -- or either
+    -- a fault for both ends, of a line and within one, is one for the bytes
     pub end_told : (f : CheckFault) → Tells f (ends at_end) → Tells f (ends at_part)
         → Tells f (verdict_of_bytes T a b bytes)
     end_told f whole part = subst (Tells f) (sym here) (go r.held) where

@@ -121,7 +121,7 @@ file_too_long j told name piece left now long taken (bytes, s, count, so_far) =
 pub take-front : (front rest : List ℕ) (n : ℕ) → length front ≡ n → take n (front ++ rest) ≡ front
 take-front front rest n e = ap (λ m. take m (front ++ rest)) (sym e) ∙ take-append_seam front rest
 
--- of the same question
+-- a verdict for a table and two positions is one for equal ones
 pub verdict_same : (T U : List Position) (a b c d : ℕ) (told : Option Files) (name : List ℕ) (v : FileVerdict)
     → T ≡ U → a ≡ c → b ≡ d → IsVerdictOf T a b told name v → IsVerdictOf U c d told name v
 verdict_same T U a b c d told name v t p q h =
@@ -198,7 +198,7 @@ pub counts_same : (workers before after : ℕ) (v : FileVerdict) → after ≡ b
 counts_same workers before after F.Accepted e = e
 counts_same workers before after (F.Rejected k r) e = inl e
 
--- counts where a read failed: of one worker no line waits, so that the fault is told
+-- counts where a read failed: of one worker no line waits, so that the fault is reported
 module _ (workers waiting before after : ℕ) (some : 1 ≤ workers) (few : waiting ≤ most_waiting workers)
     (rose : Rose before after) where
   pub counts_rejected : (r : Result FileVerdict FileFault) → IfOk r IsRejection
@@ -283,7 +283,7 @@ pub behind_before : (j : CertificateJudge) (T : List Position) (a b : ℕ) (r : 
 behind_before j T a b (Err e) is = tt
 behind_before j T a b (Ok v) is = λ bytes s. ([], is.1 bytes [] s)
 
--- of all bytes
+-- where a verdict is that of all bytes, nothing need come behind them
 pub behind_whole : (j : CertificateJudge) (T : List Position) (a b : ℕ) (r : Result FileVerdict FileFault)
     → IfOk r (λ v. (bytes : List ℕ) → StandsForBytes j bytes → verdict_of_bytes T a b bytes ≡ verdict_view v)
     → IfOk r (λ v. (bytes : List ℕ) → StandsForBytes j bytes
@@ -291,7 +291,7 @@ pub behind_whole : (j : CertificateJudge) (T : List Position) (a b : ℕ) (r : R
 behind_whole j T a b (Err e) is = tt
 behind_whole j T a b (Ok v) is = λ bytes s. ([], ap (verdict_of_bytes T a b) (append-nil bytes) ∙ is bytes s)
 
--- of a piece
+-- where a piece breaks a rule, its verdict is that of the bytes with the piece and whatever follows
 pub behind_piece : (j : CertificateJudge) (T : List Position) (a b : ℕ) (piece : List ℕ) (f : CheckFault)
     (r : Result FileVerdict FileFault)
     → ((bytes more : List ℕ) → StandsForBytes j bytes → Tells f (verdict_of_bytes T a b (bytes ++ (piece ++ more))))

@@ -1,4 +1,4 @@
--- What is told after a fault, and for which bytes a judge then stands.
+-- What is reported after a fault, and for which bytes a judge then stands.
 use Rattle.std.proofs.Common.{◌≡◌, ℕ, List, [], ◌++◌, Option, Some, None, sym, subst, append_assoc, append-nil}
 use Rattle.positions.specs.Position.{Position}
 use Rattle.verdicts.specs.Verdict.{verdict_of_bytes}

@@ -1,4 +1,4 @@
--- Parts of pieces: how much of a piece is read, what comes behind lines, and what a fault tells of all bytes.
+-- Parts of pieces: how much of a piece is read, what comes behind lines, and what a fault says of all bytes.
 use Rattle.std.proofs.Common.{◌≡◌, ℕ, zero, suc, ◌+◌, ◌-◌, ◌<◌, ◌≤◌, Bool, true, false, cond, List, [], ◌∷◌, ◌++◌, length, take, drop, Option, Some, None, is_none, Result, Ok, Err, IsErrAnd, IfErr, refl, ap, sym, ◌∙◌, subst, append_assoc, append-nil, length-append, arith}
 use Rattle.std.specs.Prelude.{option_to_list}
 use Rattle.std.proofs.lemmas.List.{take-append-drop, length-take-le, take_rest}
@@ -190,7 +190,7 @@ module _ (T : List Position) (a b : ℕ) where
   line_breaks bytes piece count ls r o s n f e at h =
       broken_piece f bytes piece count (checker_breaks (bytes ++ take count piece) ls r o s n f e at h)
 
-  -- what is told where a reader met a fault behind lines that led to a stage
+  -- what is reported where a reader met a fault behind lines that led to a stage
   fault_told : (f : Fault) (s : Stage) (k : ℕ) → Tells (told (fault_view f)) (at_fault (Some f) s k)
   fault_told (R.NotALine n) s k = refl
   fault_told (R.TooLong n) s k = refl

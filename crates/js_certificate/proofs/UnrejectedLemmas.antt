@@ -1,6 +1,6 @@
 -- Where no line waits, none of those that were read is rejected; so a file stops where a read fails, or where it is too
 -- long.
-use Rattle.std.proofs.Common.{◌≡◌, ◌⊎◌, inl, inr, ℕ, ◌+◌, ◌<◌, ◌≤◌, List, [], length, Option, None, Some, Result, Ok, Err, IfErr}
+use Rattle.std.proofs.Common.{◌≡◌, ◌⊎◌, inl, inr, ℕ, ◌+◌, ◌<◌, ◌≤◌, Bool, List, [], length, Option, None, Some, Result, Ok, Err, IfErr}
 use Rattle.std.proofs.Common.{arith, ap, sym, ◌∙◌, subst, append_assoc, append-nil}
 use Rattle.std.specs.Io.KnownBytes.{Keeps, Consumes}
 use Rattle.positions.specs.Position.{Position}
@@ -32,7 +32,7 @@ none_rejected j T a b going idle t p q bytes s =
     let below = behind_judged j.lines bytes more line rule (j.well going) judged e in
     omega (arith, below, idle))
 
--- what a fault tells is a verdict, or want of memory
+-- what a fault stands for is a verdict, or want of memory
 pub told_or_memory : (P : FileFault → Type 0) (fault : CheckFault) (r : Result FileVerdict FileFault)
     → r ≡ verdict_of fault → P FF.Memory → IfErr r P
 told_or_memory P (C.Rejected k q) r e m = subst (λ x. IfErr x P) (sym e) tt
@@ -43,7 +43,7 @@ pub memory_alone : (P : FileFault → Type 0) (r : Result FileVerdict FileFault)
 memory_alone P (Ok v) is m = tt
 memory_alone P (Err f) is m = subst P (sym is) m
 
--- the cause is told only where no line is rejected
+-- the cause is reported only where no line is rejected
 pub cause_unrejected : (P : FileFault → Type 0) (S : Type 0) (cause : FileFault) (r : Result FileVerdict FileFault)
     → IfErr r (λ met. (met ≡ cause) ⊎ (met ≡ FF.Memory)) → IfErr r (λ met. (met ≡ FF.Memory) ⊎ S) → P FF.Memory
     → (S → P cause) → IfErr r P
@@ -94,21 +94,22 @@ memory_unrejected verdict None name left = tt
 memory_unrejected verdict (Some files) name left = tt
 
 -- a file that was begun
-fails_unrejected : (verdict : List ℕ → Verdict) (told : Option Files) (name : List ℕ) (left : Option (List ℕ))
-    (f : FileFault) → StopsUnrejected verdict told name left f → FailsUnrejected verdict told name left f
-fails_unrejected verdict told name left FF.TooLong h = h
-fails_unrejected verdict told name left FF.Read h = inr h
-fails_unrejected verdict told name left FF.Memory h = tt
+fails_unrejected : (verdict : List ℕ → Verdict) (told : Option Files) (name : List ℕ) (is_begun : Bool)
+    (left : Option (List ℕ)) (f : FileFault) → StopsUnrejected verdict told name left f
+    → FailsUnrejected verdict told name is_begun left f
+fails_unrejected verdict told name is_begun left FF.TooLong h = h
+fails_unrejected verdict told name is_begun left FF.Read h = λ begun. h
+fails_unrejected verdict told name is_begun left FF.Memory h = tt
 
 pub file_unrejected : (j : CertificateJudge) (T U : List Position) (a b c d : ℕ) (before told : Option Files)
-    (name : List ℕ) (left now : Option (List ℕ)) (r : Result FileVerdict FileFault) → T ≡ U → a ≡ c → b ≡ d
-    → told ≡ before → StandsForBytes j [] → bytes_of j ≡ 0 → FileIsLeft before name left
+    (name : List ℕ) (is_begun : Bool) (left now : Option (List ℕ)) (r : Result FileVerdict FileFault) → T ≡ U → a ≡ c
+    → b ≡ d → told ≡ before → StandsForBytes j [] → bytes_of j ≡ 0 → FileIsLeft before name left
     → IfErr r (λ f. (n : List ℕ) → StandsForFile j told n left
     → StopsUnrejected (verdict_of_bytes T a b) told n now f)
-    → IfErr r (FailsUnrejected (verdict_of_bytes U c d) before name now)
-file_unrejected j T U a b c d before told name left now (Ok v) t p q e s n h is = tt
-file_unrejected j T U a b c d before told name left now (Err f) t p q e s n h is =
-    fails_unrejected (verdict_of_bytes U c d) before name now f
+    → IfErr r (FailsUnrejected (verdict_of_bytes U c d) before name is_begun now)
+file_unrejected j T U a b c d before told name is_begun left now (Ok v) t p q e s n h is = tt
+file_unrejected j T U a b c d before told name is_begun left now (Err f) t p q e s n h is =
+    fails_unrejected (verdict_of_bytes U c d) before name is_begun now f
     (subst (λ o. StopsUnrejected (verdict_of_bytes U c d) o name now f) e
     (question_same (λ V x y. StopsUnrejected (verdict_of_bytes V x y) told name now f) _ _ _ _ _ _ t p q
     (is name (file_begun j told name left s n (subst (λ o. FileIsLeft o name left) (sym e) h)))))

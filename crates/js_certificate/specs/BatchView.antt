@@ -38,6 +38,6 @@ pub record StandsFor (b : Batch) (ls : List Line) : Type 0 where
   pub checker : C.StandsFor b.checker taken
   pub all : ls ≡ taken ++ map line_view b.waiting.items
 
--- whatever comes after the lines, they are judged as the fault tells
+-- whatever comes after the lines, they are judged as the fault says
 abbrev pub AreToldBy : List Position → ℕ → ℕ → CheckFault → List Line → Type 0
 AreToldBy T a b fault ls = Stands T a b (standing (Some fault) Start 0) ls

@@ -16,17 +16,17 @@ abbrev pub verdict_view : FileVerdict → Verdict
 verdict_view F.Accepted = V.Accepted
 verdict_view (F.Rejected k r) = V.Rejected k r
 
--- the verdict that a fault tells
+-- the verdict that a fault gives
 abbrev pub verdict_of : CheckFault → Result FileVerdict FileFault
 verdict_of (C.Rejected k r) = Ok (F.Rejected k r)
 verdict_of C.Memory = Err Memory
 
--- the file of the name has these bytes, where files are told
+-- the file of the name has these bytes, where files are known
 abbrev pub HasBytes : Option Files → List ℕ → List ℕ → Type 0
 HasBytes None name bytes = Unit {0}
 HasBytes (Some files) name bytes = files name ≡ Some bytes
 
--- it is the verdict on the bytes of the file; where files aren't told, on some bytes
+-- it is the verdict on the bytes of the file; where files aren't known, on some bytes
 abbrev pub IsVerdictOf : List Position → ℕ → ℕ → Option Files → List ℕ → FileVerdict → Type 0
 IsVerdictOf T a b told name v =
     (bytes : List ℕ) × HasBytes told name bytes × (verdict_of_bytes T a b bytes ≡ verdict_view v)
@@ -35,7 +35,7 @@ IsVerdictOf T a b told name v =
 abbrev pub longest_file : ℕ
 longest_file = 2 ^ 63 - 1
 
--- the file of the name has too many bytes, where files are told
+-- the file of the name has too many bytes, where files are known
 abbrev pub IsTooLong : Option Files → List ℕ → Type 0
 IsTooLong told name = (bytes : List ℕ) × HasBytes told name bytes × (longest_file < length bytes)
 

@@ -30,7 +30,7 @@ waiting_of j = L.waiting_of j.lines
 abbrev pub fault_of : CertificateJudge → Option CheckFault
 fault_of j = j.fault
 
--- after a fault whatever comes is judged as the fault tells
+-- after a fault whatever comes is judged as the fault says
 abbrev pub StandsUnless : Option CheckFault → LineJudge → List ℕ → Type 0
 StandsUnless None p bytes = AreJudged p bytes
 StandsUnless (Some fault) p bytes = AreBroken (L.table_of p) (L.premise_of p) (L.conclusion_of p) fault bytes

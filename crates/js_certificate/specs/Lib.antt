@@ -1,4 +1,4 @@
--- What a reader must believe stands in `verdicts`. Here is for which bytes a judge stands, by `JudgeView`, and what is
+-- What a reader must believe is in `verdicts`. Here is for which bytes a judge stands, by `JudgeView`, and what is
 -- judged of a file, by `FileVerdicts`, how far it was read, by `ReadBehind`, and what was judged of a file that isn't
 -- judged to its end, by `Unrejected`.
 pub mod Broken

@@ -30,12 +30,12 @@ pub record IsReadTo (files : Files) (name : List ℕ) (left : Option (List ℕ))
   pub short : length piece ≤ longest_piece
   pub few : whole_lines before < line + most_waiting workers
 
--- where files are told
+-- where files are known
 abbrev pub IsReadToLine : Option Files → List ℕ → Option (List ℕ) → (workers line : ℕ) → Type 0
 IsReadToLine None name left workers line = Unit {0}
 IsReadToLine (Some files) name left workers line = IsReadTo files name left workers line
 
--- and a line is rejected
+-- how far the file is read where the verdict rejects a line
 abbrev pub IsReadFor : Option Files → List ℕ → Option (List ℕ) → (workers : ℕ) → FileVerdict → Type 0
 IsReadFor told name left workers F.Accepted = Unit {0}
 IsReadFor told name left workers (F.Rejected line rule) = IsReadToLine told name left workers line

@@ -1,7 +1,7 @@
 -- Where a file isn't judged to its end, that no line which was read before is rejected.
-use Rattle.std.specs.Prelude.{◌≡◌, ◌⊎◌, ℕ, ◌+◌, ◌<◌, ◌≤◌, List, ◌++◌, length, Option, None, Some}
+use Rattle.std.specs.Prelude.{◌≡◌, ℕ, ◌+◌, ◌<◌, ◌≤◌, List, ◌++◌, length, Bool, true, Option, None, Some}
 use Rattle.verdicts.specs.Verdict.{Verdict, Rejected}
-use Rattle.js_outside.specs.Told.{Files, NothingIsLeft}
+use Rattle.js_outside.specs.Told.{Files}
 use Rattle.js_certificate.specs.FileVerdicts.{longest_file}
 use Rattle.js_certificate.specs.ReadBehind.{whole_lines, longest_piece}
 use Rattle.js_certificate.specs.declared.file.FileFault.{FileFault}
@@ -34,15 +34,16 @@ pub record IsReadTooFar (verdict : List ℕ → Verdict) (files : Files) (name :
   pub long : longest_file < length before + length piece
   pub unrejected : NoneIsRejected verdict before
 
--- a file that was begun and isn't judged to its end, where files are told; where memory was refused, nothing is said
+-- a file that was begun and isn't judged to its end, where files are known; where memory was refused, nothing is said
 abbrev pub StopsUnrejected : (List ℕ → Verdict) → Option Files → List ℕ → Option (List ℕ) → FileFault → Type 0
 StopsUnrejected verdict None name left fault = Unit {0}
 StopsUnrejected verdict (Some files) name left TooLong = IsReadTooFar verdict files name left
 StopsUnrejected verdict (Some files) name left Read = IsReadUnrejected verdict files name left
 StopsUnrejected verdict (Some files) name left Memory = Unit {0}
 
--- or the file may not have been begun, and then nothing is left, as where a read failed behind the last byte
-abbrev pub FailsUnrejected : (List ℕ → Verdict) → Option Files → List ℕ → Option (List ℕ) → FileFault → Type 0
-FailsUnrejected verdict told name left TooLong = StopsUnrejected verdict told name left TooLong
-FailsUnrejected verdict told name left Read = NothingIsLeft told left ⊎ StopsUnrejected verdict told name left Read
-FailsUnrejected verdict told name left Memory = Unit {0}
+-- a file that isn't judged to its end: a read failed where the file is begun, and else it couldn't be begun
+abbrev pub FailsUnrejected : (List ℕ → Verdict) → Option Files → List ℕ → (is_begun : Bool) → Option (List ℕ)
+    → FileFault → Type 0
+FailsUnrejected verdict told name is_begun left TooLong = StopsUnrejected verdict told name left TooLong
+FailsUnrejected verdict told name is_begun left Read = is_begun ≡ true → StopsUnrejected verdict told name left Read
+FailsUnrejected verdict told name is_begun left Memory = Unit {0}

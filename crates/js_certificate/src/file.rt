@@ -23,13 +23,13 @@ use std::thread::Threads;
 /// How many bytes a file may have.
 pub const LONGEST_FILE: u64 = 9_223_372_036_854_775_807;
 
-/// How many bytes a read asks for.
+/// How many bytes a read requests.
 const BUFFER_LENGTH: usize = 65_536;
 
 /// What is judged of a file.
 #[derive(Clone, Copy, PartialEq, Eq, Debug)]
 pub enum FileVerdict {
-    /// It is a certificate.
+    /// The file is a certificate.
     Accepted,
 
     /// The number of a line, from 1, and the number of the least rule that it breaks.
@@ -84,7 +84,7 @@ pub fn judge_file<R: Threads + Sync, G: Gate + Sync, H: Shelf>(
         (H.faults shelf.new)) }
     ensures read { IfOk result (IsReadFor (H.told shelf.old) name.now (H.left shelf.new) workers.now.count) }
     ensures unrejected { IfErr result (FailsUnrejected (verdict_of_bytes core.now.positions a.0 b.0) (H.told shelf.old)
-        name.now (H.left shelf.new)) }
+        name.now (H.is_begun shelf.new) (H.left shelf.new)) }
     ensures begun { H.begun shelf.new ≡ H.begun shelf.old ++ name.now ∷ [] }
 
     // What is accepted is right.
@@ -199,7 +199,7 @@ fn verdict_at_end<R: Threads + Sync, G: Gate + Sync>(
     }
 }
 
-/// The verdict that a fault tells.
+/// The verdict that a fault gives.
 fn verdict_of(fault: CheckFault) -> Result<FileVerdict, FileFault>
     ensures { result ≡ verdict_of fault }
 {

@@ -30,7 +30,7 @@ pub(crate) fn read_part(reader: &mut LineReader, piece: &[u8]) -> Result<usize, 
     }
 }
 
-/// What is told of a fault of a reader. That bytes end within a line isn't met while they are read.
+/// What is reported of a fault of a reader. That bytes end within a line isn't met while they are read.
 fn told(fault: LineFault) -> CheckFault
     ensures { result ≡ told fault }
 {

@@ -11,7 +11,7 @@ use js_elements::{asked, demands, longest, served};
 use js_plans::Place;
 use std::alloc::Global;
 
-/// What a set asks of the elements of an array: its first elements are the first places, and there is one cell past
+/// What a set requires of the elements of an array: its first elements are the first places, and there is one cell past
 /// them. `frame_view` is the frame that it stands for.
 #[derive(Drop)]
 pub(crate) struct ArrayFrame<'a> {

@@ -1,9 +1,8 @@
 -- Bounds by the numbers of their cells.
-use Rattle.std.proofs.Common.{◌≡◌, ℕ, zero, suc, ◌+◌, inl, inr, cond, nat_eq, nat_le, nat_lt, List, [], ◌∷◌, ◌++◌, length, get_or, Option, Some, None, refl, ap, ap₂, sym, ◌∙◌, arith}
-use Rattle.std.proofs.lemmas.Bool.{cases_lt, ne_eqb, le-leb, lt-leb, lt-ltb, le-ltb}
+use Rattle.std.proofs.Common.{◌≡◌, ℕ, zero, suc, ◌+◌, cond, nat_eq, List, [], ◌∷◌, ◌++◌, length, get_or, Option, Some, None, refl, ap, ap₂, sym, ◌∙◌, arith}
+use Rattle.std.proofs.lemmas.Bool.{ne_eqb}
 use Rattle.verdicts.specs.Bounds.{Bound, bounds_of}
-use Rattle.verdicts.specs.Leaves.{comes_after}
-use Rattle.js_check_objects.specs.Bounds.{cap_at, past, with_cap}
+use Rattle.js_check_objects.specs.Bounds.{cap_at, with_cap}
 use Rattle.list_laws.proofs.Numbers.{nat_eq-suc}
 
 pub cap_none : (os : List (Option ℕ)) (c : ℕ) → cap_at (os ++ None ∷ []) c ≡ cap_at os c
@@ -29,14 +28,3 @@ pub cap_next : (caps more : List (Option ℕ)) (bs : List Bound) (cell cap : ℕ
     → cap_at more c ≡ bounds_of ((cell, labels) ∷ bs) c
 cap_next caps more bs cell cap labels capped e h c =
     h c ∙ ap₂ (λ n o. cond (nat_eq cell c) (Some n) o) e (capped c)
-
-lt-le : (a c : ℕ) → nat_lt a c ≡ nat_le (a + 1) c
-lt-le a c = elim (cases_lt a c) [
-  | inl l ↦ lt-ltb a c l ∙ sym (le-leb (a + 1) c (omega (arith, l)))
-  | inr l ↦ le-ltb a c l ∙ sym (lt-leb (a + 1) c (omega (arith, l)))
-]
-
--- a cell comes after those before where it is past them
-pub after_past : (bs : List Bound) (c : ℕ) → comes_after bs c ≡ nat_le (past bs) c
-after_past [] c = sym (le-leb 0 c (omega arith))
-after_past (b ∷ bs) c = lt-le b.0 c

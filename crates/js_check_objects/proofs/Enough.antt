@@ -12,6 +12,7 @@ use Rattle.js_check_rows.specs.Labels.{are_kept, AreBounds}
 use Rattle.js_said.specs.Vectors.{row_places}
 use Rattle.js_said.proofs.RowVectors.{mark_at}
 
+-- labels are enough for the marked rows exactly where they are a right bound of the cell
 pub kept_right : (T : List Position) (S : List Signed) (atoms : List Atom) (t : Table (List ℕ)) (places : List ℕ)
     (marks seen : List Bool) (labels : List ℕ) (cell : ℕ) → AreBounds atoms t seen labels
     → atoms ≡ atoms_of_names T S → places ≡ row_places T S t.words → seen ≡ marks

@@ -1,4 +1,4 @@
--- A frame asks of cells only what their vectors tell of literals.
+-- A frame requires of cells only what their vectors say of literals.
 use Rattle.std.proofs.Common.{◌≡◌, ℕ, not, List, filter, length, Option, refl, ap}
 use Rattle.std.specs.List.{range_with_len}
 use Rattle.documents.specs.Tests.{some}
@@ -29,6 +29,7 @@ module _ (T : List Position) (C D : Cells) (names : C.names ≡ D.names) (vector
   each_same (Head k) (Plus p) = refl
   each_same (Head k) (Minus p) = refl
 
+  -- frames of cells with the same names, vectors and bounds are equal
   pub frame_same : (caps bounds : ℕ → Option ℕ) → ((c : ℕ) → caps c ≡ bounds c) → (rooms : ℕ → ℕ → ℕ)
       → (S : List Signed) → object_frame_with caps rooms T C S ≡ object_frame_with bounds rooms T D S
   frame_same caps bounds capped rooms S = λ i. record {

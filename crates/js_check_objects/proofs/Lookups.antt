@@ -1,13 +1,8 @@
 -- What is read at a number, where there is something and where there is nothing.
-use Rattle.std.proofs.Common.{◌≡◌, ℕ, zero, suc, ◌<◌, ◌≤◌, Bool, true, false, ◌&&◌, nat_lt, List, [], ◌∷◌, map, length, get_or, Option, None, refl, ap, ap₂, sym, ◌∙◌, arith}
-use Rattle.std.proofs.lemmas.Bool.{lt-ltb, le-ltb}
+use Rattle.std.proofs.Common.{◌≡◌, ℕ, zero, suc, ◌<◌, ◌≤◌, Bool, false, ◌&&◌, List, [], ◌∷◌, map, length, get_or, Option, None, refl, ap, sym, ◌∙◌, arith}
 use Rattle.std.proofs.lemmas.List.{length-map}
 use Rattle.cells.specs.Cells.{vector_at}
-use Rattle.js_check_rows.specs.Labels.{are_kept, BoundTells}
-use Rattle.js_check_rows.specs.declared.fault.RowFault.{RowFault}
 use Rattle.js_check_rows.specs.declared.fault.RowFault.TheVariants as R
-use Rattle.verdicts.specs.RowLines.{Table}
-use Rattle.word_states.specs.Atom.{Atom}
 use Rattle.js_said.proofs.RowVectors.{kept_at, vector-past}
 use Rattle.js_check_objects.specs.Bounds.{cap_at}
 
@@ -23,6 +18,7 @@ cap_none [] c l = refl
 cap_none (o ∷ os) zero l = absurd (omega (arith, l))
 cap_none (o ∷ os) (suc c) l = cap_none os c (omega (arith, l))
 
+-- what is read at the number of a listed bound is that bound
 pub cap-within : (os new : List (Option ℕ)) (c : ℕ) (o : Option ℕ) → new ≡ os → c < length new → o ≡ get_or new c o
     → o ≡ cap_at os c
 cap-within os new c o e l h = h ∙ cap_get new c o l ∙ ap (λ z. cap_at z c) e
@@ -35,6 +31,7 @@ cap-past os new c e l = cap_none new c l ∙ ap (λ z. cap_at z c) e
 none_at : {V : Type 0} (items : V → List Bool) (ks : List V) (c : ℕ) → length ks ≤ c → vector_at (map items ks) c ≡ []
 none_at items ks c l = let n = length-map ks items in vector-past (map items ks) c (omega (arith, n, l))
 
+-- what is read at the numbers of a vector and of one of its bits is that bit
 pub bit-within : {V : Type 0} (items : V → List Bool) (ks new : List V) (c i : ℕ) (v : V) (bits : List Bool)
     → new ≡ ks → c < length new → v ≡ get_or new c v → bits ≡ items v
     → get_or bits i false ≡ get_or (vector_at (map items ks) c) i false
@@ -48,24 +45,3 @@ bit-past items ks new c i e l =
     sym (ap (λ z. get_or z i false) (sym (ap (λ z. vector_at (map items z) c) e) ∙ none_at items new c l))
 
 -- the parts of the rule of a bound
-
-pub right_none : (n cell : ℕ) (after right : Bool) → n ≤ cell → false ≡ (nat_lt cell n && (after && right))
-right_none n cell after right l = ap (λ b. b && (after && right)) (sym (le-ltb cell n l))
-
-pub right_early : (there after right : Bool) → after ≡ false → false ≡ (there && (after && right))
-right_early true after right e = ap (λ b. b && right) (sym e)
-right_early false after right e = refl
-
-pub right_by : (n cell : ℕ) (after right b : Bool) → cell < n → after ≡ true → b ≡ right
-    → b ≡ (nat_lt cell n && (after && right))
-right_by n cell after right b l a e =
-    e ∙ ap₂ (λ x y. x && (y && right)) (sym (lt-ltb cell n l)) (sym a)
-
-pub not_kept : (atoms : List Atom) (t : Table (List ℕ)) (marks : List Bool) (labels : List ℕ) (fault : RowFault)
-    → BoundTells atoms t marks labels fault → false ≡ are_kept atoms t marks labels
-not_kept atoms t marks labels (R.Capacity r) h = sym h.1
-not_kept atoms t marks labels R.Start h = absurd h
-not_kept atoms t marks labels R.Width h = absurd h
-not_kept atoms t marks labels (R.Step k) h = absurd h
-not_kept atoms t marks labels (R.Least r) h = absurd h
-not_kept atoms t marks labels R.Memory h = absurd h

@@ -1,4 +1,4 @@
--- What a vector of rows tells of a literal stands at the literal's number.
+-- What a vector of rows says of a literal is at the literal's number.
 use Rattle.std.proofs.Common.{◌≡◌, ℕ, inl, inr, Bool, false, List, length, get_or, ap, sym, ◌∙◌, subst}
 use Rattle.std.proofs.lemmas.Bool.{cases_lt}
 use Rattle.positions.specs.Position.{Position}
@@ -19,6 +19,7 @@ rows_told T xs rows c i l = elim (cases_lt c (length (vectors_of T xs rows))) [
       ∙ ap (λ v. told xs v (get_or xs i (G.Plus 0))) (sym e)
 ]
 
+-- the bit of a vector at a literal's number is what the vector says of the literal
 pub are_told : (T : List Position) (xs ns : List Signed) (rows : List (List ℕ)) (vs : List (List Bool)) → ns ≡ xs
     → vs ≡ vectors_of T xs rows → AreTold ns vs
 are_told T xs ns rows vs n v =

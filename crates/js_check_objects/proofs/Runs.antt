@@ -13,6 +13,7 @@ alone : (v : Result (List Duty) ℕ) → and_then (λ es. Ok (es ++ [])) v ≡ v
 alone (Ok es) = ap Ok (append-nil es)
 alone (Err r) = refl
 
+-- a run of one line on one duty leaves what that line leaves of the duty
 pub run_alone : (T : List Position) (cite : ℕ → List Signed → Bool) (d : Duty) (l : Line)
     → run T cite (d ∷ []) (l ∷ []) ≡ after T cite d l
 run_alone T cite d l = alone (after T cite d l)

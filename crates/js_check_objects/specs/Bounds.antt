@@ -10,7 +10,7 @@ bound_view b = (b.cell, b.labels.items)
 abbrev pub bounds_in : List StatedBound → List Bound
 bounds_in bs = reverse (map bound_view bs)
 
--- the bound that stands at the number of a cell
+-- the bound that is at the number of a cell
 abbrev pub cap_at : List (Option ℕ) → ℕ → Option ℕ
 cap_at [] c = None
 cap_at (o ∷ os) zero = o
@@ -21,6 +21,6 @@ abbrev pub past : List Bound → ℕ
 past [] = 0
 past (b ∷ bs) = b.0 + 1
 
--- with the bound of a cell
+-- bounds of cells with the bound of one more
 abbrev pub with_cap : ℕ → ℕ → (ℕ → Option ℕ) → ℕ → Option ℕ
 with_cap cell cap caps c = cond (nat_eq cell c) (Some cap) (caps c)

@@ -20,7 +20,7 @@ stage_duties (S.Bounds x) = bounds_duty x ∷ []
 stage_duties (S.Plans x) = plan_duties_of x
 stage_duties S.Over = []
 
--- the definition says of a line over the table what the answer tells
+-- the definition says of a line over the table what the answer says
 pub record Takes (T : List Position) (v : Result (List Duty) ℕ) (stage : Stage) : Type 0 where
   pub table : stage_table stage ≡ T
   pub taken : v ≡ Ok (stage_duties stage)

@@ -18,8 +18,8 @@ use js_name_tests::{NameTest, ValueTest, asked_of_server, bars_of, demands_of, v
 use js_plans::Place;
 use std::alloc::Global;
 
-/// What a set asks of the members of an object, by the cells of their names. `frame_view` is the frame that it stands
-/// for.
+/// What a set requires of the members of an object, by the cells of their names. `frame_view` is the frame that it
+/// stands for.
 #[derive(Drop)]
 pub(crate) struct ObjectFrame<'a> {
     core: &'a Core,

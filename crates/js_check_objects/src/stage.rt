@@ -19,7 +19,7 @@ use js_lines::CertLine;
 use js_rules::{Rule, RuleFault};
 use std::alloc::Global;
 
-/// Where the lines at an object stand. `Over` is left behind by a line that isn't taken.
+/// How far the lines at an object are. `Over` is left behind by a line that isn't taken.
 #[derive(Drop)]
 pub(crate) enum Stage<'a> {
     Rows(OpenRows<'a>),

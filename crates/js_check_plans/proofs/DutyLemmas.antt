@@ -68,7 +68,7 @@ module _ (frame : Frame) where
       → (d : Signed) × (ds : List Signed) × (drop (length ws) frame.demands ≡ d ∷ ds)
   some-left ws l = (_, _, drop-cons frame.demands (length ws) (Plus 0) l)
 
-  -- what a choice tells, of a path that is known otherwise
+  -- what a choice means, of a path that is known otherwise
   pub some-choice : (us cut : List Server) (o : Option Choice) (choice : Choice) (slot : Slot) → us ≡ cut
       → o ≡ Some choice → with_rest_at frame us o ≡ choices_at frame us slot
       → choices_at frame cut slot ≡ choice.server ∷ choices_at frame cut choice.rest
@@ -111,7 +111,7 @@ module _ (frame : Frame) where
         ap (pending_duties form frame path) (reverse-last es old e q)
         ∙ ap (λ us. option_duties form frame us e.next ++ pending_duties form frame us (reverse es)) (sym back)
 
-    -- it has no choice left
+    -- where the path has no choice left, what is pending is what was left before
     pub none-duties : (form : Form) → choices_at frame cut e.next ≡ []
         → pending_duties form frame cut (reverse es) ≡ pending_duties form frame path (reverse old)
     none-duties form none =

@@ -11,6 +11,7 @@ use Rattle.js_check_plans.specs.Slots.{choices_at}
 use Rattle.js_plans.proofs.Options as O
 
 module _ (frame : Frame) where
+  -- the choices from first place 0 on are all choices of the next demand
   pub choices-are : (ws : List Server) → length ws ≤ length frame.demands
       → choices_at frame ws (S.Head 0) ≡ choices_after frame ws
   choices-are ws l =

@@ -20,7 +20,7 @@ module _ (frame : Frame) (ws : List Server) where
   abbrev P : Plan
   P = plan_after frame ws
 
-  -- where a server stands, and what it serves
+  -- where a server is, and what it serves
   abbrev pub seen : Server → Place × List Signed
   seen s = (place_after ws s, served_at frame ws s)
 

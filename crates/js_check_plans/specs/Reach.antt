@@ -16,7 +16,7 @@ pub record IsPath (frame : Frame) (ws : List Server) : Type 0 where
 abbrev pub heads_of : Frame → ℕ → ℕ → ℕ
 heads_of frame u m = min (size_of frame u m) frame.heads
 
--- of h first places and m members behind them
+-- the server of a number, among h first places and m members behind them
 abbrev pub by_number : ℕ → ℕ → ℕ → Option Server
 by_number h m k = cond (nat_lt k h) (Some (V.Head k)) (cond (nat_lt (k - h) m) (Some (V.Member (k - h))) None)
 

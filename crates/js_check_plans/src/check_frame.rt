@@ -42,16 +42,16 @@ pub trait CheckFrame {
     fn cells(&self) -> &[u32]
         ensures { result.now ≡ (frame self.now).cells };
 
-    /// Whether what stands in a cell may serve the demand of that number.
+    /// Whether what is in a cell may serve the demand of that number.
     fn is_inside(&self, demand: usize, cell: u32) -> bool
         requires { demand < length (frame self.now).demands }
         ensures { result ≡ (frame self.now).inside (get_or (frame self.now).demands demand (G.Plus 0)) cell };
 
-    /// How many may stand in a cell, if that is bounded.
+    /// How many may be in a cell, if that is bounded.
     fn cap(&self, cell: u32) -> Option<u32>
         ensures { result ≡ (frame self.now).cap cell };
 
-    /// Adds what is required of whatever stands at a place.
+    /// Adds what is required of whatever is at a place.
     fn add_each(&self, place: Place, list: &mut Vec<Signed>) -> Result<(), Memory>
         ensures added { OnOk result (map signed_view list.new.items ≡ map signed_view list.old.items
             ++ flat_map ((frame self.now).each (place_view place)) (frame self.now).set) }

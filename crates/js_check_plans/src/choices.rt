@@ -16,8 +16,8 @@ use js_doc::Memory;
 use js_plans::Server;
 use std::alloc::Global;
 
-/// What is tried for a demand, in this order: what stands at each first place, each member, and a new member in each
-/// cell, given by its place in the list of cells.
+/// What is tried for a demand, in this order: what is at each first place, each member, and a new member in each cell,
+/// given by its place in the list of cells.
 #[derive(Clone, Copy)]
 pub(crate) enum Slot {
     Head(u32),

@@ -1,6 +1,6 @@
 //! The plans that are still to be shown empty, in the order in which lines come to them.
 //!
-//! Plans to come stand in a list, the next ones last: those with the choices that are left of a demand are one entry,
+//! Plans to come are in a list, the next ones last: those with the choices that are left of a demand are one entry,
 //! after the first part of the path. So plans share what they have in common, and a split adds the same however many
 //! options there are.
 

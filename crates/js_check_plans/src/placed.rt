@@ -40,7 +40,7 @@ fn server_at<F: CheckFrame>(frame: &F, path: &[Server], number: u64) -> Option<S
     None
 }
 
-/// What is required of what stands at a place and serves these demands.
+/// What is required of what is at a place and serves these demands.
 pub(crate) fn list_at<F: CheckFrame>(
     alloc: Global,
     frame: &F,
@@ -76,7 +76,7 @@ fn served_by<F: CheckFrame>(
     Ok(served)
 }
 
-/// Whether what stands at a place and serves these demands is refuted by the end.
+/// Whether what is at a place and serves these demands is refuted by the end.
 pub(crate) fn is_place_refuted<F: CheckFrame>(
     alloc: Global,
     frame: &F,

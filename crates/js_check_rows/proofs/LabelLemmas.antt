@@ -1,10 +1,10 @@
--- Labels of rows: what tests over all rows tell of each row, and which fault is first.
+-- Labels of rows: what tests over all rows say of each row, and which fault is first.
 use Rattle.std.proofs.Common.{◌≡◌, ◌<◌, ◌≤◌, ◌+◌, ◌*◌, ◌⊎◌, ℕ, zero, suc, min, List, [], ◌∷◌, Bool, true, ◌&&◌, cond, nat_eq, nat_le, length, get_or, inl, inr, refl, sym, ◌∙◌, ap, subst, arith}
 use Rattle.std.specs.List.{range_with_len}
 use Rattle.std.specs.Cmp.{both_ways}
 use Rattle.std.proofs.lemmas.Bool.{and_from, and_parts, le-leb, leb-true, eq-eqb, eqb-true, cases_lt, false_from_ne_true}
 use Rattle.list_laws.proofs.Lists.{every_at}
-use Rattle.list_laws.proofs.Tests.{in_range, every_below}
+use Rattle.list_laws.proofs.Tests.{in_range, every-range}
 use Rattle.documents.specs.Tests.{every}
 use Rattle.word_states.specs.Atom.{Atom}
 use Rattle.word_states.specs.Classes.{class_count}
@@ -18,7 +18,7 @@ use Rattle.js_check_rows.specs.Labels.{IsFirst, IsAlone, IsPast, IsTooGreat, Lea
 at_below : (p : ℕ → Bool) (n r : ℕ) → every p (range_with_len 0 n) ≡ true → r < n → p r ≡ true
 at_below p n r e l = every_at p r (range_with_len 0 n) e (in_range n r l)
 
--- beyond a list stands 0
+-- beyond a list is 0
 pub past_end : (xs : List ℕ) (k : ℕ) → length xs ≤ k → get_or xs k 0 ≡ 0
 past_end xs k l = beyond xs k 0 l where
   beyond : (xs : List ℕ) (k d : ℕ) → length xs ≤ k → get_or xs k d ≡ d
@@ -38,7 +38,7 @@ module _ (atoms : List Atom) (t : Table (List ℕ)) where
         and_from (nat_eq (length labels) (length t.words))
         (every (λ r. nat_le (asked r) (get_or labels r 0)) (range_with_len 0 (length t.words)))
         (eq-eqb (length labels) (length t.words) e)
-        (every_below (λ r. nat_le (asked r) (get_or labels r 0)) (length t.words)
+        (every-range (λ r. nat_le (asked r) (get_or labels r 0)) (length t.words)
         (λ r l. le-leb (asked r) (get_or labels r 0) (h r l)))
 
     kept_length : are_kept atoms t marks labels ≡ true → length labels ≡ length t.words
@@ -106,9 +106,9 @@ module _ (atoms : List Atom) (t : Table (List ℕ)) where
         ap (λ b. nat_eq (length labels) (length t.words) && b)
         (both_ways (every (λ r. nat_le (asked r) (get_or labels r 0)) (range_with_len 0 (length t.words)))
         (every (keeps T atoms t.words (stated t) C c labels) (range_with_len 0 (length t.words)))
-        (λ e. every_below (keeps T atoms t.words (stated t) C c labels) (length t.words)
+        (λ e. every-range (keeps T atoms t.words (stated t) C c labels) (length t.words)
         (λ r l. sym (same r l) ∙ at_below (λ r. nat_le (asked r) (get_or labels r 0)) (length t.words) r e l))
-        (λ e. every_below (λ r. nat_le (asked r) (get_or labels r 0)) (length t.words)
+        (λ e. every-range (λ r. nat_le (asked r) (get_or labels r 0)) (length t.words)
         (λ r l. same r l ∙ at_below (keeps T atoms t.words (stated t) C c labels) (length t.words) r e l))) where
           same : (r : ℕ) → r < length t.words
               → nat_le (asked r) (get_or labels r 0) ≡ keeps T atoms t.words (stated t) C c labels r
@@ -136,7 +136,7 @@ module _ (atoms : List Atom) (t : Table (List ℕ)) where
         (eq-eqb (length labels) (length t.words) e)
         (and_from (nat_eq (get_or labels 0 0) 0) (every fit (range_with_len 0 (length t.words)))
         (eq-eqb (get_or labels 0 0) 0 z)
-        (every_below fit (length t.words) (λ r l. every_below (fits r) (class_count atoms)
+        (every-range fit (length t.words) (λ r l. every-range (fits r) (class_count atoms)
         (λ k m. le-leb (get_or labels (stated t r k) 0) (suc (get_or labels r 0))
         (let q = h r k l m in omega (arith, q))))))
 

@@ -82,7 +82,7 @@ line_next m n o row k t line a f e =
     (extend (atoms_in m) w) line a.right (omega (arith, l, len)) (omega (arith, l, d))
     (at_class m n row k t line a.tuples a.count a.grown a.known a.class f ∙ e))
 
--- or it is wrong
+-- a fault of the class is the fault of the line
 pub line_tells : (m n : Mentions) (row k t : ℕ) (line : List ℕ) (fault : RowFault) → IsAt m n row k line
     → t ≡ get_or line k 0
     → ClassTells k (target (have_same_state (atoms_in n)) (extend (atoms_in n)) [] n.count (words_in n)

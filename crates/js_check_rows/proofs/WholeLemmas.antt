@@ -16,7 +16,7 @@ whole_words r e =
     let f = m.few in
     omega (arith, e, n, s, k, f)
 
--- there are some
+-- a table has at least one row
 pub some_words : (r : Rows) → 0 < length (table_of r).words
 some_words r =
     let m = r.mentions in

@@ -9,6 +9,7 @@ use Rattle.cell_laws.proofs.Widths.{count_same}
 use Rattle.verdicts.specs.Bounds.{width_of}
 use Rattle.std.proofs.Math.Nat.{sub_self}
 
+-- where the widths of the first k classes are right and the next one is that of class k, those of k + 1 are
 pub width_next : (atoms : List Atom) (widths : List ℕ) (k w : ℕ) (set : List (ℕ × ℕ))
     → ((c : ℕ) → has set c ≡ is_in_class atoms k c) → w ≡ count_below (has set) 0x110000
     → length widths ≡ k → ((j : ℕ) → j < k → get_or widths j 0 ≡ width_of atoms j)

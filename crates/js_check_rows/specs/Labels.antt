@@ -60,7 +60,7 @@ module _ (atoms : List Atom) (t : Table (List ℕ)) where
         IsFirst (λ q. IsAlone t labels q ⊎ (get_or labels q 0 < asked_of q)) r × (are_kept ≡ false)
     BoundTells _ = ⊥
 
-    -- where the marks tell which rows are in a cell, this is the rule of a bound of it
+    -- where the marks say which rows are in a cell, this is the rule of a bound of it
     abbrev pub AreBounds : Type 0
     AreBounds =
         (T : List Position) (C : Cells) (c : ℕ)

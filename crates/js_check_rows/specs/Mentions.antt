@@ -16,7 +16,7 @@ abbrev pub word_by : List Atom → List (List ℕ) → Option Step → List ℕ
 word_by atoms ws None = []
 word_by atoms ws (Some s) = get_or ws s.row [] ++ get_or (class_firsts atoms) s.class 0 ∷ []
 
--- with the words of these rows behind those before
+-- words with those of further rows behind them
 abbrev pub words_after : List Atom → List (List ℕ) → List Mention → List (List ℕ)
 words_after atoms ws [] = ws
 words_after atoms ws (m ∷ ms) = words_after atoms (ws ++ word_by atoms ws m.step ∷ []) ms

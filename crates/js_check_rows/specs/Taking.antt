@@ -21,7 +21,7 @@ module _ (atoms : List Atom) (count : ℕ) (ws xs : List (List ℕ)) (ts : List 
   LineTells R.Memory = Unit {0}
   LineTells _ = ⊥
 
--- of one class
+-- what a fault says of the target by one class
 abbrev pub ClassTells : ℕ → Result (List (List ℕ)) ℕ → RowFault → Type 0
 ClassTells class judged (R.Step k) = (k ≡ class) × (judged ≡ Err wrong_target)
 ClassTells class judged R.Memory = Unit {0}

@@ -5,7 +5,7 @@ use js_doc::Memory;
 use std::alloc::{AllocError, AllocFailed};
 use thiserror::Error;
 
-/// Why rows, or labels of rows, don't stand; or there is no memory.
+/// Why rows, or labels of rows, aren't right; or there is no memory.
 #[derive(Clone, Copy, PartialEq, Eq, Debug, Error)]
 pub enum RowFault {
     /// There are to be no rows, or the atoms have more positions or classes than an automaton may have.

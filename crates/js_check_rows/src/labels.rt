@@ -1,7 +1,7 @@
 //! Labels of whole rows: least lengths, and bounds of cells.
 //!
 //! Labels are numbers of a line, one for each row. Each is compared with what the labels of the rows to which its row
-//! leads ask, so both calls cost a look at each row and class, and neither takes memory.
+//! lead require, so both calls cost a look at each row and class, and neither takes memory.
 
 ghost use Rattle.std.specs.Prelude.{◌≡◌, min, length, get_or, false};
 

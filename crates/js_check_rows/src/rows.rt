@@ -65,7 +65,7 @@ impl Rows {
 
     /// Takes the line of the next row: its targets, one for each class.
     ///
-    /// It costs a step and a comparison of states for each class. After a fault the value stands as before.
+    /// It costs a step and a comparison of states for each class. After a fault the value is as before.
     pub fn take(&mut self, alloc: Global, targets: &[u32]) -> Result<(), RowFault>
         ensures atoms { atoms_of self.new ≡ atoms_of self.old }
         ensures count { count_of self.new ≡ count_of self.old }

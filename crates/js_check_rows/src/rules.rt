@@ -6,7 +6,7 @@ ghost use Rattle.js_check_rows.specs.Rules.{rule_of};
 use crate::fault::RowFault;
 use js_rules::{Rule, RuleFault};
 
-/// The rule that is broken where rows, or labels of rows, don't stand.
+/// The rule that is broken where rows, or labels of rows, aren't right.
 pub fn rule_of(fault: RowFault) -> RuleFault
     ensures { result ≡ rule_of fault }
 {

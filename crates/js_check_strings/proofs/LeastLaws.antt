@@ -16,6 +16,7 @@ module _ (T : List Position) (set : List Signed) (t : Table (List ℕ)) (ds : Li
   abbrev pub row_past : ℕ → Bool
   row_past r = not (is_wanted T set (get_or t.words r [])) || is_at_end (get_or ds r 0) (below T set)
 
+  -- where each row isn't wanted or is past the bound, the rule of least lengths holds
   pub all_past : ((r : ℕ) → r < length t.words → row_past r ≡ true) → least_past T set t ds ≡ true
   all_past h =
       every_from row_past (range_with_len 0 (length t.words)) (λ r i. h r (from_range (length t.words) r i))

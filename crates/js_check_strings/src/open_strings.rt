@@ -48,7 +48,7 @@ impl<'a> OpenStrings<'a> {
     ghost use Rattle.js_asked.specs.Asking.{atoms_in, asks};
     ghost use Rattle.js_check_strings.specs.View.{table_of, duties_of};
 
-    /// Begins with a line that so many rows follow. It finds the classes of what the literals ask of words.
+    /// Begins with a line that so many rows follow. It finds the classes of what the literals require of words.
     pub fn new(
         alloc: Global,
         core: &'a Core,

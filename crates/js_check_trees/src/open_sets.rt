@@ -17,7 +17,7 @@ use std::alloc::Global;
 /// The set at hand, if there is one, and the choices that come after it, the next rule last. Contracts see the duties
 /// that they stand for, by `duties_of`.
 ///
-/// The members of the path stand in the order in which they came, so the set at which a rule was met is the first of
+/// The members of the path are in the order in which they came, so the set at which a rule was met is the first of
 /// them, and a line costs what it adds. After a call that failed, the choices that are left are some of those that
 /// there were.
 #[derive(Drop)]
@@ -107,8 +107,8 @@ impl<'a> OpenSets<'a> {
 
     /// Takes a line for the set at hand, after which none is at hand.
     ///
-    /// A line that splits the set costs the same whatever its size; ends that ask for bounds, truth values or numbers
-    /// cost a pass over it.
+    /// A line that splits the set costs the same whatever its size; ends about bounds, truth values or numbers cost a
+    /// pass over it.
     pub fn take(&mut self, alloc: Global, line: &CertLine) -> Result<(), RuleFault>
         requires hand { has_set self.old ≡ true }
         requires leaf { begins_leaf (kind_of self.old) (line_view line.now) ≡ false }

@@ -126,7 +126,7 @@ module _ (T : List Position) (a b : ℕ) where
 
 -- the number of the line that is rejected
 
--- while no fault was met, none is told
+-- while no fault was met, none is reported
 pub none_next : (o : Option CheckFault) (n : ℕ) → o ≡ None → (k r : ℕ) → o ≡ Some (F.Rejected k r) → k ≡ n
 none_next o n none k r e = cc
 

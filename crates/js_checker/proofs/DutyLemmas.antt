@@ -23,9 +23,6 @@ pub left_there : (b : Bool) → not b ≡ false → b ≡ true
 left_there true e = refl
 left_there false e = cc
 
-pub any_left-none : (ds : List Duty) → ds ≡ [] → any_left ds ≡ false
-any_left-none ds e = ap any_left e
-
 module _ (T : List Position) (cite : ℕ → List Signed → Bool) (l : Line) where
   -- a line leaves of duties with others behind them what it leaves of the first, and the others
   pub leaves_more : (ds more es : List Duty) → Leaves T cite l ds es → Leaves T cite l (ds ++ more) (es ++ more)
@@ -49,17 +46,7 @@ module _ (T : List Position) (cite : ℕ → List Signed → Bool) (l : Line) wh
     go (Err x) h = h
     go (Ok xs) h = cc
 
-  -- of the first duty
-  pub leaves_first : (d : Duty) (more es : List Duty) → after T cite d l ≡ Ok es
-      → Leaves T cite l (d ∷ more) (es ++ more)
-  leaves_first d more es e = ap (and_then (λ xs. Ok (xs ++ more))) e
-
-  pub faults_first : (d : Duty) (more : List Duty) (fault : RuleFault) → Breaks (after T cite d l) fault
-      → Faults T cite l (d ∷ more) fault
-  faults_first d more F.Memory e = tt
-  faults_first d more (F.Breaks r) e = ap (and_then (λ xs. Ok (xs ++ more))) e
-
-  -- where there is none before
+  -- a fault at duties is one behind those of which none is left
   pub faults_behind : (ds more : List Duty) (fault : RuleFault) → any_left ds ≡ false → Faults T cite l more fault
       → Faults T cite l (ds ++ more) fault
   faults_behind ds more fault n e =

@@ -1,14 +1,12 @@
 -- Lines that do duties, and no more than these.
-use Rattle.std.proofs.Common.{◌≡◌, ℕ, suc, ◌+◌, ◌<◌, List, [], ◌∷◌, ◌++◌, map, length, take, drop, get_or, nat_eq, nat_lt, Bool, true, false, not, ◌&&◌, Result, Ok, Err, refl, ap, sym, ◌∙◌, subst, eq-eqb, arith}
+use Rattle.std.proofs.Common.{◌≡◌, ℕ, suc, ◌+◌, ◌<◌, List, [], ◌∷◌, ◌++◌, map, length, take, drop, get_or, nat_eq, nat_lt, Bool, true, false, not, ◌&&◌, Result, Ok, Err, refl, ap, sym, ◌∙◌, subst, arith}
 use Rattle.std.proofs.lemmas.List.{map_more, drop_more, take-append-drop, map-append}
-use Rattle.documents.specs.Kind.{all_kinds}
 use Rattle.positions.specs.Position.{Position}
 use Rattle.goals.specs.Signed.{Signed}
 use Rattle.certificate_lines.specs.Line as L
 use Rattle.certificate_lines.specs.Line.{Line}
-use Rattle.verdicts.specs.Rules.{other_entry}
-use Rattle.verdicts.specs.RowLines.{and_then, if_so}
-use Rattle.verdicts.specs.Duties.{Duty, OfGoal, AtKind, after, run}
+use Rattle.verdicts.specs.RowLines.{and_then}
+use Rattle.verdicts.specs.Duties.{Duty, OfGoal, after, run}
 use Rattle.verdicts.specs.Verdict.{cites}
 use Rattle.verdict_laws.proofs.Runs.{run_on}
 use Rattle.js_rules.specs.RuleView.{rule_view}
@@ -19,7 +17,7 @@ use Rattle.js_rules.specs.declared.fault.RuleFault.TheVariants as F
 use Rattle.js_lines.specs.View.{line_view}
 use Rattle.js_lines.specs.declared.lines.CertLine.{CertLine}
 use Rattle.js_checker.specs.Duties.{any_left, Leaves, Faults}
-use Rattle.js_checker.specs.EntryView.{kind_duties, goal_duties, is_busy}
+use Rattle.js_checker.specs.EntryView.{goal_duties, is_busy}
 use Rattle.js_checker.specs.Entries.{is_nothing, do_all, is_entry, EntersNone}
 use Rattle.js_checker.specs.declared.entry.EntryCheck.{EntryCheck}
 use Rattle.js_checker.proofs.JudgeLemmas.{busy_duties, idle_duties}
@@ -86,23 +84,7 @@ module _ (T : List Position) (gs : List (List Signed)) where
         go true h = sym (something (goal_duties g e) (busy_duties e g h))
         go false h = sym (ap (λ es. is_nothing (Ok es)) (idle_duties e g h))
 
-  -- the line that enters a goal leaves its kinds
-  pub entered_all : (n : ℕ) (g : List Signed) (l : Line) (ls ms : List Line) → l ≡ L.Entry n → l ∷ ls ≡ ms
-      → do_all T gs (OfGoal n g ∷ []) ms ≡ do_all T gs (kind_duties g all_kinds) ls
-  entered_all n g l ls ms line same =
-      ap (do_all T gs (OfGoal n g ∷ [])) (sym same)
-      ∙ ap (λ k. do_all T gs (OfGoal n g ∷ []) (k ∷ ls)) line
-      ∙ ap (λ c. is_nothing (and_then (λ es. Runs (es ++ []) ls)
-      (if_so other_entry c (map (λ t. AtKind t g) all_kinds)))) (eq-eqb n n refl)
-
   -- the answer for a number
-  module _ (n : ℕ) (ls : List Line) (inside : nat_lt n (length gs) ≡ true) where
-    pub entry_told : (g : List Signed) (b : Bool) → g ≡ get_or gs n []
-        → b ≡ do_all T gs (OfGoal n g ∷ []) ls → b ≡ is_entry T gs n ls
-    entry_told g b same e =
-        e ∙ ap (λ h. do_all T gs (OfGoal n h ∷ []) ls) same
-        ∙ ap (λ c. c && do_all T gs (OfGoal n (get_or gs n []) ∷ []) ls) (sym inside)
-
   pub not_entered : (n : ℕ) (l : Line) (ls ms : List Line) → EntersNone n l → l ∷ ls ≡ ms → false ≡ is_entry T gs n ms
   not_entered n l ls ms none same =
       go (nat_lt n (length gs))

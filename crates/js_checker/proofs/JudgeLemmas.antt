@@ -51,7 +51,7 @@ busy [] (Some K.Object) g e = refl
 pub busy_duties : (e : EntryCheck) (g : List Signed) → is_busy e ≡ true → any_left (goal_duties g e) ≡ true
 busy_duties e g h = busy (tree_duties e.tree) e.kind g h
 
--- nothing is left of it
+-- nothing is left of the goal
 pub idle_duties : (e : EntryCheck) (g : List Signed) → is_busy e ≡ false → goal_duties g e ≡ []
 idle_duties e g h = idle (tree_duties e.tree) e.kind g h
 

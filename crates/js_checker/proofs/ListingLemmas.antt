@@ -1,5 +1,5 @@
 -- Lists of goal lines.
-use Rattle.std.proofs.Common.{◌≡◌, ℕ, Bool, true, false, ◌&&◌, List, [], ◌∷◌, map, Option, Some, None, Ok, Err, refl, ap, sym, ◌∙◌}
+use Rattle.std.proofs.Common.{◌≡◌, ℕ, Bool, true, ◌&&◌, List, [], ◌∷◌, map, Option, Some, Ok, refl, ap, sym, ◌∙◌}
 use Rattle.std.specs.Cmp.Lexicographic.{pointwise}
 use Rattle.std.proofs.lemmas.Bool.{and_parts, and_from, true≢false}
 use Rattle.positions.specs.Position.{Position}
@@ -36,15 +36,3 @@ module _ (T : List Position) (xs : List G.Signed) where
       ap (λ b. if_so no_goal b xs)
       (and_from (are_in_table T xs) _ inside (ap (same_goal xs) formed ∙ same))
       ∙ ap Ok (same-equal xs h same)
-
-  pub not-inside : are_in_table T xs ≡ false → if_so no_goal (is_goal T xs) xs ≡ Err no_goal
-  not-inside e = ap (λ b. if_so no_goal (b && same_goal xs (form T xs)) xs) e
-
-  pub not-formed : are_in_table T xs ≡ true → form T xs ≡ None → if_so no_goal (is_goal T xs) xs ≡ Err no_goal
-  not-formed inside e = (λ i. if_so no_goal (inside i && same_goal xs (e i)) xs)
-
-  pub not-same : (h : List G.Signed) → are_in_table T xs ≡ true → same_goal xs (Some h) ≡ false
-      → form T xs ≡ Some h → if_so no_goal (is_goal T xs) xs ≡ Err no_goal
-  not-same h inside other formed =
-      (λ i. if_so no_goal (inside i && same_goal xs (formed i)) xs)
-      ∙ ap (λ b. if_so no_goal b xs) other

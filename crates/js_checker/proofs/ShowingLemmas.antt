@@ -2,7 +2,6 @@
 use Rattle.std.proofs.Common.{◌≡◌, ℕ, suc, ◌+◌, ◌<◌, ◌≤◌, List, [], ◌∷◌, ◌++◌, map, length, drop, get_or, nat_eq, Bool, true, false, Result, Ok, Err, ap, sym, ◌∙◌, append-nil, arith}
 use Rattle.std.proofs.lemmas.List.{drop_more}
 use Rattle.std.proofs.lemmas.Bool.Decides.{nat_tests}
-use Rattle.std.proofs.Math.ListN.{drop_of_length-le}
 use Rattle.documents.specs.Kind.{all_kinds}
 use Rattle.positions.specs.Position.{Position}
 use Rattle.goals.specs.Signed.{Signed}
@@ -49,9 +48,6 @@ module _ (T : List Position) (a b : ℕ) (gs : List (List Signed)) where
   next_goal n h = ap (entry_duties n) (drop_more gs n [] h) ∙ omega_free where
     omega_free : entry_duties n (get_or gs n [] ∷ drop (n + 1) gs) ≡ OfGoal n (get_or gs n []) ∷ left_from (n + 1)
     omega_free = ap (λ m. OfGoal n (get_or gs n []) ∷ entry_duties m (drop (n + 1) gs)) (omega arith)
-
-  pub no_goal_left : (n : ℕ) → length gs ≤ n → left_from n ≡ []
-  no_goal_left n h = ap (entry_duties n) (drop_of_length-le gs h)
 
   pub entered : (n : ℕ) (es : List Duty) → n < length gs → es ≡ map (λ t. AtKind t (get_or gs n [])) all_kinds
       → step T a b (Showing gs (left_from n)) (L.Entry n) ≡ Ok (Showing gs (es ++ left_from (n + 1)))

@@ -6,7 +6,7 @@ use Rattle.documents.specs.Document.{Document, is_document}
 use Rattle.positions.specs.Position.{Position}
 use Rattle.certificate_lines.specs.Line.{Line}
 use Rattle.verdicts.specs.Rules.{no_end, out_of_place}
-use Rattle.verdicts.specs.Verdict.{Stage, Start, Counting, Listing, Showing, Ended, Verdict, Accepted, Rejected, step, go_on, judged, at_end, at_part, verdict}
+use Rattle.verdicts.specs.Verdict.{Stage, Start, Counting, Listing, Showing, Ended, Verdict, Accepted, Rejected, step, go_on, judged, at_end, at_part}
 use Rattle.js_checker.specs.Standing.{LeadTo, LeadsOver, AreRejected}
 
 module _ (T : List Position) (a b : ℕ) where
@@ -38,11 +38,6 @@ module _ (T : List Position) (a b : ℕ) where
         next finish more ∙ ap (go_on T a b (λ u. judge finish u (suc (suc n)) more) (suc n)) e
         ∙ ap (λ m. Rejected m r) count'
 
-  pub more_rejected : (ls : List Line) (l : Line) (k r : ℕ) → AreRejected T a b ls k r
-      → AreRejected T a b (ls ++ l ∷ []) k r
-  more_rejected ls l k r h finish more =
-      ap (judge finish Start 1) (append_assoc ls (l ∷ []) more) ∙ h finish (l ∷ more)
-
   pub all_rejected : (ls xs : List Line) (k r : ℕ) → AreRejected T a b ls k r → AreRejected T a b (ls ++ xs) k r
   all_rejected ls xs k r h finish more =
       ap (judge finish Start 1) (append_assoc ls xs more) ∙ h finish (xs ++ more)
@@ -57,12 +52,6 @@ module _ (T : List Position) (a b : ℕ) where
         ap (judge finish Start 1) (append_assoc ls xs more) ∙ led.judged_on finish (xs ++ more)
         ∙ over finish (suc n) more ∙ ap (λ k. judge finish u k more) next;
   }
-
-  -- whatever comes after a line that is rejected
-  pub rejected_there : (ls more : List Line) (l : Line) (k r : ℕ) → AreRejected T a b (ls ++ l ∷ []) k r
-      → verdict T a b (ls ++ l ∷ more) ≡ Rejected k r
-  rejected_there ls more l k r h =
-      sym (ap (judge at_end Start 1) (append_assoc ls (l ∷ []) more)) ∙ h at_end more
 
   -- at the end
   pub rejected_whole : (finish : Stage → ℕ → Verdict) (ls : List Line) (k r : ℕ) → AreRejected T a b ls k r

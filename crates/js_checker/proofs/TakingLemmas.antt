@@ -1,6 +1,6 @@
 -- Lists of lines that a checker took.
 use Rattle.std.proofs.Common.{◌≡◌, ℕ, ◌+◌, ◌<◌, List, [], ◌∷◌, ◌++◌, map, flat_map, length, take, drop, get_or, Option, Some, Result, IfErr, refl, ap, sym, ◌∙◌, subst, append_assoc, append-nil, length-append, arith}
-use Rattle.std.proofs.lemmas.List.{take_more, drop_more, take-append-drop, map-append}
+use Rattle.std.proofs.lemmas.List.{drop_more, take-append-drop, map-append}
 use Rattle.std.proofs.lemmas.Grind.{flat_map-append}
 use Rattle.certificate_lines.specs.Line.{Line}
 use Rattle.verdicts.specs.Verdict.{at_end, verdict}
@@ -79,23 +79,11 @@ same_question c d e p q = record {
 
 -- the lines of pieces: up to one, and of that one
 module _ (ps : List Piece) (i : ℕ) (p : Piece) (inside : i < length ps) (read : p ≡ get_or ps i p) where
-  pub joined_to : joined (take i ps) ++ p.lines.now ≡ joined (take (i + 1) ps)
-  joined_to =
-      ap (λ ys. joined (take i ps) ++ ys) (sym (append-nil p.lines.now))
-      ∙ ap (λ q. joined (take i ps) ++ joined (q ∷ [])) read
-      ∙ sym (flat_map-append (λ q. q.lines.now) (take i ps) (get_or ps i p ∷ []))
-      ∙ ap joined (sym (take_more ps i p inside))
-
   pub joined_around : joined (take i ps) ++ (p.lines.now ++ joined (drop (i + 1) ps)) ≡ joined ps
   joined_around =
       ap (λ q. joined (take i ps) ++ joined (q ∷ drop (i + 1) ps)) read
       ∙ ap (λ qs. joined (take i ps) ++ joined qs) (sym (drop_more ps i p inside))
       ∙ sym (flat_map-append (λ q. q.lines.now) (take i ps) (drop i ps)) ∙ ap joined (take-append-drop i ps)
-
-  -- as lines of the grammar
-  pub views_to : map line_view (joined (take i ps)) ++ map line_view p.lines.now
-      ≡ map line_view (joined (take (i + 1) ps))
-  views_to = sym (map-append line_view (joined (take i ps)) p.lines.now) ∙ ap (map line_view) joined_to
 
   pub views_around : (map line_view (joined (take i ps)) ++ map line_view p.lines.now)
       ++ map line_view (joined (drop (i + 1) ps)) ≡ map line_view (joined ps)
@@ -104,9 +92,6 @@ module _ (ps : List Piece) (i : ℕ) (p : Piece) (inside : i < length ps) (read 
       (sym (map-append line_view (joined (take i ps)) p.lines.now))
       ∙ sym (map-append line_view (joined (take i ps) ++ p.lines.now) (joined (drop (i + 1) ps)))
       ∙ ap (map line_view) (append_assoc (joined (take i ps)) p.lines.now (joined (drop (i + 1) ps)) ∙ joined_around)
-
-  pub lengths_to : length (joined (take (i + 1) ps)) ≡ length (joined (take i ps)) + length p.lines.now
-  lengths_to = ap length (sym joined_to) ∙ length-append (joined (take i ps)) p.lines.now
 
   pub lengths_around : length (joined ps)
       ≡ length (joined (take i ps)) + (length p.lines.now + length (joined (drop (i + 1) ps)))

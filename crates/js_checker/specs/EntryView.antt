@@ -24,7 +24,7 @@ kinds_from (Some V.Object) = K.Object ∷ []
 abbrev pub kind_duties : List Signed → List Kind → List Duty
 kind_duties g ts = map (λ t. AtKind t g) ts
 
--- of the goal g
+-- the duties of the goal g that are left
 abbrev pub goal_duties : List Signed → EntryCheck → List Duty
 goal_duties g e = tree_duties e.tree ++ kind_duties g (kinds_from e.kind)
 

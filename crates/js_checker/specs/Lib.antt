@@ -1,5 +1,5 @@
--- What a reader must believe stands in `verdicts`, and in `Standing`, what has become of lines that were taken. The
--- others say what the parts of a checker have left to show.
+-- What a reader must believe is in `verdicts`, and in `Standing`, what has become of lines that were taken. The others
+-- say what the parts of a checker have left to show.
 pub mod Standing
 pub mod Faults
 pub mod Duties

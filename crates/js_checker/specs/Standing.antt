@@ -9,7 +9,7 @@ pub data Standing : Type 0 where
   Going : Stage → ℕ → Standing
   -- the number of a line, and the least rule that it breaks
   Broken : ℕ → ℕ → Standing
-  -- there was no memory
+  -- memory was refused
   Refused : Standing
 
 -- so many lines led from the start to the stage: whatever comes after them, it is judged from there

@@ -37,7 +37,7 @@ impl<'a> EntryCheck<'a> {
     ghost use Rattle.js_checker.specs.EntryView.{goal_duties, is_busy};
     ghost use Rattle.js_checker.specs.Entries.{do_all};
 
-    /// Nothing is to be shown.
+    /// The check of an entry of which nothing is to be shown yet.
     pub(crate) fn new(alloc: Global, core: &'a Core) -> EntryCheck<'a>
         ensures busy { is_busy result ≡ false }
         ensures over { IsOver core.now.positions result.tree }

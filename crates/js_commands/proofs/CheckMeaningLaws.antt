@@ -61,7 +61,7 @@ record IsReached (told : Option Files) (first second certificate : List ℕ) (o 
   are : AreChecked told first second certificate a b bytes
   of : IsOutcomeOfBytes a b bytes o
 
--- an outcome that is told of the bytes of the certificate alone
+-- an outcome that depends on the bytes of the certificate alone
 abbrev IsOfCertificate : Outcome → Type 0
 IsOfCertificate o = (o ≡ ReadFault → ⊥) × (is_first_refused o ≡ false) × (is_second_refused o ≡ false)
 
@@ -156,7 +156,7 @@ checking-too_long told first second certificate is =
     let at = checking-reached told first second certificate TooLong (λ e. cc, refl, refl) is in
     record { a = at.a; b = at.b; bytes = at.bytes; are = at.are; long = long-bytes at.a at.b at.bytes at.of }
 
--- ---- and where files are told, they come to what is judged of their bytes
+-- ---- and where files are known, they come to what is judged of their bytes
 
 told_last : (x : Option (List ℕ)) (a b : Json) (bytes : List ℕ) (o : Outcome) → x ≡ Some bytes
     → IsOutcomeOfCertificate a b x o → IsOutcomeOfBytes a b bytes o

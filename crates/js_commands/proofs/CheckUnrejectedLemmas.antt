@@ -1,10 +1,10 @@
 -- Where the certificate isn't judged to its end, that no line which was read before is rejected.
-use Rattle.std.proofs.Common.{◌≡◌, ℕ, ◌+◌, List, [], ◌∷◌, ◌++◌, length, Option, encode_utf8_all, ap, sym, ◌∙◌, subst, arith, length-append}
+use Rattle.std.proofs.Common.{◌≡◌, ℕ, ◌+◌, List, [], ◌∷◌, ◌++◌, length, Bool, Option, encode_utf8_all, ap, sym, ◌∙◌, subst, arith, length-append}
 use Rattle.documents.specs.Json.{Json}
 use Rattle.schemas.specs.Entry.{Entry}
 use Rattle.js_outside.specs.Told.{Files}
 use Rattle.js_report.specs.WholeFile.{HasBytes}
-use Rattle.js_certificate.specs.Unrejected.{FailsUnrejected}
+use Rattle.js_certificate.specs.Unrejected.{StopsUnrejected}
 use Rattle.js_certificate.specs.declared.file.FileFault.{FileFault}
 use Rattle.js_certificate.specs.declared.file.FileFault.TheVariants as F
 use Rattle.js_input.specs.SchemaReading.{Read, IsSchemaReading}
@@ -23,28 +23,28 @@ module _ (told : Option Files) (first second certificate one two : List ℕ) (a 
     (is : IsSchemaReading one (Read a)) (is' : IsSchemaReading two (Read b)) (es fs : List Entry)
     (x : IsReadAs a es) (y : IsReadAs b fs) (left : Option (List ℕ)) where
   unrejected-values : (fault : FileFault)
-      → FailsUnrejected (judgement es fs) told (encode_utf8_all certificate) left fault
+      → StopsUnrejected (judgement es fs) told (encode_utf8_all certificate) left fault
       → IsUnrejected told first second certificate left fault
   unrejected-values fault h =
       record {
         a = a;
         b = b;
         are = schemas-told told first second one two a b f g is is';
-        unrejected = subst (λ p. FailsUnrejected (judgement p (entries_read b)) told (encode_utf8_all certificate) left
+        unrejected = subst (λ p. StopsUnrejected (judgement p (entries_read b)) told (encode_utf8_all certificate) left
             fault) (sym (ap entries_of x.entries))
-            (subst (λ q. FailsUnrejected (judgement es q) told (encode_utf8_all certificate) left fault)
+            (subst (λ q. StopsUnrejected (judgement es q) told (encode_utf8_all certificate) left fault)
             (sym (ap entries_of y.entries)) h);
       }
 
-  pub ends-unrejected : (before after : List (List ℕ)) (c : Checking)
-      → IsUnrejectedWith es fs told (encode_utf8_all certificate) left c
-      → EndsUnrejected told first second certificate left before after c
-  ends-unrejected before after C.TooLong h = unrejected-values F.TooLong h
-  ends-unrejected before after C.ReadFault h = λ begun. unrejected-values F.Read h
-  ends-unrejected before after C.Accepted h = tt
-  ends-unrejected before after (C.Rejected line rule) h = tt
-  ends-unrejected before after (C.FirstRefused words) h = tt
-  ends-unrejected before after (C.SecondRefused words) h = tt
+  pub ends-unrejected : (is_begun : Bool) (before after : List (List ℕ)) (c : Checking)
+      → IsUnrejectedWith es fs told (encode_utf8_all certificate) is_begun left c
+      → EndsUnrejected told first second certificate is_begun left before after c
+  ends-unrejected is_begun before after C.TooLong h = unrejected-values F.TooLong h
+  ends-unrejected is_begun before after C.ReadFault h = λ all is. unrejected-values F.Read (h is)
+  ends-unrejected is_begun before after C.Accepted h = tt
+  ends-unrejected is_begun before after (C.Rejected line rule) h = tt
+  ends-unrejected is_begun before after (C.FirstRefused words) h = tt
+  ends-unrejected is_begun before after (C.SecondRefused words) h = tt
 
 -- where a schema couldn't be read, the certificate wasn't begun
 

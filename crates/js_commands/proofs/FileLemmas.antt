@@ -1,10 +1,10 @@
--- Files that have the bytes that were read, whether or not the shelf tells its files.
+-- Files that have the bytes that were read, whether or not the shelf's files are known.
 use Rattle.std.proofs.Common.{◌≡◌, ℕ, List, Option, Some, None, Result, Ok, Err, OnErr, encode_utf8_all, refl}
 use Rattle.js_outside.specs.Told.{Files}
 use Rattle.js_report.specs.WholeFile.{HasBytes}
 use Rattle.js_input.specs.ToldTwice.{AreFiles}
 
--- of one name
+-- the file of one name has the bytes that were read
 pub record HaveFile (told : Option Files) (name bytes : List ℕ) : Type 0 where
   pub files : Files
   pub are_files : AreFiles told files files

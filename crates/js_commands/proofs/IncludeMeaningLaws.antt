@@ -8,7 +8,7 @@ use Rattle.js_input.proofs.SchemaReadingLemmas.{IsSchemaReading-one}
 use Rattle.js_commands.specs.IncludeOutcome.{Outcome, FirstRefused, SecondRefused, of_values, of_second, IsAgainstBytes, IsAgainst, IsOfFirst, IsOutcomeOf, IsComparison}
 use Rattle.js_commands.specs.IncludeMeaning.{IsSecond, AreSchemas, IsFirstRefusal, IsSecondRefusal}
 
--- two schemas that are told come to what their values come to
+-- two schemas that are known come to what their values come to
 
 pub same-read : (bytes : List ℕ) (a b : Json) → IsSchemaReading bytes (Read a) → IsSchemaReading bytes (Read b) → a ≡ b
 same-read bytes a b is is' =
@@ -27,6 +27,7 @@ told_against later (Some name) a b o is of =
     let (r, reads, same) = subst (λ t. IsAgainstBytes t a o) is.told of in
     sym same ∙ ap (of_second a) (IsSchemaReading-one is.bytes r (Read b) reads is.is_read)
 
+-- where both files are schemas, the outcome is that of their two values
 pub told-values : (told : Files) (first : List ℕ) (second : Option (List ℕ)) (o : Outcome) (a b : Json)
     → IsComparison (Some told) first second o → AreSchemas (Some told) first second a b → o ≡ of_values a b
 told-values told first second o a b is are =
@@ -37,7 +38,7 @@ told-values told first second o a b is are =
     (ap (λ f. f (encode_utf8_all first)) same ∙ are.is_first.told) are.is_first.is_read
     (subst (λ l. IsOutcomeOf (is.files (encode_utf8_all first)) (IsAgainst l second) o) same' is.outcome))
 
--- so do the values of two pairs of readings
+-- two pairs of readings of the same files have the same values
 
 same_schema : (f g : Files) (name : List ℕ) (u v : Json) → f ≡ g → IsSchemaFile f name u → IsSchemaFile g name v
     → u ≡ v

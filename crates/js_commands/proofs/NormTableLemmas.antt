@@ -7,6 +7,7 @@ use Rattle.js_normal.specs.PatternTrees.{tree_of}
 use Rattle.js_inclusion.proofs.ReadValues.{holds-read}
 use Rattle.js_commands.specs.NormOutcome.{MeansValidity}
 
+-- in a table that is short enough position 0 holds of exactly the documents that are valid for the value
 pub means_validity : (es : List Entry) (ranks : List ℕ) → are_ranks (edges es) ranks ≡ true
     → length (table_of tree_of es) < 2 ^ 31 → MeansValidity es
 means_validity es ranks are few j well is J document =

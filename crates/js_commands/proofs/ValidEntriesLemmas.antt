@@ -15,7 +15,7 @@ use Rattle.js_pattern.specs.Grammar.{pattern}
 use Rattle.js_pattern.specs.declared.fault.PatternFault.{PatternFault}
 use Rattle.js_json.specs.declared.fault.RefFault.{RefFault}
 use Rattle.js_keywords.specs.Reading.{rules}
-use Rattle.js_schema.proofs.Soundness.{rules_sound}
+use Rattle.js_reader.proofs.Soundness.{rules_sound}
 use Rattle.draft06.specs.Matching.{finds_tree, finds_text}
 use Rattle.draft06.specs.Validity.{valid}
 use Rattle.draft06.specs.EntryValidity.{entry_valid}
@@ -46,6 +46,7 @@ of_faults j es ranks d None none w e h =
     ∙ entry_valid-valid rules j (rules_sound j w) none (λ e. get_or ranks e 0)
     (fall_in_place (entries_at rules j (places rules j)) ranks (ap (λ l. are_ranks (edges l) ranks) same ∙ h)) d
 
+-- a document is valid for a schema's first entry exactly where it is valid for the schema's value
 pub entries-valid : (j : Json) (es : List Entry) (ranks : List ℕ) (d : Document) → is_json j ≡ true
     → read rules j ≡ Ok es → are_ranks (edges es) ranks ≡ true
     → entry_valid matches es 0 d ≡ valid rules j d

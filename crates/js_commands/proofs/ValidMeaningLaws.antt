@@ -96,7 +96,7 @@ validation-decided told schema document b is =
     decided_first told schema document is.files is.later is.are_files b (is.files (encode_utf8_all schema)) refl
     is.outcome
 
--- and for a schema and a document of files that are told it says one of the two
+-- and for a schema and a document of files that are known it says one of the two
 told_outcome : (schema document : List ℕ) (x y : Option (List ℕ)) (first second : List ℕ) (j : Json) (d : Document)
     (o : Outcome)
     → x ≡ Some first → y ≡ Some second → IsSchemaReading first (Read j) → IsDocumentReading second (ReadDocument d)

@@ -31,7 +31,7 @@ of_verdict (V.Rejected line rule) = Rejected line rule
 abbrev pub judgement_of : Json → Json → List ℕ → Verdict
 judgement_of a b bytes = judgement (entries_read a) (entries_read b) bytes
 
--- bytes come to what is judged of them. Of more bytes than a file may have, it may be told that they are too many,
+-- bytes come to what is judged of them. Of more bytes than a file may have, it may be reported that they are too many,
 -- unless a line among the first ones is rejected
 abbrev pub IsOutcomeOfBytes : Json → Json → (certificate : List ℕ) → Outcome → Type 0
 IsOutcomeOfBytes a b bytes o =

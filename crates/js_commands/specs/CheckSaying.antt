@@ -1,5 +1,5 @@
 -- What the calls answer.
-use Rattle.std.specs.Prelude.{◌≡◌, ◌⊎◌, ℕ, List, [], ◌∷◌, ◌++◌, Option, encode_utf8_all, string_bytes}
+use Rattle.std.specs.Prelude.{◌≡◌, ◌⊎◌, ℕ, Bool, true, List, [], ◌∷◌, ◌++◌, Option, encode_utf8_all, string_bytes}
 use Rattle.schemas.specs.Entry.{Entry}
 use Rattle.js_outside.specs.Counts.{Rose}
 use Rattle.js_outside.specs.Told.{Files}
@@ -56,22 +56,25 @@ IsReadWith told name left workers (C.Rejected line rule) = IsReadToLine told nam
 IsReadWith told name left workers c = Unit {0}
 
 -- Where the certificate isn't judged to its end, no whole line that was read before is rejected. A read fault is the
--- certificate's where all three names were begun, from those before to those after.
-abbrev pub EndsUnrejected : Option Files → (first second certificate : List ℕ) → (left : Option (List ℕ))
-    → (before after : List (List ℕ)) → Checking → Type 0
-EndsUnrejected told first second certificate left before after C.TooLong =
+-- certificate's where all three names were begun, from those before to those after, and a read of it failed where it is
+-- begun still.
+abbrev pub EndsUnrejected : Option Files → (first second certificate : List ℕ) → (is_begun : Bool)
+    → (left : Option (List ℕ)) → (before after : List (List ℕ)) → Checking → Type 0
+EndsUnrejected told first second certificate is_begun left before after C.TooLong =
     IsTooLongUnrejected told first second certificate left
-EndsUnrejected told first second certificate left before after C.ReadFault =
+EndsUnrejected told first second certificate is_begun left before after C.ReadFault =
     after ≡ before ++ (encode_utf8_all first ∷ encode_utf8_all second ∷ encode_utf8_all certificate ∷ [])
-    → IsFaultUnrejected told first second certificate left
-EndsUnrejected told first second certificate left before after c = Unit {0}
+    → is_begun ≡ true → IsFaultUnrejected told first second certificate left
+EndsUnrejected told first second certificate is_begun left before after c = Unit {0}
 
 -- the same of a certificate's file, which is given by its UTF-8 bytes, for two schemas that were read
-abbrev pub IsUnrejectedWith : List Entry → List Entry → Option Files → (name : List ℕ) → (left : Option (List ℕ))
-    → Checking → Type 0
-IsUnrejectedWith es fs told name left C.TooLong = FailsUnrejected (judgement es fs) told name left F.TooLong
-IsUnrejectedWith es fs told name left C.ReadFault = FailsUnrejected (judgement es fs) told name left F.Read
-IsUnrejectedWith es fs told name left c = Unit {0}
+abbrev pub IsUnrejectedWith : List Entry → List Entry → Option Files → (name : List ℕ) → (is_begun : Bool)
+    → (left : Option (List ℕ)) → Checking → Type 0
+IsUnrejectedWith es fs told name is_begun left C.TooLong =
+    FailsUnrejected (judgement es fs) told name is_begun left F.TooLong
+IsUnrejectedWith es fs told name is_begun left C.ReadFault =
+    FailsUnrejected (judgement es fs) told name is_begun left F.Read
+IsUnrejectedWith es fs told name is_begun left c = Unit {0}
 
 -- the file is begun, unless memory is refused before
 abbrev pub MayBegin : (name : List ℕ) → (before after : List (List ℕ)) → Type 0

@@ -16,7 +16,7 @@ use Rattle.js_commands.specs.CheckOutcome.{judgement_of}
 use Rattle.js_commands.specs.IncludeOutcome as A
 use Rattle.js_commands.specs.IncludeOutcome.{Answer, Outcome, Decided, answer}
 
--- the value that stands second: that of the file of that name, which is a schema, or `false` where there is none
+-- the value that comes second: that of the file of that name, which is a schema, or `false` where there is none
 abbrev pub IsSecond : Files → Option (List ℕ) → Json → Type 0
 IsSecond files None b = b ≡ boolean false
 IsSecond files (Some name) b = IsSchemaFile files name b

@@ -39,7 +39,7 @@ of_decision text (D.Limit k o) = Limit k o
 abbrev pub answer : List Entry → List Entry → Answer
 answer es fs = of_decision (certificate_text es fs) (comparison es fs)
 
--- of two schemas that are read
+-- the outcome of two schemas that are read
 abbrev pub of_values : Json → Json → Outcome
 of_values a b = Decided (answer (entries_read a) (entries_read b))
 
@@ -52,7 +52,7 @@ abbrev pub IsAgainstBytes : Option (List ℕ) → Json → Outcome → Type 0
 IsAgainstBytes None a o = o ≡ ReadFault
 IsAgainstBytes (Some bytes) a o = (r : Reading) × IsSchemaReading bytes r × (of_second a r ≡ o)
 
--- what stands second: the file of that name, or where there is none the value `false`, for which no document is valid
+-- what comes second: the file of that name, or where there is none the value `false`, for which no document is valid
 abbrev pub IsAgainst : Files → Option (List ℕ) → Json → Outcome → Type 0
 IsAgainst files None a o = of_values a (boolean false) ≡ o
 IsAgainst files (Some name) a o = IsAgainstBytes (files (encode_utf8_all name)) a o

@@ -33,7 +33,7 @@ InclusionSays told first second before after F.ReadFault = Rose before after
 InclusionSays told first second before after f =
     (after ≡ before) × IsComparison told first second (outcome_of f) × MeansFor told first second (outcome_of f)
 
--- the same of two schemas, whatever values they are read from
+-- what an answer says of two schemas, whatever values they are read from
 abbrev pub SchemasSay : List Entry → List Entry → Inclusion → Type 0
 SchemasSay es fs (F.Decided x) =
     (verdict_view x ≡ comparison es fs) × HasCertificate (certificate_text es fs) x × Means es fs (verdict_view x)

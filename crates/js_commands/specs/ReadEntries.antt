@@ -8,7 +8,7 @@ use Rattle.js_json.specs.declared.fault.RefFault.{RefFault}
 use Rattle.js_pattern.specs.declared.fault.PatternFault.{PatternFault}
 use Rattle.js_keywords.specs.Reading.{rules}
 
--- none where it has a fault
+-- the entries of a schema, none where it has a fault
 abbrev pub entries_of : Result (List Entry) (Fault PatternFault RefFault) → List Entry
 entries_of (Ok es) = es
 entries_of (Err f) = []

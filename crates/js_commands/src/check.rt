@@ -57,7 +57,7 @@ pub fn check_files<R: Threads + Sync, G: Gate + Sync, H: Shelf>(
     ensures read { IfOk result (IsReadWith (H.told shelf.old) (encode_utf8_all certificate.now) (H.left shelf.new)
         workers.now.count) }
     ensures unrejected { IfOk result (EndsUnrejected (H.told shelf.old) first.now second.now certificate.now
-        (H.left shelf.new) (H.begun shelf.old) (H.begun shelf.new)) }
+        (H.is_begun shelf.new) (H.left shelf.new) (H.begun shelf.old) (H.begun shelf.new)) }
     ensures begun { BeginsInOrder (H.told shelf.old)
         (encode_utf8_all first.now ∷ encode_utf8_all second.now ∷ encode_utf8_all certificate.now ∷ [])
         (H.begun shelf.old) (H.begun shelf.new) }
@@ -91,7 +91,7 @@ fn check_certificate<R: Threads + Sync, G: Gate + Sync, H: Shelf>(
     ensures read { IfOk result (IsReadWith (H.told shelf.old) (encode_utf8_all certificate.now) (H.left shelf.new)
         workers.now.count) }
     ensures unrejected { IfOk result (IsUnrejectedWith (entries_of a.now) (entries_of b.now) (H.told shelf.old)
-        (encode_utf8_all certificate.now) (H.left shelf.new)) }
+        (encode_utf8_all certificate.now) (H.is_begun shelf.new) (H.left shelf.new)) }
     ensures begun { MayBegin (encode_utf8_all certificate.now) (H.begun shelf.old) (H.begun shelf.new) }
 {
     match judge_file(workers, alloc, shelf, certificate, a, b) {

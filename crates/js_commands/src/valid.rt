@@ -26,7 +26,7 @@ pub enum Validation {
     /// The document is valid for the schema.
     Valid,
 
-    /// It isn't.
+    /// The document isn't valid for the schema.
     Invalid,
 
     /// The words of the schema's refusal after its role.

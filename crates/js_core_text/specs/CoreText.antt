@@ -62,7 +62,7 @@ position_word (PropsMin n) = codes "propsmin"
 position_word (PropsMax n) = codes "propsmax"
 position_word (NamesIn q) = codes "namesin"
 
--- what a position asks, after its word
+-- what a position requires, after its word
 abbrev pub asked_text : Position → List ℕ
 asked_text True = []
 asked_text False = []

@@ -36,7 +36,7 @@ fn push_line(alloc: Global, out: &mut String, number: u32, node: &Node) -> Resul
     Ok(())
 }
 
-/// What a position asks.
+/// What a position requires.
 fn push_asked(alloc: Global, out: &mut String, node: &Node) -> Result<(), Memory>
     ensures { OnOk result (string_bytes out.new ≡ string_bytes out.old ++ T.asked_text (node_view node.now)) }
 {

@@ -1,5 +1,4 @@
--- What is decided of two positions tells of a limit by its count, of a few positions never the limit on goals, and of a
--- document that is no deeper than its round.
+-- What is decided of two positions reports a limit by its count, and of a few positions never the limit on goals.
 use Rattle.std.proofs.Common.{◌≡◌, ℕ, ◌<◌, ◌≤◌, Bool, true, false, cond, nat_lt, List, length, Option, Some, None, Result, Ok, Err, IfOk, slice_get, refl, sym, subst, arith}
 use Rattle.documents.specs.Kind as K
 use Rattle.positions.specs.Position.{Position, is_table}
@@ -25,10 +24,8 @@ use Rattle.decisions.specs.Meaning.{Means}
 use Rattle.decision_laws.proofs.Answer.{decision_means, small_table}
 use Rattle.js_expander.specs.Found.{finders, goal_expansion}
 use Rattle.js_decide.specs.View.{decided_view}
-use Rattle.js_decide.specs.Shallow.{IsShallow}
 use Rattle.js_decide.specs.Counted.{IsCounted}
 use Rattle.js_decide.specs.declared.verdict.Decided.{Decided}
-use Rattle.js_decide.proofs.Shallow.{shallow}
 use Rattle.js_decide.proofs.GoalCounts.{goal_counted}
 use Rattle.js_decide.proofs.AllCounts.{all_counted}
 use Rattle.std.proofs.lemmas.Option.{same_Some}
@@ -75,13 +72,6 @@ module _ (T : List Position) (ranks : List ℕ) (table : is_table T ranks ≡ tr
       (decision_means (finders T) T ok a b (numbers_finder T ok right (words_of (finders T) K.Number))
       (string_finder T ok) (λ S full C e. cells_found T S ok C e))
 
-  decision_shallow : IsShallow (finders T) T most_goals most_total a b (decision (finders T) T a b).verdict
-      (decision (finders T) T a b).rounds
-  decision_shallow =
-      shallow (finders T) T most_goals most_total a b ok
-      (numbers_finder T ok right (words_of (finders T) K.Number)) (string_finder T ok)
-      (λ S full C e. cells_found T S ok C e)
-
   -- where an answer is the decision, it has what is proved of the decision
   module _ {E : Type 0} (r : Result Decided E)
       (told : IfOk r (λ d. decided_view d ≡ decision (finders T) T a b)) where
@@ -95,14 +85,11 @@ module _ (T : List Position) (ranks : List ℕ) (table : is_table T ranks ≡ tr
       go (Ok d) e = subst P (sym e) p
       go (Err x) e = tt
 
+    -- a table of at most ten positions never leads to the limit on goals
     pub answer_small : length T ≤ 10 → IfOk r (λ d. (decided_view d).verdict ≡ Limit Goals None → ⊥)
     answer_small few =
         if_told (λ d. d.verdict ≡ Limit Goals None → ⊥) (small_table (finders T) T ok a b a_in b_in few)
 
-    pub answer_shallow : IfOk r (λ d. IsShallow (finders T) T most_goals most_total a b (decided_view d).verdict
-        (decided_view d).rounds)
-    answer_shallow =
-        if_told (λ d. IsShallow (finders T) T most_goals most_total a b d.verdict d.rounds) decision_shallow
-
+    -- where a limit is returned, the count that it names is over its number
     pub answer_counted : IfOk r (λ d. IsCounted T a b (decided_view d).verdict)
     answer_counted = if_told (λ d. IsCounted T a b d.verdict) decision_counted

@@ -25,12 +25,11 @@ use Rattle.certificate_lines.specs.Text.{lines_text}
 use Rattle.verdicts.specs.Verdict.{verdict_of_bytes}
 use Rattle.refutations.specs.Refutation.{found_refutation, root_refutation, refutation}
 use Rattle.refutation_laws.proofs.Refutations.{written_accepted}
-use Rattle.expander_laws.specs.Expander.{takes, is_formed, is_goal}
+use Rattle.expander_laws.specs.Expander.{takes, is_formed, is_goal, words_by}
 use Rattle.expander_laws.proofs.Laws.{formed_taken}
 use Rattle.js_algebra.specs.View.{is_in_table, are_in_table}
 use Rattle.js_scalars.proofs.Found.{found_numbers}
 use Rattle.js_expander.specs.Found.{finders, goal_expansion, cells_at}
-use Rattle.js_rounds.specs.Slots.{words_by}
 use Rattle.js_decide.specs.View.{verdict_view, decided_view}
 use Rattle.js_decide.specs.Certified.{HasCertificate, IsAccepted}
 use Rattle.js_decide.specs.declared.verdict.Verdict.{Verdict}

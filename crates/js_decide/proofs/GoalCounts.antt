@@ -6,7 +6,7 @@ use Rattle.documents.specs.Kind as K
 use Rattle.documents.specs.Kind.{Kind, all_kinds}
 use Rattle.documents.specs.Tests.{some}
 use Rattle.list_laws.specs.In.{IsIn}
-use Rattle.list_laws.proofs.Lists.{from_map, in_get, in_right, from_flat_map}
+use Rattle.list_laws.proofs.Lists.{from_map, get_or-in, in_right, from_flat_map}
 use Rattle.list_laws.proofs.Tests.{some_find, all_from}
 use Rattle.patterns.specs.CharSet.{is_scalar}
 use Rattle.word_states.specs.Atom.{Atom}
@@ -70,7 +70,7 @@ module _ (atoms : List Atom) where
     more h l j =
         let (c, i, e) = from_map (λ c. get_or (Rows n) n [] ++ c ∷ []) w (class_firsts atoms) j in
         subst (λ z. list_all is_scalar z ≡ true) (sym e)
-        (all_end (get_or (Rows n) n []) c (h (get_or (Rows n) n []) (in_get (Rows n) n [] l))
+        (all_end (get_or (Rows n) n []) c (h (get_or (Rows n) n []) (get_or-in (Rows n) n [] l))
         (firsts_scalar atoms c i))
 
     go : AreWords (Rows n) → (b : Bool) → nat_lt n (length (Rows n)) ≡ b
@@ -270,6 +270,7 @@ module _ (T : List Position) where
           subst (Passes T g) (sym q)
           (record { before = before; own = more; after = after; is = is; many = many })
 
+      -- where a goal has a hole, the count of the limit that the hole names is over its number
       pub goal_counted : (l : LimitKind) → (goal_expansion T g).hole ≡ Some l → Passes T g l
       unfolding expansion
       goal_counted l e =

@@ -10,15 +10,16 @@ ghost use Rattle.alternatives.specs.Limit.{most_goals, most_total};
 ghost use Rattle.decisions.specs.Decision.{of_root};
 ghost use Rattle.certificate_lines.specs.Text.{lines_text};
 ghost use Rattle.refutations.specs.Refutation.{found_refutation, root_refutation};
-ghost use Rattle.expander_laws.specs.Expander.{takes};
+ghost use Rattle.search.specs.Explored.{explored};
+ghost use Rattle.expander_laws.specs.Expander.{takes, words_by};
 ghost use Rattle.js_algebra.specs.View.{are_in_table};
 ghost use Rattle.js_explore.specs.ExploredView.{explored_view};
 ghost use Rattle.js_explore.specs.Exploration.{Explores};
-ghost use Rattle.js_rounds.specs.Slots.{words_by};
 ghost use Rattle.js_rounds.specs.State.{AreRounds};
 ghost use Rattle.js_expander.specs.Found.{goal_expansion, cells_at};
 ghost use Rattle.js_decide.specs.View.{outcome_view, verdict_view, decided_view};
 ghost use Rattle.js_decide.specs.Certified.{HasCertificate};
+ghost use Rattle.js_decide.specs.MeetsRoot.{MeetsRoot};
 
 use crate::outcome::{Outcome, Searched};
 use crate::root::search_root;
@@ -43,6 +44,8 @@ pub(crate) fn decide_root<R: Threads + Sync, G: Gate + Sync>(
         (goal_expansion core.now.positions) most_goals most_total (Some root)) }
     ensures certificate { IfOk result (λ d. HasCertificate
         (lines_text (root_refutation core.now.positions most_goals most_total (Some root))) d.verdict) }
+    ensures meets { IfOk result (λ d. MeetsRoot core.now.positions (goal_expansion core.now.positions)
+        (explored most_goals most_total (goal_expansion core.now.positions) root) (decided_view d).verdict) }
 {
     let searched = search_root(workers, alloc, &CoreExpander::new(core), root)?;
     let goals = searched.explored.len();

@@ -2,17 +2,20 @@
 
 ghost use Rattle.std.specs.Prelude.{◌≡◌, ◌<◌, ℕ, List, Some, None, true, false, IfOk, is_some, length, take};
 ghost use Rattle.documents.specs.Tests.{every};
+ghost use Rattle.positions.specs.Position.{Position};
 ghost use Rattle.goals.specs.Signed.{Signed};
 ghost use Rattle.alternatives.specs.Limit as L;
 ghost use Rattle.alternatives.specs.Expansion as X;
 ghost use Rattle.search.specs.Explored as S;
 ghost use Rattle.search.specs.Rounds.{hole_of};
 ghost use Rattle.decisions.specs.Decision as D;
+ghost use Rattle.expander_laws.specs.Expander.{words_by};
+ghost use Rattle.expander_laws.specs.Sound.{AreSound};
 ghost use Rattle.js_explore.specs.ExploredView.{explored_view};
 ghost use Rattle.js_explore.specs.Exploration.{Explores};
-ghost use Rattle.js_rounds.specs.Slots.{words_by};
 ghost use Rattle.js_rounds.specs.State.{IsFor, AreRounds};
 ghost use Rattle.js_decide.specs.View.{outcome_view};
+ghost use Rattle.js_decide.specs.MeetsRoot.{MeetsRoot};
 
 use crate::outcome::{Outcome, Searched};
 use js_algebra::Goal;
@@ -36,6 +39,11 @@ pub fn search_root<R: Threads + Sync, E: Expander + Sync, G: Gate + Sync>(
     requires { E.takes expander.now root ≡ true }
     ensures outcome { IfOk result (λ s. outcome_view s.outcome ≡ D.verdict_of (words_by (E.cells expander.now))
         (E.expansion expander.now) (explored_view s.explored).found) }
+
+    // What a document means: whatever the table, where each alternative is sound for it.
+    ensures meets { (T : List Position) → IfOk result (λ s. AreSound T (words_by (E.cells expander.now))
+        (E.expansion expander.now) (explored_view s.explored).found.goals
+        → MeetsRoot T (E.expansion expander.now) (explored_view s.explored).found (outcome_view s.outcome)) }
 
     // Which goals were explored, and what is known of them.
     ensures found { IfOk result (λ s. (explored_view s.explored).found
@@ -68,8 +76,13 @@ fn outcome<E: Expander>(
     requires explores { Explores (E.expansion expander.now) (explored_view explored.now) }
     requires rounds { AreRounds (E.expansion expander.now) (explored_view explored.now).found rounds.now }
     requires taken { every (E.takes expander.now) (explored_view explored.now).found.goals ≡ true }
-    ensures { IfOk result (λ o. outcome_view o ≡ D.verdict_of (words_by (E.cells expander.now))
+    ensures outcome { IfOk result (λ o. outcome_view o ≡ D.verdict_of (words_by (E.cells expander.now))
         (E.expansion expander.now) (explored_view explored.now).found) }
+    ensures meets { (T : List Position)
+        → AreSound T (words_by (E.cells expander.now)) (E.expansion expander.now)
+        (explored_view explored.now).found.goals
+        → IfOk result (λ o. MeetsRoot T (E.expansion expander.now) (explored_view explored.now).found
+        (outcome_view o)) }
 {
     if rounds.satisfied(0).is_some() {
         let (parts, own) = rounds.witness(alloc, explored, expander, 0)?;

@@ -7,6 +7,7 @@ use Rattle.js_doc.specs.declared.document.DocList.{DocList}
 use Rattle.js_doc.specs.declared.document.DocMap.{DocMap}
 use Rattle.js_doc.specs.View.{view, list_view, map_view}
 
+-- the document of an array is the array of its elements' documents
 pub view-List : (l : DocList) → view (V.List l) ≡ D.array (list_view l)
 view-List l = search (rules, DD.the_lemmas)
 

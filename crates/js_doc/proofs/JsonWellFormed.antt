@@ -7,7 +7,7 @@ use Rattle.documents.specs.WellFormed as F
 use Rattle.js_doc.specs.declared.rising.Named.{Named}
 use Rattle.js_doc.specs.declared.json.Json.{Json, roll-Json}
 use Rattle.js_doc.specs.declared.json.Json.TheOpen.{Json-F, JsonList-F, JsonMap-F}
-use Rattle.js_doc.specs.declared.json.Json.TheFolds.{map-Json, map-JsonList, map-JsonMap, fold-roll-Json, fold-roll-JsonList, fold-roll-JsonMap, fold_out-JsonMap, ind-Json, ind-JsonList, ind-JsonMap}
+use Rattle.js_doc.specs.declared.json.Json.TheFolds.{map-Json, map-JsonList, map-JsonMap, fold-roll-Json, fold-roll-JsonList, fold-roll-JsonMap, fold_out-JsonMap, ind-Json, ind-JsonMap}
 use Rattle.js_doc.specs.declared.json.JsonList.{JsonList, roll-JsonList}
 use Rattle.js_doc.specs.declared.json.JsonMap.{JsonMap, out-JsonMap, roll-JsonMap}
 use Rattle.js_doc.specs.Names.{starts_after, rise, names_of}
@@ -97,11 +97,9 @@ map_rolls x y is =
     ∙ subst (λ z. F.are_members (D.members_of (map member_view z.members.members.items)) ≡ true) is
     (good_members y.members.members.items y.members.rises)
 
+-- each JSON value of the program stands for a well formed one
 pub is_json-view : (d : Json) → F.is_json (view d) ≡ true
 is_json-view = ind-Json IsGood IsGoodList IsGoodMap json_rolls list_rolls map_rolls
-
-pub are_items-list_view : (l : JsonList) → F.are_items (list_view l) ≡ true
-are_items-list_view = ind-JsonList IsGood IsGoodList IsGoodMap json_rolls list_rolls map_rolls
 
 pub are_members-map_view : (m : JsonMap) → F.are_members (map_view m) ≡ true
 are_members-map_view = ind-JsonMap IsGood IsGoodList IsGoodMap json_rolls list_rolls map_rolls

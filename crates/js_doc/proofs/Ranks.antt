@@ -1,9 +1,7 @@
 -- The rank of a value, found in the sorted copy.
-use Rattle.std.proofs.Common.{◌≡◌, ℕ, zero, suc, ◌+◌, ◌<◌, ◌≤◌, List, [], ◌∷◌, length, get_or, Bool, true, false, cond, Less, Equal, Greater, ◌||◌, Some, None, ℤ, ◌<ℤ◌, ◌≤ℤ◌, int_lt, inl, inr, refl, ap, sym, subst, ◌∙◌, arith, to_z, of_z, to_z-of_z, FitsSigned, if◌then◌else◌}
-use Rattle.std.specs.Int.{w128}
-use Rattle.std.specs.Int.Signed.{lt_z}
+use Rattle.std.proofs.Common.{◌≡◌, ℕ, zero, suc, ◌+◌, ◌<◌, ◌≤◌, List, [], ◌∷◌, length, get_or, Bool, true, false, cond, Less, Equal, Greater, ◌||◌, Some, None, ℤ, ◌<ℤ◌, ◌≤ℤ◌, int_lt, inl, inr, refl, ap, sym, subst, ◌∙◌, arith, if◌then◌else◌}
 use Rattle.std.specs.List.{AllZip, list_any, count_by}
-use Rattle.std.specs.List.Sorted.{IsSorted, IsPartitionPoint}
+use Rattle.std.specs.List.Sorted.{IsSorted, IsPartitionPoint, IsPartitionedBy}
 use Rattle.std.specs.Ordering.{is_lt, int_cmp, int_eq}
 use Rattle.std.proofs.lemmas.Bool.{cases_lt, false_from_ne_true}
 use Rattle.std.proofs.lemmas.Bool.Decides.{Decides-int_eq}
@@ -75,20 +73,31 @@ ascends s h i j d l m =
     let far = sorted_far (λ x y. is_lt (int_cmp x y)) (ranks_by int_cmp_total (λ x. x)) s h i j d l m in
     not_lt_from (get_or s j d) (get_or s i d) (sym (is_lt-int_cmp (get_or s j d) (get_or s i d)) ∙ far)
 
--- what a comparison of the code says
-pub less_by_test : (a b : ℤ) → FitsSigned w128 a → FitsSigned w128 b
-    → lt_z (to_z w128 (of_z w128 a)) (to_z w128 (of_z w128 b)) ≡ true → a <ℤ b
-less_by_test a b f g e = let h : lt_z a b ≡ true = simp to_z-of_z at e in grind (arith, ints)
+lt_from : (a b : ℤ) → int_lt a b ≡ true → a <ℤ b
+lt_from a b e = grind (arith, ints)
 
-pub not_less_by_test : (a b : ℤ) → FitsSigned w128 a → FitsSigned w128 b
-    → lt_z (to_z w128 (of_z w128 a)) (to_z w128 (of_z w128 b)) ≡ false → b ≤ℤ a
-not_less_by_test a b f g e = let h : lt_z a b ≡ false = simp to_z-of_z at e in grind (arith, ints)
+lesser : (a b n : ℤ) → a ≤ℤ b → b <ℤ n → a <ℤ n
+lesser a b n le lt = omega (arith, ints, le, lt)
+
+-- those below n come first
+pub parted_by : (s : List ℤ) → IsSorted int_cmp s → (n : ℤ) → IsPartitionedBy (λ y. int_lt y n) s
+parted_by s h n = λ i j d l m e.
+    lt_true (get_or s i d) n
+    (lesser (get_or s i d) (get_or s j d) n (ascends s h i j d l m) (lt_from (get_or s j d) n e))
 
 -- ---- ranks
 
--- the values that are below n stand before the place, and the others from it on
+-- the values that are below n come before the place, and the others from it on
 abbrev pub PartsAt : List ℤ → ℤ → ℕ → Type 0
 PartsAt s n i = IsPartitionPoint (λ y. y <ℤ n) (λ y. n ≤ℤ y) s i
+
+-- what the tests of a binary search say
+pub parts_at : (s : List ℤ) (n : ℤ) (i : ℕ)
+    → IsPartitionPoint (λ y. int_lt y n ≡ true) (λ y. int_lt y n ≡ false) s i → PartsAt s n i
+parts_at s n i h = (
+  (λ k d l m. lt_from (get_or s k d) n (h.0 k d l m)),
+  (λ k d l m. not_lt_from (get_or s k d) n (h.1 k d l m)),
+)
 
 pub parted_alike : (s t : List ℤ) (n m : ℤ) (i : ℕ) → s ≡ t → n ≡ m → PartsAt s n i → PartsAt t m i
 parted_alike s t n m i e f h = subst (λ z. PartsAt t z i) f (subst (λ zs. PartsAt zs n i) e h)
@@ -108,7 +117,7 @@ rank_of-found xs s n i h p l e =
     ap Some (sym count ∙ h.same_count (λ y. int_lt y n))
     ∙ sym (rank_by xs n true (sym (h.same_any (λ y. int_eq y n)) ∙ here))
 
--- another value stands there, or none
+-- another value is there, or none
 pub rank_of-none : (xs s : List ℤ) (n : ℤ) (i : ℕ) → IsSortedCopy xs s
     → PartsAt s n i
     → ((d : ℤ) → i < length s → get_or s i d ≡ n → ⊥) → None ≡ rank_of xs n

@@ -16,5 +16,6 @@ every-is_scalar (c ∷ cs) h =
     and_from (is_scalar c) (every is_scalar cs)
     (is_scalar-at (nat_lt c 55296) (nat_lt 57343 c && nat_lt c 1114112) p.0) (every-is_scalar cs p.1)
 
+-- the characters of UTF-8 bytes are scalar values
 pub every-chars : (s : List ℕ) → IsUtf8 s → every is_scalar (chars s) ≡ true
 every-chars s u = every-is_scalar (chars s) (scalars-chars s u)

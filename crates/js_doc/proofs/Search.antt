@@ -1,9 +1,14 @@
 -- A binary search among names that rise, each before the next one.
-use Rattle.std.proofs.Common.{◌≡◌, ◌⊎◌, inl, inr, ℕ, ◌+◌, ◌<◌, ◌≤◌, zero, suc, List, [], ◌∷◌, map, length, get_or, Bool, true, false, ◌&&◌, cond, Some, None, Less, Equal, Greater, nat_cmp, chars, IsUtf8, refl, sym, ap, ◌∙◌, arith, true≢false}
+use Rattle.std.proofs.Common.{◌≡◌, ◌⊎◌, inl, inr, ℕ, ◌+◌, ◌<◌, ◌≤◌, zero, suc, List, [], ◌∷◌, map, length, get_or, Bool, true, false, ◌&&◌, cond, Some, None, Ordering, Less, Equal, Greater, nat_cmp, chars, encode_utf8_all, IsUtf8, refl, sym, ap, ◌∙◌, arith, true≢false}
 use Rattle.std.proofs.lemmas.Bool.{and_parts, cases_lt}
 use Rattle.std.proofs.lemmas.Slice.Eq.{bytes_eq-Decides}
 use Rattle.std.proofs.Math.ListN.{length-map}
 use Rattle.std.proofs.lemmas.List as ListsAt
+use Rattle.std.proofs.lemmas.List.Sorted.{searchable_from_sorted}
+use Rattle.std.proofs.lemmas.Cmp.{nat_list_cmp_total}
+use Rattle.std.proofs.lemmas.Str.{encodes-chars, chars_from_encodes}
+use Rattle.std.specs.List.Sorted.{IsSortedBy, IsNonDecreasingBy, IsPartitionPoint}
+use Rattle.std.specs.Ordering.{is_lt, ordering_index, ordering_reverse}
 use Rattle.documents.specs.Tests.{same_word, comes_before}
 use Rattle.documents.specs.Document as D
 use Rattle.documents.specs.Json as J
@@ -15,7 +20,7 @@ use Rattle.js_doc.specs.Names.{names_of, pairs_of}
 pub use Rattle.js_doc.specs.Names.{starts_after, rise, find_in}
 use Rattle.js_doc.proofs.Levels.{get_or-mapped}
 use Rattle.js_doc.proofs.Lookups.{same_word-bytes_eq}
-use Rattle.js_doc.proofs.WordOrder.{comes_before-chars, comes_after-chars, same_text}
+use Rattle.js_doc.proofs.WordOrder.{comes_before-encodes, comes_before-chars, comes_after-chars, same_text}
 
 -- ---- names
 
@@ -108,7 +113,7 @@ module _ {A : Type 0} where
       let other = different w m.0 (h zero (omega arith)) in
       rw other (absent ms w (λ k less. h (suc k) (omega arith)))
 
--- ---- the same of documents and of JSON values
+-- ---- the search in documents and in JSON values
 
 pub lookup-find_in : (w : List ℕ) (ms : List (List ℕ × D.Document)) → D.lookup w (D.members_of ms) ≡ find_in w ms
 lookup-find_in w [] = refl
@@ -183,6 +188,81 @@ module _ {A B : Type 0} (f : B → List ℕ × A) (items : List B) (i : ℕ) (b 
   equal_found e =
       found_at (map f items) (chars name) i (f b) h.rises inside mapped
       (sym h.spelled ∙ ap chars (same_text text name (sym e)))
+
+-- ---- the same by std's binary search, which compares names by their bytes
+
+abbrev pub order_of : {A B : Type 0} → (B → List ℕ × A) → List ℕ → B → Ordering
+order_of f name b = slice_cmp nat_cmp (encode_utf8_all (f b).0) name
+
+-- a word isn't before one that comes before it
+not_before : (v w : List ℕ) → comes_before w v ≡ true
+    → is_lt (slice_cmp nat_cmp (encode_utf8_all v) (encode_utf8_all w)) ≡ false
+not_before v w h = go (slice_cmp nat_cmp (encode_utf8_all v) (encode_utf8_all w)) refl where
+  go : (o : Ordering) → slice_cmp nat_cmp (encode_utf8_all v) (encode_utf8_all w) ≡ o → is_lt o ≡ false
+  go Less e =
+      absurd (true≢false (sym (comes_before-trans v w v (comes_before-encodes v w e) h) ∙ comes_before-same v))
+  go Equal e = refl
+  go Greater e = refl
+
+some_element : {B : Type 0} (xs : List B) (k : ℕ) → k < length xs → B
+some_element [] k l = absurd (omega (arith, l))
+some_element (x ∷ xs) k l = x
+
+module _ {A B : Type 0} (f : B → List ℕ × A) (items : List B) where
+  name_at : (k : ℕ) (d : B) → k < length items → get_or (names (map f items)) k [] ≡ (f (get_or items k d)).0
+  name_at k d l =
+      let there : k < length (map f items) = rw length-map l in
+      ListsAt.get_or-map (λ n. n.0) (map f items) k (f d) [] there
+      ∙ ap (λ n. n.0) (ListsAt.get_or-map f items k d (f d) l)
+
+  sorted : rise (names (map f items)) ≡ true
+      → IsSortedBy (λ a b. is_lt (slice_cmp nat_cmp (encode_utf8_all (f a).0) (encode_utf8_all (f b).0))) items
+  sorted r k d low high =
+      let last : k + 1 < length (names (map f items)) = rw length-map (rw length-map high) in
+      not_before (f (get_or items (k + 1) d)).0 (f (get_or items k d)).0
+      (ap (λ w. comes_before w (f (get_or items (k + 1) d)).0) (sym (name_at k d (omega (arith, high))))
+      ∙ ap (comes_before (get_or (names (map f items)) k [])) (sym (name_at (k + 1) d high))
+      ∙ rising (names (map f items)) r k (k + 1) (omega arith) last)
+
+module _ {A B : Type 0} (f : B → List ℕ × A) (items : List B) (name : List ℕ) (utf8 : IsUtf8 name) where
+  pub found_member : (i : ℕ) (b : B) → rise (names (map f items)) ≡ true → i < length items → b ≡ get_or items i b
+      → order_of f name b ≡ Equal → find_in (chars name) (map f items) ≡ Some (f b).1
+  found_member i b r within is e =
+      let there : i < length (map f items) = rw length-map within in
+      found_at (map f items) (chars name) i (f b) r there (get_or-mapped f items (map f items) i b refl is)
+      (chars_from_encodes (f b).0 name utf8 (same_text (encode_utf8_all (f b).0) name e))
+
+  before_name : (w : List ℕ) → slice_cmp nat_cmp (encode_utf8_all w) name ≡ Less → comes_before w (chars name) ≡ true
+  before_name w e =
+      comes_before-encodes w (chars name)
+      (ap (slice_cmp nat_cmp (encode_utf8_all w)) (encodes-chars name utf8) ∙ e)
+
+  after_name : (w : List ℕ) → slice_cmp nat_cmp (encode_utf8_all w) name ≡ Greater
+      → comes_before (chars name) w ≡ true
+  after_name w e =
+      comes_before-encodes (chars name) w
+      (ap (λ z. slice_cmp nat_cmp z (encode_utf8_all w)) (encodes-chars name utf8)
+      ∙ nat_list_cmp_total.antisymm name (encode_utf8_all w) ∙ ap ordering_reverse e)
+
+  pub absent_member : (i : ℕ) → rise (names (map f items)) ≡ true
+      → (IsNonDecreasingBy (λ b. ordering_index (order_of f name b)) items
+      → IsPartitionPoint (λ b. order_of f name b ≡ Less) (λ b. order_of f name b ≡ Greater) items i)
+      → find_in (chars name) (map f items) ≡ None
+  absent_member i r clause =
+      let point = clause (searchable_from_sorted nat_list_cmp_total (λ b. encode_utf8_all (f b).0) items name
+      (sorted f items r)) in
+      absent (map f items) (chars name)
+      (λ k within.
+      let inside : k < length items = omega (arith, sym (length-map items f), within) in
+      let d = some_element items k inside in
+      elim (cases_lt k i) [
+        | inl l ↦
+            inl (ap (λ w. comes_before w (chars name)) (name_at f items k d inside)
+            ∙ before_name (f (get_or items k d)).0 (point.0 k d (omega arith) l))
+        | inr g ↦
+            inr (ap (comes_before (chars name)) (name_at f items k d inside)
+            ∙ after_name (f (get_or items k d)).0 (point.1 k d g inside))
+      ])
 
 -- the names of members are those of their pairs
 pub names-pairs_of : {T : Type 0} (ms : List (Named T)) → names (pairs_of ms) ≡ names_of ms

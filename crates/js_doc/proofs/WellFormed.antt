@@ -6,7 +6,7 @@ use Rattle.documents.specs.Document as D
 use Rattle.js_doc.specs.declared.rising.Named.{Named}
 use Rattle.js_doc.specs.declared.document.Doc.{Doc, roll-Doc}
 use Rattle.js_doc.specs.declared.document.Doc.TheOpen.{Doc-F, DocList-F, DocMap-F}
-use Rattle.js_doc.specs.declared.document.Doc.TheFolds.{map-Doc, map-DocList, map-DocMap, fold-roll-Doc, fold-roll-DocList, fold-roll-DocMap, fold_out-DocMap, ind-Doc, ind-DocList, ind-DocMap}
+use Rattle.js_doc.specs.declared.document.Doc.TheFolds.{map-Doc, map-DocList, map-DocMap, fold-roll-Doc, fold-roll-DocList, fold-roll-DocMap, fold_out-DocMap, ind-Doc, ind-DocMap}
 use Rattle.js_doc.specs.declared.document.DocList.{DocList, roll-DocList}
 use Rattle.js_doc.specs.declared.document.DocMap.{DocMap, out-DocMap, roll-DocMap}
 use Rattle.js_doc.specs.Names.{starts_after, rise, names_of}
@@ -96,11 +96,9 @@ map_rolls x y is =
     ∙ subst (λ z. D.are_members (D.members_of (map member_view z.members.members.items)) ≡ true) is
     (good_members y.members.members.items y.members.rises)
 
+-- each document of the program stands for a well formed one
 pub is_document-view : (d : Doc) → D.is_document (view d) ≡ true
 is_document-view = ind-Doc IsGood IsGoodList IsGoodMap doc_rolls list_rolls map_rolls
-
-pub are_documents-list_view : (l : DocList) → D.are_documents (list_view l) ≡ true
-are_documents-list_view = ind-DocList IsGood IsGoodList IsGoodMap doc_rolls list_rolls map_rolls
 
 pub are_members-map_view : (m : DocMap) → D.are_members (map_view m) ≡ true
 are_members-map_view = ind-DocMap IsGood IsGoodList IsGoodMap doc_rolls list_rolls map_rolls

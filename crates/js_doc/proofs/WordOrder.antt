@@ -74,7 +74,7 @@ bytes4 c low =
     let b : 2048 ≤ c = omega arith in
     rw (le-ltb c 128 a, le-ltb c 2048 b, le-ltb c 65536 low) refl
 
--- the first byte tells sizes apart
+-- the first byte determines the size
 abbrev BeginsFrom : ℕ → ℕ → Type 0
 BeginsFrom k c = (first : ℕ) × (rest : List ℕ) × (encode_utf8 c ≡ first ∷ rest) × (k ≤ first)
 

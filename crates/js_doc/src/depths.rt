@@ -6,9 +6,9 @@ ghost use Rattle.js_doc.specs.View.{view, list_view, map_view, capped};
 
 use crate::document::{Doc, DocList, DocMap};
 
-/// How many arrays and objects stand one in another: 0 for null, a truth value, a number or a string. An array or
-/// object is one deeper than the deepest of what it holds, so an empty one has depth 1. Depths past u32's last value
-/// are given as that value. One call a level, and no memory but for those.
+/// How many arrays and objects are nested: 0 for null, a truth value, a number or a string. An array or object is one
+/// deeper than the deepest of what it holds, so an empty one has depth 1. Depths past u32's last value are given as
+/// that value. One call a level, and no memory but for those.
 #[cycle(depth)]
 pub fn depth(doc: &Doc) -> u32
     ensures { result ≡ capped (D.depth (view doc.now)) }

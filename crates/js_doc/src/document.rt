@@ -1,4 +1,4 @@
-//! Documents: what JSON text stands for, with whole numbers. Members stand in ascending order of their names.
+//! Documents: what JSON text stands for, with whole numbers. Members are in ascending order of their names.
 
 ghost use Rattle.std.specs.Prelude.{◌≡◌, ◌<◌, true, map, length, get_or, option_map, chars};
 ghost use Rattle.documents.specs.Document.{items_of, members_of, elements, entries, lookup, names_rise};
@@ -104,7 +104,7 @@ impl DocMap {
     ghost use Rattle.js_doc.specs.declared.document.DocMap.{out-DocMap};
     ghost use Rattle.js_doc.specs.View.{view, map_view, member_view};
 
-    /// The members, which have to stand in ascending order of their names, each name once.
+    /// The members, which have to be in ascending order of their names, each name once.
     pub fn from_vec(members: Vec<Member>) -> DocMap
         requires { names_rise (members_of (map member_view members.items)) ≡ true }
         ensures { map_view result ≡ members_of (map member_view members.items) }

@@ -5,7 +5,7 @@ ghost use Rattle.js_doc.specs.View.{view, list_view, map_view, member_view};
 
 use crate::document::{Doc, DocList, DocMap, Member};
 
-/// Whether two documents are equal: lists in order, maps by name, numbers by value. Members stand in the order of
+/// Whether two documents are equal: lists in order, maps by name, numbers by value. Members are in the order of
 /// their names, so equal maps are equal member by member.
 #[cycle(equal)]
 pub fn equal(a: &Doc, b: &Doc) -> bool

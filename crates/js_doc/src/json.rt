@@ -106,7 +106,7 @@ impl JsonMap {
     ghost use Rattle.js_doc.specs.declared.json.JsonMap.{out-JsonMap};
     ghost use Rattle.js_doc.specs.JsonView.{view, map_view, member_view};
 
-    /// The members, which have to stand in ascending order of their names, each name once.
+    /// The members, which have to be in ascending order of their names, each name once.
     pub fn from_vec(members: Vec<JsonMember>) -> JsonMap
         requires { names_rise (members_of (map member_view members.items)) ≡ true }
         ensures { map_view result ≡ members_of (map member_view members.items) }

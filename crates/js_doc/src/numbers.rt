@@ -3,7 +3,7 @@
 //! A list keeps its values twice: in their written order, which is what a contract sees, and sorted. The sorted copy is
 //! made with the list, so looking a value up takes no memory.
 
-ghost use Rattle.std.specs.Prelude.{◌≡◌, ◌≤◌, ◌<ℤ◌, ◌≤ℤ◌, IfOk, length};
+ghost use Rattle.std.specs.Prelude.{◌≡◌, ◌≤◌, ◌<ℤ◌, ◌≤ℤ◌, int_lt, IfOk, length};
 ghost use Rattle.std.specs.List.Sorted.{IsSorted, IsPartitionPoint};
 ghost use Rattle.std.specs.Ordering.{int_cmp};
 
@@ -92,15 +92,9 @@ fn count_below(ascending: &[i128], n: i128) -> usize
     ensures parts { IsPartitionPoint (λ y. y <ℤ n) (λ y. n ≤ℤ y) ascending.now result }
     ensures within { result ≤ length ascending.now }
 {
-    let mut low = 0;
-    let mut high = ascending.len();
-    while low < high {
-        let middle = low + (high - low) / 2;
-        if ascending[middle] < n {
-            low = middle + 1;
-        } else {
-            high = middle;
-        }
-    }
-    low
+    ascending.partition_point(
+        |y: &i128| -> bool
+            ensures { result ≡ int_lt y.now n }
+        { *y < n },
+    )
 }

@@ -1,5 +1,5 @@
 //! Shared documents: tables of parts, in which an array and an object name their elements and members by the numbers
-//! of parts below. So what stands at many places of a document is kept once.
+//! of parts below. So what is at many places of a document is kept once.
 //!
 //! Contracts see a number as it is, lists of numbers and members as lists, and a table as the list of its parts, by
 //! `part_view` of `specs/PartView.antt`. That each part names only parts below its own, and that the names of an object

@@ -1,6 +1,8 @@
 //! Values by their names, which rise: what the members of an object are, whatever type their values have.
 
-ghost use Rattle.std.specs.Prelude.{◌≡◌, true, option_map, chars};
+ghost use Rattle.std.specs.Prelude.{◌≡◌, true, option_map, chars, encode_utf8_all};
+ghost use Rattle.std.specs.Cmp.Lexicographic.{slice_cmp};
+ghost use Rattle.std.specs.Ordering.{nat_cmp};
 ghost use Rattle.js_doc.specs.Names.{rise, names_of, pairs_of, find_in};
 
 use crate::word::Word;
@@ -39,17 +41,14 @@ impl<T> Rising<T> {
         ensures { option_map (λ v. v.now) result ≡ find_in (chars name.now) (pairs_of self.now.members.items) }
     {
         let members = self.as_slice();
-        let mut low = 0;
-        let mut high = members.len();
-        while low < high {
-            let middle = low + (high - low) / 2;
-            let member = &members[middle];
-            match member.name.as_text().cmp(name) {
-                Ordering::Equal => return Some(&member.value),
-                Ordering::Less => low = middle + 1,
-                Ordering::Greater => high = middle,
-            }
+        let found = members.binary_search_by(
+            |member: &Named<T>| -> Ordering
+                ensures { result ≡ slice_cmp nat_cmp (encode_utf8_all member.now.name.text) name.entry.now }
+            { member.name.as_text().cmp(name) },
+        );
+        match found {
+            Ok(place) => Some(&members[place].value),
+            Err(_) => None,
         }
-        None
     }
 }

@@ -7,7 +7,7 @@ use crate::text::{Memory, Str};
 use std::alloc::Global;
 
 /// A text in a document or a JSON value. A contract sees that each of its values is a Unicode scalar value, wherever
-/// the text stands.
+/// the text is.
 #[derive(Drop)]
 pub struct Word {
     text: Str,

@@ -1,4 +1,4 @@
--- What literals ask of elements is of the table.
+-- What literals require of elements is of the table.
 use Rattle.std.proofs.Common.{◌≡◌, ℕ, zero, suc, ◌<◌, ◌≤◌, List, [], ◌∷◌, length, get_or, Bool, true, nat_lt, refl, arith, ap}
 use Rattle.std.proofs.lemmas.Bool.{and_parts, and_from}
 use Rattle.documents.specs.Tests.{every}
@@ -31,6 +31,7 @@ abbrev below : ℕ → List Signed → Bool
 below n xs = every (λ x. nat_lt (position_of x) n) xs
 
 module _ (n i : ℕ) where
+  -- what a literal that holds requires of the element at a place names positions of the table alone
   pub plus_each-below : (Q : Position) → names_below n Q ≡ true → below n (A.plus_each i Q) ≡ true
   plus_each-below (P.Items ps r) e =
       let (a, b) = and_parts (nat_lt r n) _ e in and_from _ _ (item-below n ps r i a b) refl

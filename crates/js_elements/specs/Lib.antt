@@ -1,2 +1,2 @@
--- What a reader must believe: what one literal asks of an element.
+-- What a reader must believe: what one literal requires of an element.
 pub mod Elements

@@ -1,4 +1,4 @@
-//! What a set of signed positions asks of elements.
+//! What a set of signed positions requires of elements.
 
 ghost use Rattle.std.specs.Prelude.{◌≡◌, map, true, length, filter, IfOk};
 ghost use Rattle.std.specs.Option.{option_to_list};
@@ -10,7 +10,7 @@ use js_algebra::{Core, Node, Pos, Signed};
 use js_doc::Memory;
 use std::alloc::Global;
 
-/// What a literal asks of the element at an index.
+/// What a literal requires of the element at an index.
 pub fn asked(core: &Core, index: usize, x: Signed) -> Option<Signed>
     requires { is_in_table core.now.positions (signed_view x) ≡ true }
     ensures value { map signed_view (option_to_list result) ≡ asked_at core.now.positions index (signed_view x) }
@@ -24,7 +24,7 @@ pub fn asked(core: &Core, index: usize, x: Signed) -> Option<Signed>
     }
 }
 
-/// What a literal asks of the element at an index that serves it, none where no element has to.
+/// What a literal requires of the element at an index that serves it, none where no element has to.
 pub fn served(core: &Core, index: usize, x: Signed) -> Option<Signed>
     requires { is_in_table core.now.positions (signed_view x) ≡ true }
     ensures value { map signed_view (option_to_list result) ≡ served_at core.now.positions index (signed_view x) }

@@ -1,7 +1,7 @@
-//! What the literals of a set ask of elements of arrays.
+//! What the literals of a set require of elements of arrays.
 //!
-//! What a literal asks of an element depends on the element's index alone. A demand is a literal that some element has
-//! to serve.
+//! What a literal requires of an element depends on the element's index alone. A demand is a literal that some element
+//! has to serve.
 #![tactic(auto)]
 
 mod elements;

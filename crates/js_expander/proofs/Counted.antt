@@ -10,6 +10,7 @@ places-append (x ∷ xs) ys = omega (arith, places-append xs ys)
 
 module _ (xs : List Alternative) (n : ℕ) (counted : AreCounted xs n) (more : List Alternative) (m : ℕ)
     (many : m ≡ places more) where
+  -- where further alternatives leave the places within their limit, the sum of both counts is that of all
   pub counted-more : m ≤ most_places - n → AreCounted (xs ++ more) (n + m)
   counted-more l =
       let c = counted.count in

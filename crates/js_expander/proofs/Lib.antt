@@ -4,3 +4,5 @@ mod Walked
 -- The words of strings, and the names of objects.
 mod Words
 mod Texts
+-- What the alternatives of goals build.
+mod Sound

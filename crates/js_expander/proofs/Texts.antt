@@ -13,6 +13,7 @@ use Rattle.js_expander.specs.Found.{leaf_of}
 abbrev limited : LimitKind → Result (List Alternative) LimitKind
 limited l = Err l
 
+-- where the finder of strings passes a limit, the leaf of the branch is that limit
 pub text_limit : (T : List Position) (S : List Signed) (k : ℕ) (l : LimitKind) → strings_of T S ≡ Err l
     → limited l ≡ leaf_of T K.Text k S
 text_limit T S k l e = sym (ap (scalar_leaf K.Text (λ w. A.Text) k) e)

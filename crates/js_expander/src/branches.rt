@@ -14,7 +14,7 @@ use crate::leaves::answer;
 use js_algebra::{BranchId, Core, Goal, JsonKind, SignedList};
 use js_doc::Memory;
 use js_expansion::LimitKind;
-use js_objects::KeptNames;
+use js_kept_automaton::KeptAutomaton;
 use js_tableau::{Branch, BranchWalk, TableauFault};
 use std::alloc::Global;
 
@@ -55,13 +55,13 @@ fn keep_branches(
         (branches_left core.now.positions walk))) }
 {
     let mut number = 0;
-    let mut names = KeptNames::new();
+    let mut automaton = KeptAutomaton::new();
     while let Some(set) = walk.next(alloc, core)? {
         let branch = Branch {
             id: BranchId { kind, number },
             set,
         };
-        kept.keep(answer(alloc, core, &branch, &mut names)?)?;
+        kept.keep(answer(alloc, core, &branch, &mut automaton)?)?;
         number += 1;
     }
     Ok(())

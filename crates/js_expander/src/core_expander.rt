@@ -1,13 +1,21 @@
 //! The expander of the goals of a core table.
 
-ghost use Rattle.std.specs.Prelude.{◌≡◌};
+ghost use Rattle.std.specs.Prelude.{◌≡◌, ◌≤◌, List, true, IfOk, take};
+ghost use Rattle.documents.specs.Tests.{every};
+ghost use Rattle.goals.specs.Signed.{Signed};
+ghost use Rattle.alternatives.specs.Expansion.{names_branch};
+ghost use Rattle.alternatives.specs.Slots.{capacity, cell_at};
+ghost use Rattle.expander_laws.specs.Expander.{takes, words_by};
+ghost use Rattle.expander_laws.specs.Sound.{AreSound};
+ghost use Rattle.js_algebra.specs.View.{kind_view};
+ghost use Rattle.js_expander.specs.Found.{goal_expansion, cells_at};
 
 use crate::branches::{branch_set, keep_kind};
 use crate::kept::Kept;
 use js_algebra::{BranchId, Core, Goal, JsonKind};
 use js_doc::{Memory, StrList};
 use js_expansion::{Expander, Expansion};
-use js_objects::object_words;
+use js_objects::{object_words, object_words_by_cell};
 use js_strings::string_words;
 use js_tableau::Branch;
 use std::alloc::Global;
@@ -22,9 +30,37 @@ pub struct CoreExpander<'a> {
 impl<'a> CoreExpander<'a> {
     /// Borrows the table and computes nothing: each call expands the goal that it is given.
     pub fn new(core: &'a Core) -> CoreExpander<'a>
-        ensures { result.core.now ≡ core.now }
+        ensures core { result.core.now ≡ core.now }
+
+        // What the alternatives of goals that are taken build meets these goals of the table.
+        ensures sound { (goals : List (List Signed))
+            → every (takes core.now.positions core.now.ranks) goals ≡ true
+            → AreSound core.now.positions (words_by (cells_at core.now.positions)) (goal_expansion core.now.positions)
+            goals }
     {
         CoreExpander { core }
+    }
+
+    /// As many words of cell 0 as are needed.
+    fn first_cell(
+        &self,
+        alloc: Global,
+        goal: &Goal,
+        branch: BranchId,
+        need: u64,
+    ) -> Result<StrList, Memory>
+        requires taken { takes self.now.core.now.positions self.now.core.now.ranks goal.now ≡ true }
+        requires branch { names_branch (goal_expansion self.now.core.now.positions goal.now) (kind_view branch.kind)
+            branch.number ≡ true }
+        requires need { need ≤ capacity (cell_at (cells_at self.now.core.now.positions goal.now (kind_view branch.kind)
+            branch.number) 0) }
+        ensures { IfOk result (λ l. l ≡ take need (cell_at (cells_at self.now.core.now.positions goal.now
+            (kind_view branch.kind) branch.number) 0)) }
+    {
+        if need == 0 {
+            return Ok(StrList::from_vec(Vec::new(alloc)));
+        }
+        self.words(alloc, goal, branch, 0, need as u32)
     }
 }
 
@@ -68,6 +104,29 @@ impl Expander for CoreExpander<'_> {
                 object_words(alloc, self.core, &Branch { id: branch, set }, cell, count)
             }
             _ => unreachable!(),
+        }
+    }
+
+    fn words_by_cell(
+        &self,
+        alloc: Global,
+        goal: &Goal,
+        branch: BranchId,
+        needs: &[u64],
+    ) -> Result<Vec<StrList>, Memory> {
+        match branch.kind {
+            JsonKind::Text => match needs.first() {
+                Some(need) => {
+                    let words = self.first_cell(alloc, goal, branch, *need)?;
+                    Ok(vec![in alloc; words]?)
+                }
+                None => Ok(Vec::new(alloc)),
+            },
+            JsonKind::Object => {
+                let set = branch_set(alloc, self.core, goal, branch)?;
+                object_words_by_cell(alloc, self.core, &Branch { id: branch, set }, needs)
+            }
+            _ => Ok(Vec::new(alloc)),
         }
     }
 

@@ -12,18 +12,20 @@ use js_arrays::{ArrayFault, array_alternatives};
 use js_automaton::AutoFault;
 use js_doc::Memory;
 use js_expansion::LimitKind;
-use js_objects::{KeptNames, ObjectFault, object_alternatives};
+use js_kept_automaton::KeptAutomaton;
+use js_objects::{ObjectFault, object_alternatives};
 use js_scalars::{NumberFault, null_alternatives, number_alternatives, truth_alternatives};
 use js_strings::string_alternatives;
 use js_tableau::Branch;
 use std::alloc::Global;
 
-/// What the leaf of its kind answers for a branch. What is kept of names serves branches at objects, one after another.
+/// What the leaf of its kind answers for a branch. The automaton that is kept serves branches at strings or at objects,
+/// one after another.
 pub(crate) fn answer(
     alloc: Global,
     core: &Core,
     branch: &Branch,
-    kept: &mut KeptNames,
+    kept: &mut KeptAutomaton,
 ) -> Result<Answer, Memory>
     requires { are_in_table core.now.positions branch.now.set ≡ true }
     ensures { IfOk result (λ a. answer_view a ≡ leaf_of core.now.positions (kind_view branch.now.id.kind)
@@ -33,7 +35,7 @@ pub(crate) fn answer(
         JsonKind::Null => Ok(Ok(null_alternatives(alloc, branch)?)),
         JsonKind::Boolean => Ok(Ok(truth_alternatives(alloc, core, branch)?)),
         JsonKind::Number => number_answer(alloc, core, branch),
-        JsonKind::Text => string_answer(alloc, core, branch),
+        JsonKind::Text => string_answer(alloc, core, branch, kept),
         JsonKind::Array => array_answer(alloc, core, branch),
         JsonKind::Object => object_answer(alloc, core, branch, kept),
     }
@@ -52,13 +54,18 @@ fn number_answer(alloc: Global, core: &Core, branch: &Branch) -> Result<Answer, 
     }
 }
 
-fn string_answer(alloc: Global, core: &Core, branch: &Branch) -> Result<Answer, Memory>
+fn string_answer(
+    alloc: Global,
+    core: &Core,
+    branch: &Branch,
+    kept: &mut KeptAutomaton,
+) -> Result<Answer, Memory>
     requires kind { branch.now.id.kind ≡ JsonKind.Text }
     requires in_table { are_in_table core.now.positions branch.now.set ≡ true }
     ensures { IfOk result (λ a. answer_view a
         ≡ leaf_of core.now.positions K.Text branch.now.id.number branch.now.set) }
 {
-    match string_alternatives(alloc, core, branch) {
+    match string_alternatives(alloc, core, branch, kept) {
         Ok(leaf) => Ok(Ok(leaf)),
         Err(AutoFault::LimitPositions) => Ok(Err(LimitKind::Positions)),
         Err(AutoFault::LimitClasses) => Ok(Err(LimitKind::Classes)),
@@ -84,7 +91,7 @@ fn object_answer(
     alloc: Global,
     core: &Core,
     branch: &Branch,
-    kept: &mut KeptNames,
+    kept: &mut KeptAutomaton,
 ) -> Result<Answer, Memory>
     requires { are_in_table core.now.positions branch.now.set ≡ true }
     ensures { IfOk result (λ a. answer_view a

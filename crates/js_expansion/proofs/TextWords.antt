@@ -5,7 +5,7 @@ use Rattle.documents.specs.Tests.{every}
 use Rattle.documents.specs.Kind as K
 use Rattle.documents.specs.Kind.{Kind, same_kind}
 use Rattle.list_laws.specs.In.{IsIn}
-use Rattle.list_laws.proofs.Lists.{every_at, in_map, in_get}
+use Rattle.list_laws.proofs.Lists.{every_at, in_map, get_or-in}
 use Rattle.list_laws.proofs.Tests.{some_from}
 use Rattle.alternatives.specs.Alternative as A
 use Rattle.alternatives.specs.Slots.{capacity, cell_at, has_room, has_text, has_words}
@@ -27,7 +27,7 @@ module _ (ex : Expansion) (xs : List Alternative) (all : map alternative_view xs
   chosen = alternative_view (get_or xs i d)
 
   is_in : IsIn chosen ex.alternatives
-  is_in = subst (IsIn chosen) all (in_map alternative_view (get_or xs i d) xs (in_get xs i d within))
+  is_in = subst (IsIn chosen) all (in_map alternative_view (get_or xs i d) xs (get_or-in xs i d within))
 
   pub names : names_branch ex chosen.kind chosen.branch ≡ true
   names =
@@ -41,6 +41,7 @@ module _ (ex : Expansion) (xs : List Alternative) (all : map alternative_view xs
     abbrev own : List (List (List ℕ))
     own = cells chosen.kind chosen.branch
 
+    -- the first cell of a listed text's branch has a word
     pub one : 1 ≤ capacity (cell_at own 0)
     one =
         let has : has_words own chosen ≡ true =

@@ -21,7 +21,7 @@ pub enum Shape {
     Members,
 }
 
-/// Where something stands; `slot_view` is the slot that it stands for.
+/// Where something is; `slot_view` is the slot that it stands for.
 #[derive(Clone, Copy, PartialEq, Eq, Debug)]
 pub enum Slot {
     /// An index of an array.

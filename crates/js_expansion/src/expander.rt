@@ -8,7 +8,7 @@ use std::alloc::Global;
 /// Expands goals. An expansion and the cells of a branch are functions of the expander and the goal: so two answers for
 /// one goal are equal, but for want of memory.
 pub trait Expander {
-    ghost use Rattle.std.specs.Prelude.{◌≡◌, ◌<◌, ◌≤◌, ℕ, List, Bool, true, IfOk, length, take, nat_lt};
+    ghost use Rattle.std.specs.Prelude.{◌≡◌, ◌<◌, ◌≤◌, ◌^◌, [], ℕ, List, Bool, true, IfOk, length, take, get_or, nat_lt};
     ghost use Rattle.documents.specs.Kind.{Kind};
     ghost use Rattle.documents.specs.Tests.{every};
     ghost use Rattle.goals.specs.Signed.{Signed};
@@ -49,6 +49,35 @@ pub trait Expander {
         requires count { count ≤ capacity (cell_at (cells self.now goal.now (kind_view branch.kind) branch.number) cell) }
         ensures { IfOk result (λ l. l ≡ take count (cell_at (cells self.now goal.now (kind_view branch.kind) branch.number) cell)) };
 
+    /// Of each cell of a branch of which the goal has an alternative as many first words as are needed of it. Of what
+    /// is no cell none may be needed.
+    ///
+    /// Requests each cell's words for themselves. An expander that finds all cells of a branch at once does better.
+    fn words_by_cell(
+        &self,
+        alloc: Global,
+        goal: &Goal,
+        branch: BranchId,
+        needs: &[u64],
+    ) -> Result<Vec<StrList>, Memory>
+        requires taken { takes self.now goal.now ≡ true }
+        requires branch { names_branch (expansion self.now goal.now) (kind_view branch.kind) branch.number ≡ true }
+        requires few { length needs.now ≤ 2 ^ 32 }
+        requires needs { (c : ℕ) → get_or needs.now c 0
+            ≤ capacity (cell_at (cells self.now goal.now (kind_view branch.kind) branch.number) c) }
+        ensures { IfOk result (λ v. (c : ℕ) → get_or v.items c [] ≡ take (get_or needs.now c 0)
+            (cell_at (cells self.now goal.now (kind_view branch.kind) branch.number) c)) }
+    {
+        let mut lists = Vec::with_capacity(alloc, needs.len())?;
+        for cell in 0..needs.len() {
+            match needs[cell] {
+                0 => lists.push(StrList::from_vec(Vec::new(alloc)))?,
+                need => lists.push(self.words(alloc, goal, branch, cell as u32, need as u32)?)?,
+            }
+        }
+        Ok(lists)
+    }
+
     /// Each goal that an expansion names is taken.
     ghost named_taken: { (x : Self) (g : List Signed) → takes x g ≡ true
         → every (takes x) (named (expansion x g).alternatives) ≡ true };
@@ -61,7 +90,7 @@ pub trait Expander {
     ghost words_named: { (x : Self) (g : List Signed) → takes x g ≡ true
         → every (λ a. has_words (cells x g a.kind a.branch) a) (expansion x g).alternatives ≡ true };
 
-    /// Elements stand at indices and members under names; a scalar has neither.
+    /// Elements are at indices and members under names; a scalar has neither.
     ghost slots_fit: { (x : Self) (g : List Signed) → takes x g ≡ true
         → every has_fitting_slots (expansion x g).alternatives ≡ true };
 

@@ -13,7 +13,7 @@ use Rattle.js_explore.specs.Exploration.{Exploration, Explores, GoesOn, explorat
 use Rattle.js_explore.proofs.Settled.{keeps_all, settles_all, every_settled, numbered_kept}
 use Rattle.list_laws.proofs.Numbers.{below_suc}
 use Rattle.list_laws.proofs.Lists.{slice_get-append}
-use Rattle.list_laws.proofs.Every.{every-append}
+use Rattle.list_laws.proofs.Every.{every_joined}
 use Rattle.search_laws.proofs.Whole.{mention_cases, taken_kept}
 
 get_last : {A : Type 0} (xs : List A) (x : A) (i : ℕ) → i ≡ length xs → slice_get (xs ++ x ∷ []) i ≡ Some x
@@ -34,7 +34,7 @@ module _ (most : ℕ) where
   every_kept p s (x ∷ xs) e f =
       let (a, b) = and_parts (p x) (every p xs) f in
       every_kept p (mention most s x) xs (mention_cases most (λ t. every p t.goals ≡ true) s x e
-      (every-append p s.goals (x ∷ []) e (and_from _ _ a refl)) e) b
+      (every_joined p s.goals (x ∷ []) e (and_from _ _ a refl)) e) b
 
   module _ (total : ℕ) (takes : List Signed → Bool) (expansion : List Signed → Expansion) where
     pub start : (root : List Signed) → takes root ≡ true
@@ -117,6 +117,7 @@ module _ (most : ℕ) where
           answered_on e g h at n x f (below_suc n e.found.taken (omega (arith, l, taken_kept most e.found (Names g))));
     }
 
+    -- what holds of an exploration holds with the answer to the next goal, whose goals are then mentioned
     pub goes_on : (e now : Exploration) (g : List Signed) → GoesOn most total takes expansion e
         → slice_get e.found.goals e.found.taken ≡ Some g
         → every takes (named (expansion g).alternatives) ≡ true
@@ -140,6 +141,7 @@ module _ (most : ℕ) where
           }
           go false k = grown e g h at all (ltb-false total (e.found.places + places (expansion g).alternatives) k)
 
+    -- the answers so far are those that the expansions of the explored goals give
     pub explores : (e : Exploration) → GoesOn most total takes expansion e → Explores expansion e
     explores e h = record {
       alternatives = λ n. go n (nat_lt n e.found.taken) refl;

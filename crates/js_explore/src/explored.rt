@@ -209,7 +209,7 @@ impl Explored {
         Ok(true)
     }
 
-    /// Asks for the goal that comes next, and takes the answer. False says that another step changes nothing.
+    /// Requests the goal that comes next, and takes the answer. False says that another step changes nothing.
     pub(crate) fn step<E: Expander>(
         &mut self,
         alloc: Global,

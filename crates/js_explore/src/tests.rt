@@ -21,8 +21,8 @@ use std::alloc::Global;
 use std::test::Fail;
 use std::thread::Threads;
 
-/// The first goal asks for an array of the second, to which one of the third may be added, or for an array of the
-/// first. Each other asks for an array of the third, and has a hole. It waits at each goal for those that are to meet.
+/// The first goal requires an array of the second, to which one of the third may be added, or an array of the first.
+/// Each other requires an array of the third, and has a hole. It waits at each goal for those that are to meet.
 #[derive(Drop)]
 struct Small {
     first: Goal,
@@ -269,7 +269,7 @@ fn goals_of_a_wave_meet(rt: HostRuntime) -> Result<(), Fail> {
     let gate = Meeting::new(1, 2);
     let workers = Workers::new(&rt, &gate, 2);
     let explored = explore(&workers, rt.alloc(), &expander, expander.first.clone()?)?;
-    assert!(rt; gate.was_met());
+    assert!(rt; gate.was_each_met());
     assert!(rt; expander.meeting.was_met());
     assert_eq!(rt; explored.len(), 3);
     assert!(rt; *explored.goal(2) == expander.third);

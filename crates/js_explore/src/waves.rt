@@ -51,7 +51,7 @@ impl<E: Expander + Sync> Waves<'_, E> {
         Ok(search)
     }
 
-    /// Asks for all goals that wait, and takes the answers. False says that another step changes nothing.
+    /// Requests all goals that wait, and takes the answers. False says that another step changes nothing.
     fn wave<R: Threads + Sync, G: Gate + Sync>(
         &self,
         workers: &Workers<'_, R, G>,
@@ -78,7 +78,7 @@ impl<E: Expander + Sync> Waves<'_, E> {
         self.take_all(search, answers.as_slice())
     }
 
-    /// Asks for all goals that wait.
+    /// Requests all goals that wait.
     fn ask<R: Threads + Sync, G: Gate + Sync>(
         &self,
         workers: &Workers<'_, R, G>,

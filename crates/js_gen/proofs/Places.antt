@@ -1,4 +1,4 @@
--- Where a member stands, or would stand: how the search goes on, and what the members are afterwards.
+-- Where a member is, or would be: how the search goes on, and what the members are afterwards.
 use Rattle.std.proofs.Common.{◌≡◌, ℕ, ◌<◌, List, [], map, length, get_or, Bool, true, false, cond, Less, Equal, Greater, nat_cmp, chars, IsUtf8, refl, sym, ap, ◌∙◌}
 use Rattle.std.specs.Cmp.Lexicographic.{slice_cmp}
 use Rattle.std.proofs.Math.ListN.{set, length-map}

@@ -6,6 +6,7 @@ use Rattle.js_doc.specs.declared.json.Json.TheVariants as V
 use Rattle.js_doc.specs.declared.word.Word.{Word}
 use Rattle.js_doc.specs.JsonView.{view}
 
+-- the JSON value of a text is the string of its word
 pub view-Text : (w : Word) → view (V.Text w) ≡ D.string w.text
 view-Text w = search (rules, JJ.the_lemmas)
 

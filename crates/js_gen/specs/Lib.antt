@@ -1,6 +1,6 @@
 -- What a reader must believe: which family a kind is.
 pub mod KindView
--- Used inside: what is seen of members, which texts are ASCII, and where a member stands among others.
+-- Used inside: what is seen of members, which texts are ASCII, and where a member is among others.
 pub mod MembersView
 pub mod Ascii
 pub mod Places

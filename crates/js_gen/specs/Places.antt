@@ -1,4 +1,4 @@
--- Where a member of some name stands among members by name.
+-- Where a member of some name is among members by name.
 use Rattle.std.specs.Prelude.{◌≡◌, ℕ, ◌<◌, ◌≤◌, List, [], map, length, get_or, true}
 use Rattle.documents.specs.Json.{Json}
 use Rattle.documents.specs.Tests.{comes_before}

@@ -58,7 +58,7 @@ impl Members {
     }
 }
 
-/// The place of the member of that name, or else where it would stand.
+/// The place of the member of that name, or else where it would be.
 fn place(members: &[JsonMember], name: &Str) -> Result<usize, usize>
     ensures there { IfOk result (λ i. IsThere (names (map member_view members.now)) name.now i) }
     ensures free { IfErr result (λ i. IsFree (names (map member_view members.now)) name.now i) }

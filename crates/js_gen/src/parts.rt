@@ -12,7 +12,7 @@ use crate::words::{definition_path, numbered, text};
 use js_doc::{Json, JsonList, Memory};
 use std::alloc::Global;
 
-/// The schema that asks for a type alone.
+/// The schema that requires a type alone.
 pub(crate) fn of_type(alloc: Global, word: &str) -> Result<Json, Memory>
     requires { is_ascii word.now ≡ true }
     ensures { IfOk result (λ j. view j ≡ object_of (F.of_type word.now ∷ [])) }

@@ -84,6 +84,7 @@ module _ (number : List Signed → Option ℕ) (T : List Position) where
   -- where they were added
 
   module _ (old : List CertLine) (now : List Line) where
+    -- lines that were added for a goal without a met alternative show that no document meets it
     pub goal-added : (ranks : List ℕ) → is_table T ranks ≡ true → (g : List Signed) → are_in_table T g ≡ true
         → now ≡ map line_view old ++ goal_lines number T g → AreDead number T g (drop (length old) now)
     goal-added ranks table g inside e =

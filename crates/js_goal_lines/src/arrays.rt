@@ -42,7 +42,7 @@ pub(crate) fn add_array_lines<D: Dead>(
     add_plan_lines(alloc, &frame, PlanForm::OfArrays, dead, lines)
 }
 
-/// The frame of a set; want of memory where it asks for too many elements.
+/// The frame of a set; want of memory where it requires too many elements.
 fn frame_of<'a>(alloc: Global, core: &'a Core, set: &'a [Signed]) -> Result<ArrayFrame<'a>, Memory>
     requires { are_in_table core.now.positions (map signed_view set.now) ≡ true }
     ensures frame { IfOk result (λ f. frame_view f ≡ A.array_frame core.now.positions (map signed_view set.now)) }

@@ -16,8 +16,8 @@ use std::alloc::Global;
 
 /// Adds the lines that show that no document meets the goal, without the line that names it.
 ///
-/// Where a tree has too many ends, or what a saturated set asks of a document passes a limit, that is want of memory.
-/// None is passed where the goal was expanded without a limit.
+/// Where a tree has too many ends, or what a saturated set requires of a document passes a limit, that is want of
+/// memory. None is passed where the goal was expanded without a limit.
 pub fn add_goal_lines<D: Dead>(
     alloc: Global,
     core: &Core,

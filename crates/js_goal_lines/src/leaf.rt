@@ -13,8 +13,8 @@ use js_algebra::{Core, JsonKind, Signed};
 use js_bounds::crossed;
 use js_doc::Memory;
 use js_expansion::Dead;
+use js_kept_automaton::KeptAutomaton;
 use js_lines::CertLine;
-use js_objects::KeptNames;
 use js_row_lines::add_string_lines;
 use std::alloc::Global;
 
@@ -25,7 +25,7 @@ pub(crate) fn add_leaf_lines<D: Dead>(
     dead: &D,
     kind: JsonKind,
     set: &[Signed],
-    kept: &mut KeptNames,
+    kept: &mut KeptAutomaton,
     lines: &mut Vec<CertLine>,
 ) -> Result<(), Memory>
     requires { are_in_table core.now.positions (map signed_view set.now) ≡ true }
@@ -59,7 +59,7 @@ fn add_open_lines<D: Dead>(
     dead: &D,
     kind: JsonKind,
     set: &[Signed],
-    kept: &mut KeptNames,
+    kept: &mut KeptAutomaton,
     lines: &mut Vec<CertLine>,
 ) -> Result<(), Memory>
     requires { are_in_table core.now.positions (map signed_view set.now) ≡ true }
@@ -76,7 +76,7 @@ fn add_open_lines<D: Dead>(
             lines.push(CertLine::Number)?;
             Ok(())
         }
-        JsonKind::Text => add_string_lines(alloc, core, set, lines),
+        JsonKind::Text => add_string_lines(alloc, core, set, kept, lines),
         JsonKind::Array => add_array_lines(alloc, core, dead, set, lines),
         JsonKind::Object => add_object_lines(alloc, core, dead, set, kept, lines),
     }

@@ -18,8 +18,9 @@ use js_automaton::Automaton;
 use js_bounds::Bounds;
 use js_doc::Memory;
 use js_expansion::Dead;
+use js_kept_automaton::KeptAutomaton;
 use js_lines::CertLine;
-use js_objects::{KeptNames, MOST_COUNTS, Names, ObjectFrame};
+use js_objects::{MOST_COUNTS, ObjectFrame, name_automaton};
 use js_plan_lines::{PlanForm, add_plan_lines};
 use js_plans::PlanFrame;
 use js_row_lines::{add_cap_lines, add_row_lines};
@@ -27,13 +28,13 @@ use std::alloc::Global;
 
 /// Adds the lines of a set's rows of names, of bounds of their cells, and of its plans at objects.
 ///
-/// What is kept of names serves a later set that says the same of them, and changes no line.
+/// The automaton of the names is kept: it serves a later set that says the same of them, and changes no line.
 pub(crate) fn add_object_lines<D: Dead>(
     alloc: Global,
     core: &Core,
     dead: &D,
     set: &[Signed],
-    kept: &mut KeptNames,
+    kept: &mut KeptAutomaton,
     lines: &mut Vec<CertLine>,
 ) -> Result<(), Memory>
     requires { are_in_table core.now.positions (map signed_view set.now) ≡ true }
@@ -44,12 +45,8 @@ pub(crate) fn add_object_lines<D: Dead>(
     ensures dead { OnOk result (AreDeadAt (D.number_of dead.now) core.now.positions K.Object
         (map signed_view set.now) (drop (length lines.old.items) (map line_view lines.new.items))) }
 {
-    match Names::of_set(alloc, core, set, kept.names.take()) {
-        Ok(names) => {
-            let added = add_lines_of(alloc, core, dead, set, &names.automaton, lines);
-            kept.names = Some(names);
-            added
-        }
+    match name_automaton(alloc, core, set, kept) {
+        Ok(automaton) => add_lines_of(alloc, core, dead, set, automaton, lines),
         Err(_) => Err(Memory),
     }
 }
@@ -72,7 +69,7 @@ fn add_lines_of<D: Dead>(
     add_member_lines(alloc, dead, automaton, &frame, lines)
 }
 
-/// The frame over the cells of the automaton's rows; want of memory where the set asks for too many members.
+/// The frame over the cells of the automaton's rows; want of memory where the set requires too many members.
 fn frame_of<'a>(
     alloc: Global,
     core: &'a Core,

@@ -12,12 +12,12 @@ use crate::leaf::add_leaf_lines;
 use js_algebra::{Core, JsonKind};
 use js_doc::Memory;
 use js_expansion::Dead;
+use js_kept_automaton::KeptAutomaton;
 use js_lines::CertLine;
-use js_objects::KeptNames;
 use js_tableau::{Step, Tree};
 use std::alloc::Global;
 
-/// Adds the lines of the steps that a tree has left. What is kept of names serves its branches one after another.
+/// Adds the lines of the steps that a tree has left. The automaton that is kept serves its branches one after another.
 pub(crate) fn add_tree_lines<D: Dead>(
     alloc: Global,
     core: &Core,
@@ -31,7 +31,7 @@ pub(crate) fn add_tree_lines<D: Dead>(
         ++ tree_lines (leaf_lines (D.number_of dead.now) core.now.positions (kind_view kind))
         (left core.now.positions (kind_view kind) tree)) }
 {
-    let mut kept = KeptNames::new();
+    let mut kept = KeptAutomaton::new();
     while let Some(step) = next_step(core, kind, &mut tree)? {
         add_step_lines(alloc, core, dead, kind, &tree, step, &mut kept, lines)?;
     }
@@ -58,7 +58,7 @@ fn add_step_lines<D: Dead>(
     kind: JsonKind,
     tree: &Tree,
     step: Step,
-    kept: &mut KeptNames,
+    kept: &mut KeptAutomaton,
     lines: &mut Vec<CertLine>,
 ) -> Result<(), Memory>
     requires { IsTree core.now.positions (kind_view kind) tree.now }
@@ -88,7 +88,7 @@ fn add_set_lines<D: Dead>(
     dead: &D,
     kind: JsonKind,
     tree: &Tree,
-    kept: &mut KeptNames,
+    kept: &mut KeptAutomaton,
     lines: &mut Vec<CertLine>,
 ) -> Result<(), Memory>
     requires { IsTree core.now.positions (kind_view kind) tree.now }

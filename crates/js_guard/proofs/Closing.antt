@@ -22,20 +22,6 @@ least_with-is : (b : Bool) (least : Option ℕ) (x l : ℕ) → least_with b lea
 least_with-is true least x l h = elim (noted-is least x l h) [ inl e ↦ inl e | inr e ↦ inr (refl, e) ]
 least_with-is false least x l h = inl h
 
--- none is done yet
-pub closed-none : (M : List Mark) (S : List ℕ) (done : ℕ) (least : Option ℕ) (p : ℕ)
-    → IsClosed M S done least M done least p p
-closed-none M S done least p = record {
-  more_done = omega arith;
-  marked = refl;
-  closed = λ i low high. absurd (omega arith);
-  others = λ x. inl refl;
-  counted = λ old. refl;
-  noted_all = λ i low high several. absurd (omega arith);
-  noted_only = λ l h. inl h;
-  least_kept = λ x h. h;
-}
-
 module _ (M : List Mark) (S : List ℕ) (done : ℕ) (least : Option ℕ) (M' : List Mark) (done' : ℕ) (least' : Option ℕ)
     (p u : ℕ) (several : Bool) (c : IsClosed M S done least M' done' least' p u) (after : p ≤ u)
     (inside : at S u < length M') (means : several ≡ nat_lt (p + 1) (length S)) where

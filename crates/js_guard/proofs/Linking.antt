@@ -1,7 +1,7 @@
 -- One edge more is linked, and the sources of an entry are read off.
 use Rattle.std.proofs.Common.{◌≡◌, ℕ, zero, suc, ◌+◌, ◌<◌, ◌≤◌, ◌⊎◌, List, [], ◌∷◌, ◌++◌, map, take, drop, length, get_or, set, replicate, inl, inr, true, false, nat_eq, refl, sym, ap, ◌∙◌, subst, add-one, arith, true≢false}
 use Rattle.std.proofs.lemmas.Bool.{cases_eq, cases_lt, or_cases, or_left, or_right, eqb-true, eq-eqb}
-use Rattle.std.proofs.lemmas.List.{length-set, get_or-set_same, get_or-set_other, append_assoc, take_more, drop_more, drop_all, take_all, map-append, append-nil, get_or_past, get_or-replicate, length-replicate}
+use Rattle.std.proofs.lemmas.List.{length-set, get_or-set_same, get_or-set_other, append_assoc, take_more, drop_more, take_all, map-append, get_or_past, get_or-replicate, length-replicate}
 use Rattle.schemas.specs.Guarded.{targets, is_among}
 use Rattle.js_guard.specs.declared.reverse.Source.{Source}
 use Rattle.js_guard.specs.Rows.{AreClosed}
@@ -179,17 +179,6 @@ module _ (L : List (ℕ × ℕ)) (n : ℕ) (last : List ℕ) (E : List Source) (
   before-within e l =
       let u = h.before_at e (let size = h.same_length in omega arith) in u.within
 
-  pub reading-none : (t : ℕ) → t < n → IsReading L t (get_or last t 0) []
-  reading-none t l =
-      let u = h.last_at t l in
-      record {
-        sources = record {
-          all = λ e low high same. absurd (u.none_after e low high same);
-          only = λ x k. absurd (true≢false (sym k));
-        };
-        last = u.last;
-      }
-
   pub reading-more : (t q : ℕ) (row : List ℕ) → q < length E → IsReading L t (suc q) row
       → IsReading L t (source_at E q).before (row ++ (source_at E q).entry ∷ [])
   reading-more t q row l r =
@@ -218,9 +207,6 @@ module _ (L : List (ℕ × ℕ)) (n : ℕ) (last : List ℕ) (E : List Source) (
         };
         last = λ i f. u.last i f ∙ here;
       }
-
-  pub reading-all : (t : ℕ) (row : List ℕ) → IsReading L t 0 row → HasSources L t 0 row
-  reading-all t row r = r.sources
 
 -- the pairs of a graph
 
@@ -311,10 +297,6 @@ entry-more g x L h e =
         ap (pairs x) (drop_more g x [] h)
         ∙ ap (λ k. edges_of x (targets g x) ++ pairs k (drop (x + 1) g)) (sym (add-one x))
 
-pub entries-all : (g : List (List ℕ)) (x : ℕ) (L : List (ℕ × ℕ)) → length g ≤ x → L ++ pairs x (drop x g) ≡ pairs 0 g
-    → L ≡ pairs 0 g
-entries-all g x L h e = sym (append-nil L) ∙ ap (λ r. L ++ pairs x r) (sym (drop_all x g h)) ∙ e
-
 pub row-all : (L : List (ℕ × ℕ)) (n : ℕ) (last : List ℕ) (E : List Source) (x i : ℕ) (row : List ℕ) → length row ≤ i
     → IsLinked (L ++ edges_of x (take i row)) n last E → IsLinked (L ++ edges_of x row) n last E
 row-all L n last E x i row h l = subst (λ r. IsLinked (L ++ edges_of x r) n last E) (take_all i row h) l
@@ -323,9 +305,6 @@ row-all L n last E x i row h l = subst (λ r. IsLinked (L ++ edges_of x r) n las
 pub record AreSources (g back : List (List ℕ)) (n : ℕ) : Type 0 where
   pub size : length back ≡ n
   pub rows : (t : ℕ) → t < n → HasSources (pairs 0 g) t 0 (targets back t)
-
-pub sources-none : (g : List (List ℕ)) → AreSources g [] 0
-sources-none g = record { size = refl; rows = λ t h. absurd (omega arith) }
 
 pub sources-more : (g back back' : List (List ℕ)) (n : ℕ) (row : List ℕ) → AreSources g back n
     → back' ≡ back ++ row ∷ [] → HasSources (pairs 0 g) n 0 row → AreSources g back' (n + 1)

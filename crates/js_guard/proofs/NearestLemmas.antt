@@ -14,6 +14,7 @@ best-some D row n z d all none h k =
     let clash : None ≡ Some d = sym (none found.0 (omega arith)) ∙ ap (get_distance D) found.2 ∙ k in
     cc
 
+-- the best of a row's entries is the one at the least distance, and the lowest of these
 pub best-nearest : (D : List (Option ℕ)) (row : List ℕ) (n : ℕ) (b : Candidate) → length row ≤ n → n ≤ length row
     → IsBest D row n (Some b) → IsNearest D row b.entry
 best-nearest D row n b all inside ((k, low, at), known, best) = record {

@@ -93,6 +93,7 @@ module _ (g : List (List ℕ)) (M : List Mark) (S B : List ℕ) (P : List Turn) 
             ]
       ]
 
+  -- a search in which one more edge of an open entry is passed is a search
   pub stepped : IsSearch g M S B Q' done least
   stepped = record {
     marked = s.marked;
@@ -217,6 +218,7 @@ module _ (g : List (List ℕ)) (M : List Mark) (S B B' : List ℕ) (P : List Tur
             (subst (λ y. Reaches g y (at S p)) place.1 (reach-turn g M S B P done least (turn p n) s j place.0)))
       ]
 
+  -- a search whose groups are joined along an edge back, with its target noted, is a search
   pub joined : IsSearch g M S B' (P ++ turn p n ∷ []) done least'
   joined = record {
     marked = s.marked;

@@ -12,6 +12,7 @@ known-inside D x d h =
       | inr l ↦ absurd (let clash : None ≡ Some d = sym (get_or_past D x None l) ∙ h in cc)
     ]
 
+-- each entry that waits in the queue is an entry of the table
 pub entry-inside : (g : List (List ℕ)) (D : List (Option ℕ)) (Q : List Reached) (h : ℕ) → IsReaching g D Q h
     → (i : ℕ) → i < length Q → (item Q i).entry < length g
 entry-inside g D Q h s i l =

@@ -25,7 +25,7 @@ rest-none g M S B done least s =
       | inr none ↦ omega arith
     ]
 
--- what stands once a root is met
+-- what holds once a root is met
 pub record HasMet (g : List (List ℕ)) (s s' : Search) (root : ℕ) : Type 0 where
   pub search : IsSearchWith g s' s'.path.items
   pub keeps : Keeps s s'
@@ -99,6 +99,7 @@ module _ (g : List (List ℕ)) (s : Search) (closed : AreClosed g) (rest : IsRes
   ranks-length : length (map rank_of M) ≡ length g
   ranks-length = let marked = rest.search.marked in omega (arith, length-map M rank_of)
 
+  -- where no entry was noted, the marks at the end are ranks
   pub found_ranks : s.least ≡ None → are_ranks g (map rank_of M) ≡ true
   found_ranks none =
       and_from (every (λ r. nat_lt r (length g)) (map rank_of M)) (fall (map rank_of M) (map rank_of M) g)
@@ -120,6 +121,7 @@ module _ (g : List (List ℕ)) (s : Search) (closed : AreClosed g) (rest : IsRes
           let less = next.2 none in
           omega (arith, rank-done x done.0 done.1, rank-done y next.0 next.1)
 
+  -- the entry that is noted at the end is the least one on a cycle
   pub found_least : (l : ℕ) → s.least ≡ Some l → IsLeastOnCycle g l
   found_least l some = record {
     on_cycle = rest.search.least_on l some;

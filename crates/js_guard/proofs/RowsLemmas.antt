@@ -49,6 +49,7 @@ row_of-new ts us r s e =
     let size : length us ≤ r.end - r.start = omega (arith, length-append ts us) in
     ap (take (r.end - r.start)) (drop_at ts us r.start (sym s)) ∙ take_all (r.end - r.start) us size
 
+-- where a row is pushed with its targets, the lists are those of before and then its targets
 pub rows_of-push : (ts us : List ℕ) (rows : List Row) (r : Row) → every (is_inside (length ts)) rows ≡ true
     → r.start ≡ length ts → r.end ≡ length (ts ++ us)
     → rows_of (rows ++ r ∷ []) (ts ++ us) ≡ rows_of rows ts ++ us ∷ []

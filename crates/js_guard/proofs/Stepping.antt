@@ -8,7 +8,7 @@ use Rattle.js_guard.specs.declared.search.Mark.TheVariants.{New, Open, Done}
 use Rattle.js_guard.specs.declared.search.Turn.{Turn}
 use Rattle.js_guard.specs.declared.search.Search.{Search}
 use Rattle.js_guard.specs.Rows.{AreClosed}
-use Rattle.js_guard.specs.Searching.{mark, is_new, count_new, at, noted, Reaches, IsPassed, IsSearch}
+use Rattle.js_guard.specs.Searching.{mark, count_new, at, noted, Reaches, IsPassed, IsSearch}
 use Rattle.js_guard.specs.Steps.{IsSearchWith, Keeps, work, Enters, PassesAt, PassesEdges, ClosesLast, Leaves}
 use Rattle.js_guard.proofs.Turns.{Reaches-join, Reaches-edge, turn-within, open-inside, reach-turn}
 use Rattle.js_guard.proofs.Entering.{entered, entered-keeps, entered-fewer}
@@ -191,16 +191,7 @@ module _ (g : List (List ℕ)) (s s' : Search) (P : List Turn) (p n : ℕ)
         | inr c ↦ leaving-last c
       ]
 
-  pub leaving-work : Leaves s s' p → work s' ≡ work s
-  leaving-work h =
-      elim h [
-        | inl (same, inner) ↦ ap work same
-        | inr c ↦
-            let counted = c.closes.counted (λ i low high. ap is_new (search.open_marked i high)) in
-            omega (arith, ap (λ v. length v.items) c.path)
-      ]
-
--- edges are passed up to one that leads to a new entry, which is entered: s, t, u and v are what stands before that,
+-- edges are passed up to one that leads to a new entry, which is entered: s, t, u and v are what comes before that,
 -- after it, with the turn put back, and in the end
 module _ (g : List (List ℕ)) (s t u v : Search) (p n x : ℕ) (closed_g : AreClosed g) (e : PassesEdges g s t p n)
     (same : u ≡ record t { path = u.path }) (pushed : u.path.items ≡ t.path.items ++ turn p n ∷ [])
@@ -261,12 +252,3 @@ module _ (g : List (List ℕ)) (s t v : Search) (p n : ℕ) (e : PassesEdges g s
         search = on.search;
         keeps = λ y h. subst (λ m. mark m.items y ≡ New) e.marks (on.keeps y h);
       }
-
-  pub turned-last-work : work v ≤ work s
-  turned-last-work =
-      omega (
-        arith,
-        leaving-work g t v s.path.items p n e.search (ap (λ q. q.items) e.path) over leaves,
-        ap (λ m. count_new m.items) e.marks,
-        ap (λ q. length q.items) e.path,
-      )

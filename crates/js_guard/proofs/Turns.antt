@@ -1,4 +1,4 @@
--- What a search knows of the entry whose turn it is: it stands in the last group, and each open entry leads to it.
+-- What a search knows of the entry whose turn it is: it is in the last group, and each open entry leads to it.
 use Rattle.std.proofs.Common.{◌≡◌, ℕ, suc, ◌+◌, ◌<◌, ◌≤◌, ◌⊎◌, ◌≢◌, List, [], ◌∷◌, ◌++◌, length, inl, inr, true, Option, refl, sym, ap, ◌∙◌, subst, arith}
 use Rattle.std.proofs.lemmas.Bool.{cases_lt}
 use Rattle.std.proofs.lemmas.List.{get_or_past}

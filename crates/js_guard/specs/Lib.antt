@@ -1,4 +1,4 @@
--- What a reader must believe stands in `schemas`: in-place edges, the cycle that is reported, and ranks. Here are the
+-- What a reader must believe is in `schemas`: in-place edges, the cycle that is reported, and ranks. Here are the
 -- entries of a schema with ranks, and what the guard answers.
 pub mod RankedView
 pub mod Answer

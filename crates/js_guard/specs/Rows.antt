@@ -1,4 +1,4 @@
--- Lists that stand one after another in one list.
+-- Lists that come one after another in one list.
 use Rattle.std.specs.Prelude.{◌≡◌, ℕ, ◌-◌, ◌<◌, List, map, length, take, drop, Bool, ◌&&◌, nat_le, true}
 use Rattle.schemas.specs.Guarded.{targets, is_among}
 use Rattle.js_guard.specs.declared.edges.Row.{Row}

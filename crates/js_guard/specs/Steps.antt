@@ -64,7 +64,7 @@ pub record Finishes (s s' : Search) (x : ℕ) (circular : Bool) : Type 0 where
   pub least : s'.least ≡ least_with circular s.least x
 
 -- with the marks M, the open entries S, `done` entries that are done and the least on a cycle, the open entries from
--- place p on and before place u are done, and M', done' and least' are what stands then
+-- place p on and before place u are done, and M', done' and least' are what there is then
 pub record IsClosed (M : List Mark) (S : List ℕ) (done : ℕ) (least : Option ℕ) (M' : List Mark) (done' : ℕ)
     (least' : Option ℕ) (p u : ℕ) : Type 0 where
   pub more_done : done' ≡ done + (u - p)

@@ -9,7 +9,7 @@ use js_schema::{DependencyList, EntryList, Form, Keywords, Needs, Schema};
 use std::alloc::Global;
 use std::marker::Model;
 
-/// Where the targets of an entry stand among those of all entries.
+/// Where the targets of an entry are among those of all entries.
 #[derive(Clone, Copy)]
 pub(crate) struct Row {
     start: usize,

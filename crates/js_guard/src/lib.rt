@@ -1,7 +1,7 @@
 //! Whether the entries of a schema apply to the same document in a circle.
 //!
 //! `guard` gives each entry a rank that falls along every in-place edge, or reports a cycle. What a cycle is and which
-//! one is reported stands in `schemas` (`Guarded`), what an answer means in `specs/Answer.antt`. The validator and the
+//! one is reported is in `schemas` (`Guarded`), what an answer means in `specs/Answer.antt`. The validator and the
 //! normal form go down by ranks: they take a `RankedSchema`.
 #![tactic(auto)]
 

@@ -1,6 +1,6 @@
 //! One search along all edges, which gives each entry a rank, or finds the least entry on a cycle.
 //!
-//! Entries are open from when they are met until all that they lead to is done. Open entries stand in groups: those of
+//! Entries are open from when they are met until all that they lead to is done. Open entries are in groups: those of
 //! one group lead to each other, so where a group has two entries, or an edge leads back into it, they lie on cycles.
 //! These are the strong components of the edges, found along a path with two stacks (H. N. Gabow, 2000).
 //! Nothing recurses from entry to entry: `path` holds the entries whose edges are being followed. Each edge is looked
@@ -19,7 +19,7 @@ use std::alloc::Global;
 #[derive(Clone, Copy)]
 pub(crate) enum Mark {
     New,
-    /// The entry stands among the open ones, at this place.
+    /// The entry is among the open ones, at this place.
     Open(u32),
     /// All that it leads to is done, and this many entries were done before it.
     Done(u32),

@@ -24,5 +24,6 @@ finds-tree_or : (r : Result Tree PatternFault) (w : List ℕ) → finds (tree_or
 finds-tree_or (Ok t) w = refl
 finds-tree_or (Err f) w = nothing_ends w (length w)
 
+-- a tree of a text is found where the text is found by the rules of reading
 pub finds-tree_of : (λ t. finds (tree_of t)) ≡ finds_text rules
 finds-tree_of = fun_ext (λ t. fun_ext (λ w. finds-tree_or (pattern t) w))

@@ -18,6 +18,7 @@ read-false = refl
 pub IsReadAs-false : IsReadAs (boolean false) nothing
 IsReadAs-false = record { well_formed = refl; entries = read-false }
 
+-- no document is valid for the value `false`
 pub valid-false : (J : Document) → valid rules (boolean false) J ≡ false
 unfolding valid is_met
 valid-false J = refl

@@ -21,7 +21,7 @@ use Rattle.normal_laws.proofs.Meaning.{normal-valid}
 use Rattle.js_json.specs.declared.fault.RefFault.{RefFault}
 use Rattle.js_pattern.specs.declared.fault.PatternFault.{PatternFault}
 use Rattle.js_keywords.specs.Reading.{rules}
-use Rattle.js_schema.proofs.Soundness.{rules_sound, is_table-read}
+use Rattle.js_reader.proofs.Soundness.{rules_sound, is_table-read}
 use Rattle.js_normal.specs.PatternTrees.{tree_of}
 use Rattle.js_inclusion.specs.Comparison.{core_of}
 use Rattle.js_inclusion.specs.Meaning.{IsReadAs}

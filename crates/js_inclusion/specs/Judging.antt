@@ -8,7 +8,7 @@ use Rattle.js_certificate.specs.declared.file.FileFault.{FileFault}
 use Rattle.js_certificate.specs.declared.file.FileFault.TheVariants.{Memory}
 use Rattle.js_inclusion.specs.Comparison.{judgement}
 
--- it is the judgement on the bytes of the file; where files aren't told, on some bytes
+-- it is the judgement on the bytes of the file; where files aren't known, on some bytes
 abbrev pub IsJudgementOf : List Entry → List Entry → Option Files → List ℕ → FileVerdict → Type 0
 IsJudgementOf es fs told name v =
     (bytes : List ℕ) × HasBytes told name bytes × (judgement es fs bytes ≡ verdict_view v)

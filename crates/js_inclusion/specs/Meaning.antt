@@ -43,7 +43,7 @@ pub record StopsSearch (es fs : List Entry) (kind : LimitKind) (goal : Option (L
 abbrev pub PassesCount : List Entry → List Entry → LimitKind → Option (List Signed) → Type 0
 PassesCount es fs kind goal = IsCounted (both es fs) 0 (second_root es) (Limit kind goal)
 
--- where a limit is the verdict, so it is
+-- where a limit is the verdict, its count is over its number
 abbrev pub AreCounted : List Entry → List Entry → Verdict → Type 0
 AreCounted es fs v = IsCounted (both es fs) 0 (second_root es) v
 

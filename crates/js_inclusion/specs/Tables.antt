@@ -1,4 +1,4 @@
--- Schemas whose core tables are small enough for two of them to stand in one.
+-- Schemas whose core tables are small enough for two of them to be in one.
 use Rattle.std.specs.Prelude.{◌≡◌, ◌<◌, ◌^◌, List, length, true}
 use Rattle.schemas.specs.Entry.{Entry}
 use Rattle.schemas.specs.Schema.{is_table}

@@ -40,7 +40,7 @@ pub fn judge_file<R: Threads + Sync, G: Gate + Sync, H: Shelf>(
     ensures read { IfOk result (IsReadFor (H.told shelf.old) (encode_utf8_all name.now) (H.left shelf.new)
         workers.now.count) }
     ensures unrejected { IfErr result (FailsUnrejected (judgement (entries_of a.now) (entries_of b.now))
-        (H.told shelf.old) (encode_utf8_all name.now) (H.left shelf.new)) }
+        (H.told shelf.old) (encode_utf8_all name.now) (H.is_begun shelf.new) (H.left shelf.new)) }
     ensures begun { Begins result (encode_utf8_all name.now) (H.begun shelf.old) (H.begun shelf.new) }
 
     // What is accepted is right, whoever wrote it.

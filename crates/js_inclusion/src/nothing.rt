@@ -8,7 +8,7 @@ ghost use Rattle.js_inclusion.specs.Nothing.{nothing};
 
 use js_doc::{Json, Memory};
 use js_guard::{Guarded, RankedSchema, guard};
-use js_schema::read_schema;
+use js_reader::read_schema;
 use std::alloc::Global;
 
 /// The schema of the value `false`.

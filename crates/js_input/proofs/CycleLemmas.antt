@@ -1,4 +1,4 @@
--- The entries of a cycle that is told are entries of the table.
+-- The entries of a cycle that is reported are entries of the table.
 use Rattle.std.proofs.Common.{◌≡◌, ℕ, zero, suc, ◌<◌, List, [], ◌∷◌, length, get_or, true, true≢false, sym, subst, arith}
 use Rattle.std.proofs.Math.ListN.{length-map}
 use Rattle.schemas.specs.Entry.{Entry}
@@ -24,6 +24,7 @@ IsLeastCycle-below : (g : List (List ℕ)) (l : List ℕ) → IsLeastCycle g l �
 IsLeastCycle-below g [] h i k = absurd h
 IsLeastCycle-below g (x ∷ xs) h i k = GoesBack-below g x x xs h.1 i k
 
+-- each entry of the least cycle is an entry of the table
 pub cycle-below : (es : List Entry) (l : List ℕ) → IsLeastCycle (edges es) l → (i : ℕ) → i < length l
     → get_or l i 0 < length es
 cycle-below es l h i k =

@@ -10,6 +10,7 @@ use Rattle.js_input.specs.Saying.{EntriesSay, ValueSays}
 use Rattle.js_input.specs.declared.schema.SchemaInput.{SchemaInput}
 use Rattle.js_input.specs.declared.schema.SchemaInput.TheVariants as S
 
+-- an answer that is right for the entries that a value is read as is right for the value
 pub ValueSays-entries : (j : Json) (es : List Entry) (input : SchemaInput) → is_json j ≡ true → read rules j ≡ Ok es
     → EntriesSay es input → ValueSays j input
 ValueSays-entries j es (S.Read s) w e says = (

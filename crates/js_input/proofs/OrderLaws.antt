@@ -1,24 +1,12 @@
 -- What was begun is in the order of the names, and what a missing name says of it.
-use Rattle.std.proofs.Common.{◌≡◌, inl, inr, ℕ, ◌+◌, ◌<◌, List, [], ◌∷◌, ◌++◌, cond, Option, Some, None, refl, ap, sym, ◌∙◌, arith, append_assoc, append-nil, zero-add, encode_utf8_all}
+use Rattle.std.proofs.Common.{◌≡◌, inl, inr, ℕ, ◌+◌, ◌<◌, List, [], ◌∷◌, ◌++◌, cond, Option, Some, None, refl, ap, sym, ◌∙◌, arith, append_assoc, zero-add}
 use Rattle.std.specs.Prelude.{is_none}
 use Rattle.std.specs.List.{count_by}
 use Rattle.std.proofs.lemmas.List.Sums.{sum_by-append}
 use Rattle.js_outside.specs.Counts.{last_count, Rose}
 use Rattle.js_outside.specs.Told.{Files, CountsMisses}
-use Rattle.js_guard.specs.declared.ranked.RankedSchema.{RankedSchema}
-use Rattle.js_input.specs.Saying.{LoadsSchema}
 use Rattle.js_input.specs.OrderOfFiles.{IsSchemaOn, AreInOrder, BeginsInOrder, Misses}
 use Rattle.js_input.specs.declared.schema.SchemaInput.TheVariants as S
-
--- nothing was begun
-pub begins_none : (told : Option Files) (names before after : List (List ℕ)) → after ≡ before
-    → BeginsInOrder told names before after
-begins_none told names before after same = ([], same ∙ sym (append-nil before), tt)
-
--- the first file was begun
-pub begins_one : (told : Option Files) (name : List ℕ) (names before after : List (List ℕ))
-    → after ≡ before ++ name ∷ [] → BeginsInOrder told (name ∷ names) before after
-begins_one told name names before after begun = (name ∷ [], begun, refl)
 
 -- the first file was begun and is a schema, and then the second was begun
 pub begins_two : (told : Option Files) (name second : List ℕ) (names before mid after : List (List ℕ))
@@ -29,11 +17,6 @@ begins_two told name second names before mid after begun then is = (
   then ∙ ap (λ l. l ++ second ∷ []) begun ∙ append_assoc before (name ∷ []) (second ∷ []),
   (refl, is, refl),
 )
-
--- a schema that was loaded
-pub loaded_schema : (told : Option Files) (name : List ℕ) (before after : ℕ) (s : RankedSchema)
-    → LoadsSchema told name before after (Some (S.Read s)) → IsSchemaOn told (encode_utf8_all name)
-loaded_schema told name before after s (same, (bytes, has, (j, is, of))) = (bytes, has, (j, is))
 
 -- a name that isn't there was begun, so it is missing and each before it is a schema
 

@@ -1,12 +1,12 @@
 -- The bytes of a file have one reading as a document, whether they hold JSON text or parts; and what calls that read
 -- one of the two say of a file.
-use Rattle.std.proofs.Common.{◌≡◌, ℕ, ◌≤◌, ◌<◌, List, length, Bool, true, false, nat_lt, cond, refl, ap, sym, ◌∙◌, subst, codes}
-use Rattle.std.proofs.lemmas.Bool.{lt-ltb, le-ltb}
+use Rattle.std.proofs.Common.{◌≡◌, ℕ, ◌≤◌, ◌<◌, List, length, Bool, true, false, nat_lt, cond, ap, sym, ◌∙◌, subst, codes}
+use Rattle.std.proofs.lemmas.Bool.{le-ltb}
 use Rattle.document_text_laws.proofs.ReadLaws.{read-same, fault-same}
 use Rattle.js_json.specs.Value.{value_of}
 use Rattle.js_report.specs.WholeFile.{longest_file}
 use Rattle.js_input.specs.DocumentReading.{DocumentReading, RefusedDocument, ReadDocument, json_text, of_value, document_reading, begins_parts, parts_words, last_document, IsPartsReading, IsReadingOfParts, IsReadingBegun, IsDocumentReading}
-use Rattle.js_input.specs.Saying.{DocumentSays, TextSays, DocumentValueSays, PartsSay}
+use Rattle.js_input.specs.Saying.{TextSays, DocumentValueSays}
 use Rattle.js_input.specs.declared.document.DocumentInput.{DocumentInput}
 use Rattle.js_input.specs.declared.document.DocumentInput.TheVariants as D
 
@@ -30,25 +30,12 @@ begun-one : (b : Bool) (bytes : List ℕ) (r s : DocumentReading) → IsReadingB
 begun-one true bytes r s h k = length-one (nat_lt longest_file (length bytes)) bytes r s h k
 begun-one false bytes r s h k = h ∙ sym k
 
+-- two readings of the same bytes as a document are the same
 pub IsDocumentReading-one : (bytes : List ℕ) (r s : DocumentReading) → IsDocumentReading bytes r
     → IsDocumentReading bytes s → r ≡ s
 IsDocumentReading-one bytes r s h k = begun-one (begins_parts bytes) bytes r s h k
 
 -- ---- JSON text, and a file that is too long
-
-pub IsDocumentReading-text : (bytes : List ℕ) (r : DocumentReading) → begins_parts bytes ≡ false
-    → document_reading bytes ≡ r → IsDocumentReading bytes r
-IsDocumentReading-text bytes r other is = subst (λ b. IsReadingBegun b bytes r) (sym other) (sym is)
-
-pub IsDocumentReading-too_long : (bytes : List ℕ) → longest_file < length bytes
-    → IsDocumentReading bytes (RefusedDocument (codes "toolong"))
-IsDocumentReading-too_long bytes long = go (begins_parts bytes) where
-  test : nat_lt longest_file (length bytes) ≡ true
-  test = lt-ltb longest_file (length bytes) long
-
-  go : (b : Bool) → IsReadingBegun b bytes (RefusedDocument (codes "toolong"))
-  go true = subst (λ t. IsReadingOfParts t bytes (RefusedDocument (codes "toolong"))) (sym test) refl
-  go false = rw test refl
 
 -- ---- parts
 
@@ -73,16 +60,3 @@ pub TextSays-value : (bytes text : List ℕ) (input : DocumentInput) → length 
 TextSays-value bytes text (D.Read d) short is (read, well) = (reading-value bytes text short is ∙ read, well)
 TextSays-value bytes text (D.Parts ps) short is says = absurd says
 TextSays-value bytes text (D.Refused words) short is read = reading-value bytes text short is ∙ read
-
-pub DocumentSays-text : (bytes : List ℕ) (input : DocumentInput) → begins_parts bytes ≡ false → TextSays bytes input
-    → DocumentSays bytes input
-DocumentSays-text bytes (D.Read d) other (is, well) = (IsDocumentReading-text bytes _ other is, well)
-DocumentSays-text bytes (D.Parts ps) other says = absurd says
-DocumentSays-text bytes (D.Refused words) other is = IsDocumentReading-text bytes _ other is
-
-pub DocumentSays-parts : (bytes : List ℕ) (input : DocumentInput) → begins_parts bytes ≡ true
-    → length bytes ≤ longest_file → PartsSay bytes input → DocumentSays bytes input
-DocumentSays-parts bytes (D.Read d) begins short says = absurd says
-DocumentSays-parts bytes (D.Parts ps) begins short is =
-    (IsDocumentReading-parts bytes _ begins short (ps, is, refl), is)
-DocumentSays-parts bytes (D.Refused words) begins short says = IsDocumentReading-parts bytes _ begins short says

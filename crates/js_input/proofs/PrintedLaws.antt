@@ -13,9 +13,9 @@ use Rattle.js_json.proofs.DocumentsLemmas.{unwhole_places-json_of}
 use Rattle.js_json.specs.Value.{value_of}
 use Rattle.js_report.specs.WholeFile.{longest_file}
 use Rattle.text_laws.proofs.TextLaws.{value_of-line}
-use Rattle.js_input.specs.DocumentReading.{DocumentReading, ReadDocument, RefusedDocument, of_value, document_reading, begins_parts, last_document, IsDocumentReading}
+use Rattle.js_input.specs.DocumentReading.{ReadDocument, RefusedDocument, of_value, document_reading, begins_parts, last_document, IsDocumentReading}
 use Rattle.js_input.proofs.DocumentReadingLemmas.{of_unwhole-whole}
-use Rattle.js_input.proofs.PartsReadingLemmas.{IsDocumentReading-one, IsDocumentReading-text, IsDocumentReading-parts}
+use Rattle.js_input.proofs.PartsReadingLemmas.{IsDocumentReading-parts}
 
 -- the lines of a document that is printed plain
 abbrev pub plain_lines : Document → List ℕ
@@ -35,11 +35,6 @@ document_reading-plain d is short shallow fits =
     ∙ ap of_value (value_of-line d is short shallow)
     ∙ of_unwhole-whole (json_of_document d) d refl (unwhole_places-json_of d)
 
-pub IsDocumentReading-plain : (d : Document) → is_document d ≡ true → has_short_numbers d ≡ true → depth d ≤ 127
-    → length (document_text d) + 10 ≤ longest_file → IsDocumentReading (plain_lines d) (ReadDocument d)
-IsDocumentReading-plain d is short shallow fits =
-    IsDocumentReading-text (plain_lines d) (ReadDocument d) refl (document_reading-plain d is short shallow fits)
-
 -- The text of a table is read back as the document of its last part, where it is no longer than a file may be.
 pub IsDocumentReading-table : (ps : List Part) (bytes : List ℕ) → IsRead ps bytes → length bytes ≤ longest_file
     → IsDocumentReading bytes (ReadDocument (last_document ps))
@@ -48,9 +43,3 @@ IsDocumentReading-table ps bytes read fits =
   where
     begins : (ps : List Part) (bytes : List ℕ) → parts_text ps ≡ bytes → begins_parts bytes ≡ true
     begins ps bytes is = subst (λ b. begins_parts b ≡ true) is refl
-
--- and as no other
-pub IsDocumentReading-only : (ps : List Part) (bytes : List ℕ) (r : DocumentReading) → IsRead ps bytes
-    → length bytes ≤ longest_file → IsDocumentReading bytes r → r ≡ ReadDocument (last_document ps)
-IsDocumentReading-only ps bytes r read fits is =
-    IsDocumentReading-one bytes r (ReadDocument (last_document ps)) is (IsDocumentReading-table ps bytes read fits)

@@ -1,5 +1,5 @@
 -- The bytes of a file have one reading as a schema; and what follows where they are read.
-use Rattle.std.proofs.Common.{◌≡◌, ℕ, List, length, Bool, true, false, nat_lt, Option, Some, None, Result, Ok, Err, refl, ap, sym, ◌∙◌, subst}
+use Rattle.std.proofs.Common.{◌≡◌, ℕ, List, length, Bool, true, false, nat_lt, Option, Some, None, Result, Ok, Err, ap, sym, ◌∙◌}
 use Rattle.documents.specs.Json.{Json}
 use Rattle.documents.specs.WellFormed.{is_json}
 use Rattle.schemas.specs.Fault.{Fault}
@@ -9,7 +9,6 @@ use Rattle.schemas.specs.Guarded.{edges, IsGuarded}
 use Rattle.schema_laws.proofs.Ways.{IsLeastCycle-one, IsLeastCycle-unguarded}
 use Rattle.js_json.specs.Value.{value_of}
 use Rattle.js_json.specs.declared.fault.RefFault.{RefFault}
-use Rattle.js_json.proofs.ValueLemmas.{is_json-value_of}
 use Rattle.js_pattern.specs.declared.fault.PatternFault.{PatternFault}
 use Rattle.js_keywords.specs.Reading.{rules}
 use Rattle.js_report.specs.RefusalWords.{cycle_words}
@@ -39,6 +38,7 @@ length-one : (b : Bool) (v : Option Json) (r s : Reading) → IsReadingOf b v r 
 length-one true v r s h k = h ∙ sym k
 length-one false v r s h k = value-one v r s h k
 
+-- two readings of the same bytes as a schema are the same
 pub IsSchemaReading-one : (bytes : List ℕ) (r s : Reading) → IsSchemaReading bytes r → IsSchemaReading bytes s → r ≡ s
 IsSchemaReading-one bytes r s h k = length-one (nat_lt longest_file (length bytes)) (value_of bytes) r s h k
 
@@ -49,21 +49,3 @@ pub record IsGuardedValue (j : Json) : Type 0 where
   pub entries : List Entry
   pub is_read : read rules j ≡ Ok entries
   pub guarded : IsGuarded (edges entries)
-
-result-guarded : (j x : Json) (o : Result (List Entry) (Fault PatternFault RefFault)) → read rules j ≡ o
-    → is_json j ≡ true → IsReadingOfResult j o (Read x) → IsGuardedValue x
-result-guarded j x (Ok es) e w h =
-    subst IsGuardedValue (sym h.0) (record { well_formed = w; entries = es; is_read = e; guarded = h.1 })
-result-guarded j x (Err f) e w h = cc
-
-value-guarded : (bytes : List ℕ) (x : Json) (v : Option Json) → value_of bytes ≡ v → IsReadingOfValue v (Read x)
-    → IsGuardedValue x
-value-guarded bytes x (Some j) e h = result-guarded j x (read rules j) refl (is_json-value_of bytes j e) h
-value-guarded bytes x None e h = cc
-
-length-guarded : (bytes : List ℕ) (x : Json) (b : Bool) → IsReadingOf b (value_of bytes) (Read x) → IsGuardedValue x
-length-guarded bytes x true h = cc
-length-guarded bytes x false h = value-guarded bytes x (value_of bytes) refl h
-
-pub IsSchemaReading-guarded : (bytes : List ℕ) (x : Json) → IsSchemaReading bytes (Read x) → IsGuardedValue x
-IsSchemaReading-guarded bytes x h = length-guarded bytes x (nat_lt longest_file (length bytes)) h

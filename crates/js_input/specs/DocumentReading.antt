@@ -21,11 +21,11 @@ pub data DocumentReading : Type 0 where
 abbrev pub document_line : List ℕ
 document_line = codes "document" ++ 10 ∷ []
 
--- the JSON text of a file: what stands after the line, where the file begins with it, and else all of the file
+-- the JSON text of a file: what comes after the line, where the file begins with it, and else all of the file
 abbrev pub json_text : List ℕ → List ℕ
 json_text bytes = cond (starts_with nat_eq bytes document_line) (drop (length document_line) bytes) bytes
 
--- the first number that isn't whole is told
+-- the first number that isn't whole is reported
 abbrev pub of_unwhole : Json → List (List (List ℕ)) → DocumentReading
 of_unwhole j [] = ReadDocument (document_of j)
 of_unwhole j (p ∷ ps) = RefusedDocument (placed_words (codes "notwhole") p)

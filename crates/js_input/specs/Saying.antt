@@ -30,12 +30,12 @@ abbrev pub SchemaSays : List ℕ → SchemaInput → Type 0
 SchemaSays bytes (S.Read s) = (j : Json) × IsSchemaReading bytes (Read j) × IsSchemaOf s j
 SchemaSays bytes (S.Refused words) = IsSchemaReading bytes (Refused (string_bytes words))
 
--- the same of a value
+-- what a value is read as, as a schema
 abbrev pub ValueSays : Json → SchemaInput → Type 0
 ValueSays j (S.Read s) = IsReadingOfResult j (read rules j) (Read j) × IsSchemaOf s j
 ValueSays j (S.Refused words) = IsReadingOfResult j (read rules j) (Refused (string_bytes words))
 
--- and of entries, whatever value has them
+-- what entries are read as, whatever value has them
 abbrev pub EntriesSay : List Entry → SchemaInput → Type 0
 EntriesSay es (S.Read s) = ((j : Json) → IsReadingOfEntries j es (Read j)) × (entries_of s ≡ es)
 EntriesSay es (S.Refused words) = (j : Json) → IsReadingOfEntries j es (Refused (string_bytes words))
@@ -46,7 +46,7 @@ DocumentSays bytes (D.Read d) = IsDocumentReading bytes (ReadDocument (view d)) 
 DocumentSays bytes (D.Parts ps) = IsDocumentReading bytes (ReadDocument (last_document ps)) × IsRead ps bytes
 DocumentSays bytes (D.Refused words) = IsDocumentReading bytes (RefusedDocument (string_bytes words))
 
--- the same of bytes that hold JSON text
+-- what bytes that hold JSON text are read as, as a document
 abbrev pub TextSays : List ℕ → DocumentInput → Type 0
 TextSays bytes (D.Read d) = (document_reading bytes ≡ ReadDocument (view d)) × (is_document (view d) ≡ true)
 TextSays bytes (D.Parts ps) = ⊥

@@ -17,7 +17,7 @@ pub data Reading : Type 0 where
   Refused : List ℕ → Reading
   Read : Json → Reading
 
--- entries that no cycle leads through are read, and else the cycle that is told is refused. There is one such cycle
+-- entries that no cycle leads through are read, and else the cycle that is reported is refused. There is one such cycle
 abbrev pub IsReadingOfEntries : Json → List Entry → Reading → Type 0
 IsReadingOfEntries j es (Read x) = (x ≡ j) × IsGuarded (edges es)
 IsReadingOfEntries j es (Refused words) = (l : List ℕ) × IsLeastCycle (edges es) l × (words ≡ cycle_words es l)
@@ -35,6 +35,6 @@ abbrev pub IsReadingOf : (is_too_long : Bool) → Option Json → Reading → Ty
 IsReadingOf true v r = r ≡ Refused (codes "toolong")
 IsReadingOf false v r = IsReadingOfValue v r
 
--- its length first, then its JSON, then its first fault, then the cycle that is told
+-- its length first, then its JSON, then its first fault, then the cycle that is reported
 abbrev pub IsSchemaReading : List ℕ → Reading → Type 0
 IsSchemaReading bytes r = IsReadingOf (nat_lt longest_file (length bytes)) (value_of bytes) r

@@ -2,7 +2,7 @@
 //!
 //! The length comes first. Bytes that begin with the word `parts` are then read as a table of parts. Others may have
 //! the line `document`; then the JSON text after it is read, as a document at once, or its first number that isn't
-//! whole is told.
+//! whole is reported.
 
 ghost use Rattle.std.specs.Prelude.{◌≡◌, ◌≤◌, length, IfOk};
 ghost use Rattle.js_json.specs.Value.{value_of};
@@ -80,7 +80,7 @@ fn read_json_text(alloc: Global, text: &[u8]) -> Result<DocumentInput, Memory>
     }
 }
 
-/// What stands after the line `document`, where the bytes begin with it, and else all of them.
+/// What comes after the line `document`, where the bytes begin with it, and else all of them.
 fn json_text(bytes: &[u8]) -> &[u8]
     ensures { result.now ≡ json_text bytes.now }
 {

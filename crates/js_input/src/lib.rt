@@ -1,7 +1,7 @@
 //! Files as schemas and as documents, or the words of their refusal.
 //!
 //! `specs/SchemaReading.antt` and `specs/DocumentReading.antt` say what the bytes of a file are read as. A schema that
-//! is read comes with its ranks, so what stands above can go down by them. Reading costs what the readers of JSON and of
+//! is read comes with its ranks, so the crates above can go down by them. Reading costs what the readers of JSON and of
 //! schemas cost, and memory in proportion to the bytes. The commands stand on this crate.
 #![tactic(auto)]
 

@@ -1,7 +1,7 @@
 //! Schemas from bytes.
 //!
 //! The length comes first, then the JSON text, then the first fault of the schema, and then the cycle of entries that
-//! are asked of the same document.
+//! are applied to the same document.
 
 ghost use Rattle.std.specs.Prelude.{IfOk};
 ghost use Rattle.js_doc.specs.JsonView.{view};
@@ -12,8 +12,9 @@ use js_doc::{Json, Memory};
 use js_guard::{Guarded, RankedSchema, guard};
 use js_json::{JsonFault, read_json};
 use js_keywords::SchemaFault;
+use js_reader::read_schema;
 use js_report::{LONGEST_FILE, cycle_words, schema_words};
-use js_schema::{Schema, read_schema};
+use js_schema::Schema;
 use std::alloc::Global;
 
 /// What the bytes of a schema file are read as.

@@ -13,7 +13,7 @@ use Rattle.documents.specs.WellFormed.{is_json, are_items, are_members, is_befor
 use Rattle.js_doc.proofs.Scalars.{every-chars}
 use Rattle.js_doc.proofs.WordOrder.{comes_before-chars}
 
--- what there is, if anything, is so
+-- the property holds of what there is, if anything
 abbrev pub Given : {A : Type 0} → (A → Type 0) → Option A → Type 0
 Given P None = Unit {0}
 Given P (Some a) = P a
@@ -48,7 +48,7 @@ abbrev mutual
   TextsOfMembers T.no_members = Unit {0}
   TextsOfMembers (T.member k j ms) = IsUtf8 k × TextsOf j × TextsOfMembers ms
 
--- ---- and so are those of data, where names ascend
+-- ---- the texts of data are UTF-8, and names ascend
 
 abbrev Below : List ℕ → Members → Type 0
 Below k no_members = Unit {0}
@@ -146,6 +146,7 @@ is_before-json_members k no_members u below h = refl
 is_before-json_members k (member l e ms) u below h = comes_before-chars k l u h.0 below
 
 mutual
+  -- the value of data whose texts are UTF-8 and whose names ascend is well formed
   pub is_json-json_of : (d : Data) → IsRead d → is_json (json_of d) ≡ true
   is_json-json_of null h = refl
   is_json-json_of (boolean b) h = refl

@@ -62,7 +62,7 @@ first_under : (token : List ℕ) (places later : List (List (List ℕ))) (place 
 first_under token [] later place e = cc
 first_under token (p ∷ places) later place e = let same : p ≡ place = cc in ap (λ q. Some (token ∷ q)) same
 
--- the same for places that are told from the inside out
+-- the first of places with a token in front, where places are given from the inside out
 pub first_under-reverse : (token : List ℕ) (places later : List (List (List ℕ))) (old new : List (List ℕ))
     → slice_get places 0 ≡ Some (reverse old) → new ≡ old ++ token ∷ []
     → slice_get (map (λ p. token ∷ p) places ++ later) 0 ≡ Some (reverse new)

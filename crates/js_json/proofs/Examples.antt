@@ -18,7 +18,7 @@ repeated : value_of (codes "{\"a\":1,\"a\":2}")
 unfolding json_on_texts
 repeated = refl
 
--- members stand in the order of their names
+-- members are in the order of their names
 ordered : value_of (codes "{\"b\":1,\"a\":true}")
     ≡ Some (object (member (codes "a") (boolean true) (member (codes "b") (number (pos 1)) no_members)))
 unfolding json_on_texts
@@ -76,7 +76,7 @@ escapes : quoted (pointer_text (codes "a/b" ∷ codes "~" ∷ codes "\"x\"" ∷ 
 unfolding json_on_texts
 escapes = refl
 
--- the escapes come before those of JSON, and what is not ASCII stands as it is
+-- the escapes come before those of JSON, and what is not ASCII is kept as it is
 line_feed : quoted (pointer_text ((233 ∷ 10 ∷ 31 ∷ []) ∷ []))
     ≡ codes "\"/" ++ 195 ∷ 169 ∷ codes "\\n\\u001f\""
 unfolding json_on_texts
@@ -97,7 +97,7 @@ fractions =
     object (member (codes "a") (array (item (number (pos 1)) (item (object (member (codes "x/y") not_whole no_members))
     no_items))) (member (codes "b") not_whole no_members))
 
--- places stand in the order of the text, outer tokens first, and names aren't escaped
+-- places are in the order of elements and of names, outer tokens first, and names aren't escaped
 places : unwhole_places fractions ≡ (codes "a" ∷ codes "1" ∷ codes "x/y" ∷ []) ∷ (codes "b" ∷ []) ∷ []
 unfolding json_on_texts
 places = refl
@@ -115,7 +115,7 @@ document : json_of_document
     ≡ object (member (codes "a") (array (item (number (negsuc 0)) no_items)) no_members)
 document = refl
 
--- the file that RFC 6901 resolves its examples in (section 5), but for its numbers' order: names stand in order
+-- the file that RFC 6901 resolves its examples in (section 5), but for its numbers' order: names are in order
 abbrev sample : Json
 sample = object (member [] (number (pos 0)) (member (codes " ") (number (pos 7)) (member (codes "a/b") (number (pos 1))
     (member (codes "c%d") (number (pos 2)) (member (codes "e^f") (number (pos 3))
@@ -204,7 +204,7 @@ other_file : target_of sample (codes "o.json") None ≡ Err Remote
 unfolding json_on_texts percent_encoding_on_literals
 other_file = refl
 
--- the file is asked for first, then the pointer, then the place, then what stands there
+-- the file is looked up first, then the pointer, then the place, then what is there
 bad_pointer : target_of sample (codes "#/foo/~") None ≡ Err BadPointer
 unfolding json_on_texts percent_encoding_on_literals
 bad_pointer = refl

@@ -106,7 +106,7 @@ cut-first bs front back front_utf8 is back_utf8 none =
       sym (ap after_hash all ∙ after_hash-first (chars front) (chars back) clear),
     )
 
--- what stands before and after the first `#`, or all and nothing
+-- what comes before and after the first `#`, or all and nothing
 pub cut-at : (bs : List ℕ) (whole : Bor (List ℕ) × Bor (List ℕ)) (r : Option (Bor (List ℕ) × Bor (List ℕ))) → IsUtf8 bs
     → whole.0.now ≡ bs → whole.1.now ≡ [] → IsSplitOnceResult 35 bs r
     → (chars (unwrap_or r whole).0.now ≡ before_hash (chars bs))

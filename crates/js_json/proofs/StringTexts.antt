@@ -36,7 +36,7 @@ Given-prepend : (bytes : List ℕ) (o : Option (List ℕ)) → IsUtf8 bytes → 
 Given-prepend bytes None u h = tt
 Given-prepend bytes (Some s) u h = IsUtf8-append bytes s u h
 
--- ---- bytes that are not ASCII stand as they are
+-- ---- bytes that are not ASCII are kept as they are
 
 prepend-nil : (o : Option (List ℕ)) → o ≡ prepend [] o
 prepend-nil None = refl

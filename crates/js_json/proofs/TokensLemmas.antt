@@ -41,7 +41,7 @@ token_of_slash cs =
 token_of_wrong : (d : ℕ) (cs : List ℕ) → eqb d 48 ≡ false → eqb d 49 ≡ false → token_of (126 ∷ d ∷ cs) ≡ None
 token_of_wrong d cs zero one = rw (zero, one) refl
 
--- the same for the bytes of the text
+-- the first character, and its token, of the bytes of a text
 module _ (bs rest : List ℕ) (c : ℕ) (utf8 : IsUtf8 bs) (is : bs ≡ encode_utf8 c ++ rest) where
   first_char : chars bs ≡ c ∷ chars rest
   first_char = chars_past_char bs rest c utf8 is
@@ -59,7 +59,7 @@ module _ (bs rest : List ℕ) (c : ℕ) (utf8 : IsUtf8 bs) (is : bs ≡ encode_u
       let test : eqb c 126 ≡ false = grind (arith, nat_tests) in
       (rw first_char (token_of_other c (chars rest) test), shorter, IsUtf8-past_char bs rest c utf8 is)
 
--- a `~`, and what stands after it
+-- a `~`, and what comes after it
 module _ (bs mid rest : List ℕ) (c d : ℕ) (utf8 : IsUtf8 bs) (is : bs ≡ encode_utf8 c ++ mid) (tilde : c ≡ 126)
     (next : mid ≡ encode_utf8 d ++ rest) where
   two_chars : chars bs ≡ 126 ∷ d ∷ chars rest

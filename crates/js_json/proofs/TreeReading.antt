@@ -218,6 +218,12 @@ pub found_with : {V F : Type 0} (f : V → J.Json) (r : Result V F) (v : Option 
 found_with f (Ok x) v o rest e h = e ∙ ap (option_map (λ j. (j, rest))) h
 found_with f (Err y) v o rest e h = tt
 
+pub made_with : {V F : Type 0} (f : V → J.Json) (r : Result V F) (v : Option (J.Json × List Token)) (j : J.Json)
+    (rest : List Token)
+    → v ≡ Some (j, rest) → IfOk r (λ x. f x ≡ j) → IfOk r (λ x. v ≡ Some (f x, rest))
+made_with f (Ok x) v j rest e h = e ∙ ap (λ k. Some (k, rest)) (sym h)
+made_with f (Err y) v j rest e h = tt
+
 pub on_ok : {V F P : Type 0} (r : Result V F) → P → OnOk r P
 on_ok (Ok x) p = p
 on_ok (Err y) p = tt
@@ -366,10 +372,6 @@ whole_at : (o : Option (T.Json × List Token)) (t : T.Json) (j : J.Json) → o �
     → option_map json_of (whole o) ≡ Some j
 whole_at o t j e f = ap (λ x. option_map json_of (whole x)) e ∙ sym (json_of_tree-of_json t) ∙ f
 
-more_at : (o : Option (T.Json × List Token)) (t : T.Json) (k : Token) (r : List Token) → o ≡ Some (t, k ∷ r)
-    → option_map json_of (whole o) ≡ None
-more_at o t k r e = ap (λ x. option_map json_of (whole x)) e
-
 unread_at : (o : Option (T.Json × List Token)) → converted json_of_tree o ≡ None → option_map json_of (whole o) ≡ None
 unread_at None e = refl
 unread_at (Some (t, [])) e = sym (json_of_tree-of_json t) ∙ refused [] (json_of_tree t) e
@@ -381,13 +383,6 @@ module _ (text : List ℕ) where
   whole_read j e =
       let t = converted_some json_of_tree (value max_depth (tokens text)) j [] e in
       whole_at (value max_depth (tokens text)) t.0 j t.1 t.2
-
-  pub whole_and_more : (j : J.Json) (k : Token) (r : List Token)
-      → converted json_of_tree (value max_depth (tokens text)) ≡ Some (j, k ∷ r)
-      → option_map json_of (read text) ≡ None
-  whole_and_more j k r e =
-      let t = converted_some json_of_tree (value max_depth (tokens text)) j (k ∷ r) e in
-      more_at (value max_depth (tokens text)) t.0 k r t.1
 
   pub whole_refused : converted json_of_tree (value max_depth (tokens text)) ≡ None
       → option_map json_of (read text) ≡ None

@@ -1,4 +1,4 @@
--- What the steps of making a document tell of those of its parts.
+-- What the steps of making a document say of those of its parts.
 use Rattle.std.specs.Prelude.{◌≡◌, ℕ, List, [], Some, Result, Ok, Err, reverse, slice_get}
 use Rattle.documents.specs.Json as J
 use Rattle.js_doc.specs.declared.document.Doc.{Doc}
@@ -9,7 +9,7 @@ use Rattle.js_json.specs.declared.fault.JsonFault.{JsonFault}
 use Rattle.js_json.specs.declared.fault.JsonFault.TheVariants.{NotJson, NotWhole, Memory}
 use Rattle.js_json.specs.Documents.{json_of_document, json_of_items, json_of_members, unwhole_places, places_in_items, places_in_members}
 
--- the fault tells the first of the places, its tokens innermost first
+-- the fault names the first of the places, its tokens innermost first
 abbrev pub TellsFirst : List (List (List ℕ)) → JsonFault → Type 0
 TellsFirst places NotJson = ⊥
 TellsFirst places (NotWhole tokens) = slice_get places 0 ≡ Some (reverse tokens)

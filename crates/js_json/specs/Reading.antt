@@ -13,7 +13,7 @@ use Rattle.js_json.specs.Value.{json_number}
 use Rattle.js_json.specs.declared.number.Written.{Written}
 use Rattle.js_json.specs.declared.number.Written.TheVariants.{Whole, NotWhole, TooLarge}
 
--- the members, with the value at its name: the last value of a name stays, and names stand in the order of their bytes
+-- the members, with the value at its name: the last value of a name stays, and names are in the order of their bytes
 abbrev pub put_named : List ℕ → J.Json → List (List ℕ × J.Json) → List (List ℕ × J.Json)
 put_named k j [] = (k, j) ∷ []
 put_named k j (e ∷ es) =
@@ -37,7 +37,7 @@ abbrev mutual
   items_of_tree T.no_items = Some J.no_items
   items_of_tree (T.item t ts) = option_and_then (λ j. option_map (J.item j) (items_of_tree ts)) (json_of_tree t)
 
-  -- with the members so far
+  -- the members of a tree behind those so far, of which a later one takes the place of an earlier one
   pub named_of_tree : T.Members → List (List ℕ × J.Json) → Option (List (List ℕ × J.Json))
   named_of_tree T.no_members so_far = Some so_far
   named_of_tree (T.member k t ms) so_far =
@@ -64,10 +64,10 @@ json_written TooLarge = None
 
 -- ---- the entries of a map, by what their values stand for
 
--- with the bytes of its name
+-- an entry with the bytes of its name
 abbrev pub named_by : {V : Type 0} → (V → J.Json) → String Global × V → List ℕ × J.Json
 named_by f e = (string_bytes e.0, f e.1)
 
--- with its name as scalar values
+-- an entry with its name as scalar values
 abbrev pub spelled_by : {V : Type 0} → (V → J.Json) → String Global × V → List ℕ × J.Json
 spelled_by f e = (chars (string_bytes e.0), f e.1)

@@ -9,12 +9,12 @@ use Rattle.js_json.specs.declared.fault.RefFault.{RefFault}
 use Rattle.js_json.specs.declared.fault.RefFault.TheVariants.{Remote, BadPointer, Missing, NotASchema, Memory}
 use Rattle.documents.specs.Place.{value_at}
 
--- what stands before the first `#`, or all where there is none
+-- what comes before the first `#`, or all where there is none
 abbrev pub before_hash : List ℕ → List ℕ
 before_hash [] = []
 before_hash (c ∷ cs) = if c == 35 then [] else c ∷ before_hash cs
 
--- what stands after the first `#`, or nothing where there is none
+-- what comes after the first `#`, or nothing where there is none
 abbrev pub after_hash : List ℕ → List ℕ
 after_hash [] = []
 after_hash (c ∷ cs) = if c == 35 then cs else after_hash cs
@@ -25,7 +25,7 @@ without_last_hash [] = []
 without_last_hash (c ∷ []) = if c == 35 then [] else c ∷ []
 without_last_hash (c ∷ d ∷ cs) = c ∷ without_last_hash (d ∷ cs)
 
--- what stands before the `#` names this file: nothing does, and so does the file's own `$id`
+-- what comes before the `#` names this file: nothing does, and so does the file's own `$id`
 abbrev pub is_own : List ℕ → Option (List ℕ) → Bool
 is_own [] id = true
 is_own (c ∷ cs) None = false
@@ -38,13 +38,13 @@ decoded fragment =
     then Some (chars (percent_decode (encode_utf8_all fragment)))
     else None
 
--- after each `~` stands `0` or `1`
+-- after each `~` comes `0` or `1`
 abbrev pub are_escapes : List ℕ → Bool
 are_escapes [] = true
 are_escapes (c ∷ []) = not (c == 126)
 are_escapes (c ∷ d ∷ cs) = (not (c == 126) || d == 48 || d == 49) && are_escapes (d ∷ cs)
 
--- each `~` that stands before this digit becomes, with the digit, the one character
+-- each `~` that comes before this digit becomes, with the digit, the one character
 abbrev pub replaced : (digit character : ℕ) → List ℕ → List ℕ
 replaced digit character [] = []
 replaced digit character (c ∷ []) = c ∷ []
@@ -65,7 +65,7 @@ pieces text = slice_split (λ c. c == 47) text
 abbrev pub token_of : List ℕ → Option (List ℕ)
 token_of piece = if are_escapes piece then Some (unescaped piece) else None
 
--- the tokens that stand between slashes
+-- the tokens that are between slashes
 abbrev pub tokens_between : List ℕ → Option (List (List ℕ))
 tokens_between text = if every are_escapes (pieces text) then Some (map unescaped (pieces text)) else None
 

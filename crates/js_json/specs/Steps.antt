@@ -1,4 +1,4 @@
--- What the steps of reading a pointer tell.
+-- What the steps of reading a pointer give.
 use Rattle.std.specs.Prelude.{◌≡◌, ℕ, ◌<◌, List, [], ◌∷◌, length, Option, Some, None, option_map, chars, IsUtf8, Result, Ok, Err}
 use Rattle.js_json.specs.declared.fault.RefFault.{RefFault}
 use Rattle.js_json.specs.declared.fault.RefFault.TheVariants.{Remote, BadPointer, Missing, NotASchema, Memory}

@@ -30,6 +30,6 @@ abbrev mutual
   json_members (R.member k d ms) = J.member (chars k) (json_of d) (json_members ms)
 
 -- The value of a JSON text in UTF-8, and None of anything else. A name that comes twice keeps its last value,
--- and members stand in ascending order of their names.
+-- and members are in ascending order of their names.
 unfoldable pub value_of : List ℕ → Option J.Json
 value_of bytes = if is_utf8 bytes then option_map json_of (read bytes) else None

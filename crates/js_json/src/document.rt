@@ -1,6 +1,6 @@
 //! JSON values made into documents.
 //!
-//! A document is the value itself, where each number in it is whole; else the first number that isn't is told. It
+//! A document is the value itself, where each number in it is whole; else the first number that isn't is reported. It
 //! takes memory and time in proportion to the value, and nests as deep. What reads documents stands on it.
 
 ghost use Rattle.std.specs.Prelude.{◌≡◌, ◌≢◌, ◌∷◌, ◌++◌, [], ℕ, List, IfOk, OnOk, Err, Some, map, decimal, slice_get};
@@ -14,7 +14,7 @@ use crate::pointer::Pointer;
 use js_doc::{Doc, DocList, DocMap, Json, JsonList, JsonMap, Member, Str};
 use std::alloc::Global;
 
-/// The document that `json` is. A number that isn't whole is in none, and the first one is told.
+/// The document that `json` is. A number that isn't whole is in none, and the first one is reported.
 pub fn to_doc(alloc: Global, json: &Json) -> Result<Doc, JsonFault>
     ensures document { IfOk result (λ d. json_of_document (doc.view d) ≡ view json.now) }
     ensures whole { OnOk result (unwhole_places (view json.now) ≡ []) }
@@ -28,7 +28,7 @@ pub fn to_doc(alloc: Global, json: &Json) -> Result<Doc, JsonFault>
     }
 }
 
-/// A fault tells its place from the inside out: each level adds its token on the way up.
+/// A fault gives its place from the inside out: each level adds its token on the way up.
 #[cycle(make)]
 fn make(alloc: Global, json: &Json) -> Result<Doc, JsonFault>
     ensures { MakesOrTells (view json.now) result }

@@ -12,10 +12,10 @@ pub enum JsonFault {
     /// The bytes are not one JSON text in UTF-8, or it nests deeper than 127 levels.
     #[error("not JSON")]
     NotJson,
-    /// The first number that is not whole, in the order of the text, stands here.
+    /// The first number that is not whole, in the order of elements and of names, is here.
     #[error("a number that is not whole at {0:?}")]
     NotWhole(Pointer),
-    /// Memory was asked for and refused.
+    /// Memory was requested and refused.
     #[error("out of memory")]
     Memory,
 }
@@ -67,7 +67,7 @@ impl<T: Drop> From<AllocFailed<T>> for JsonFault {
 /// Why a reference names no schema of the file. The causes are tried in this order.
 #[derive(Clone, Copy, PartialEq, Eq, Debug, Drop, Error)]
 pub enum RefFault {
-    /// What stands before the fragment is neither empty nor the file's own `$id`.
+    /// What comes before the fragment is neither empty nor the file's own `$id`.
     #[error("a reference to another file")]
     Remote,
     /// The fragment is not a JSON pointer.
@@ -79,7 +79,7 @@ pub enum RefFault {
     /// The value is neither an object nor a boolean.
     #[error("neither an object nor a boolean")]
     NotASchema,
-    /// Memory was asked for and refused.
+    /// Memory was requested and refused.
     #[error("out of memory")]
     Memory,
 }

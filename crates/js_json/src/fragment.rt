@@ -1,4 +1,4 @@
-//! Pointers as they stand in the fragments of references (RFC 6901, sections 3, 4 and 6).
+//! Pointers as they are in the fragments of references (RFC 6901, sections 3, 4 and 6).
 //!
 //! The fragment's percent escapes are read, then the text between slashes, then the escapes `~0` and `~1`. It takes
 //! memory and time in proportion to the fragment.
@@ -60,7 +60,7 @@ fn read_token(alloc: Global, piece: &str) -> Result<Str, RefFault>
     Ok(Str::from_string(token))
 }
 
-/// The next character of a token, which may stand there as an escape.
+/// The next character of a token, which may be there as an escape.
 fn take_character(rest: &mut Chars<'_>) -> Result<Option<char>, RefFault>
     requires { IsUtf8 (chars_rest rest.old) }
     ensures { TakesOrRefuses (chars_rest rest.old) (chars_rest rest.new) result }

@@ -1,7 +1,7 @@
 //! JSON texts as values, documents of values, places in them, and what references name.
 //!
 //! `specs/Lib.antt` lists what a reader must believe: which value a text has, which values are documents, which value
-//! stands at a pointer, and what a reference names. Each call answers exactly that, or that memory was refused.
+//! is at a pointer, and what a reference names. Each call answers exactly that, or that memory was refused.
 //! What reads schemas and documents stands on this crate.
 #![tactic(auto)]
 
@@ -16,6 +16,7 @@ mod place;
 mod pointer;
 mod read;
 mod reference;
+mod take;
 
 pub use document::to_doc;
 pub use fault::{JsonFault, RefFault};

@@ -45,7 +45,7 @@ fn element<'a>(list: &'a JsonList, token: &str) -> Option<&'a Json>
     items.get(element_index(token)?)
 }
 
-/// The index that the token is, where it is one. An index that no machine has is beyond every list, and is told as
+/// The index that the token is, where it is one. An index that no machine has is beyond every list, and is reported as
 /// none.
 pub fn element_index(token: &str) -> Option<usize>
     ensures { MatchOption result

@@ -13,10 +13,9 @@ ghost use Rattle.js_json.specs.DocumentView.{as_json};
 ghost use Rattle.documents.specs.Json as J;
 ghost use Rattle.documents.specs.WellFormed.{is_json};
 
-use crate::doc_reader::take_doc;
 use crate::document::to_doc;
 use crate::fault::JsonFault;
-use crate::json_reader::take_json;
+use crate::take::take;
 use js_doc::{Doc, Json};
 use json::{Reader, Scratch};
 use simdutf8::compat::from_utf8;
@@ -54,7 +53,7 @@ fn json_within(alloc: Global, text: &str, scratch: &mut Scratch) -> Result<Json,
     ensures any_number { (place : List (List ℕ)) → result ≢ Err (JsonFault.NotWhole place) }
 {
     let mut reader = Reader::new(text, scratch)?;
-    let json = take_json(alloc, &mut reader, DEEPEST)?;
+    let json: Json = take(alloc, &mut reader, DEEPEST)?;
     if reader.next().is_some() {
         return Err(JsonFault::NotJson);
     }
@@ -64,7 +63,7 @@ fn json_within(alloc: Global, text: &str, scratch: &mut Scratch) -> Result<Json,
 /// The document of a JSON text: what `to_doc` makes of the value that `read_json` reads, without that value.
 ///
 /// Where a number isn't whole the text is read once more: its name may come again, so that it isn't in the value, and
-/// the first in the order of names is told.
+/// the first in the order of names is reported.
 pub fn read_doc(alloc: Global, bytes: &[u8]) -> Result<Doc, JsonFault>
     ensures document { IfOk result (λ d. value_of bytes.now ≡ Some (as_json d)) }
     ensures whole { IfOk result (λ d. unwhole_places (as_json d) ≡ []) }
@@ -79,7 +78,7 @@ pub fn read_doc(alloc: Global, bytes: &[u8]) -> Result<Doc, JsonFault>
     }
 }
 
-/// The same by the value of the text.
+/// The document of the text, by the text's value.
 fn doc_of_value(alloc: Global, bytes: &[u8]) -> Result<Doc, JsonFault>
     ensures document { IfOk result (λ d. value_of bytes.now ≡ Some (as_json d)) }
     ensures whole { IfOk result (λ d. unwhole_places (as_json d) ≡ []) }
@@ -115,7 +114,7 @@ fn doc_within(alloc: Global, text: &str, scratch: &mut Scratch) -> Result<Doc, J
     ensures not_json { result ≡ Err JsonFault.NotJson → option_map json_of (read text.now) ≡ None }
 {
     let mut reader = Reader::new(text, scratch)?;
-    let doc = take_doc(alloc, &mut reader, DEEPEST)?;
+    let doc: Doc = take(alloc, &mut reader, DEEPEST)?;
     if reader.next().is_some() {
         return Err(JsonFault::NotJson);
     }

@@ -1,6 +1,6 @@
 //! What a reference names (RFC 3986, section 3.5, and RFC 6901, section 6).
 //!
-//! A reference is cut at its first `#`: what stands before says which file, and the fragment after it is a pointer
+//! A reference is cut at its first `#`: what comes before says which file, and the fragment after it is a pointer
 //! into this one. It takes time in proportion to the text, and a look-up for each token.
 
 ghost use Rattle.std.specs.Prelude.{◌≡◌, Some, chars, option_map, IfOk};
@@ -50,7 +50,7 @@ pub fn target<'a>(
     }
 }
 
-/// What stands before and after the first `#`.
+/// What comes before and after the first `#`.
 fn cut(text: &str) -> (&str, &str)
     ensures before { chars result.0.now ≡ refers.before_hash (chars text.now) }
     ensures after { chars result.1.now ≡ refers.after_hash (chars text.now) }

@@ -1,5 +1,5 @@
--- What the shapes of values ask for, by the parts of the values.
-use Rattle.std.proofs.Common.{◌≡◌, ℕ, suc, ◌+◌, List, [], ◌∷◌, ◌++◌, map, length, Bool, true, false, not, cond, Option, Some, None, option_map, position, refl, sym, ap, subst, ◌∙◌, add-one, arith}
+-- What the shapes of values require, by the parts of the values.
+use Rattle.std.proofs.Common.{◌≡◌, ℕ, suc, ◌+◌, List, [], ◌∷◌, ◌++◌, map, length, Bool, true, false, not, cond, Option, Some, None, option_map, position, refl, sym, ap, ◌∙◌, add-one, arith}
 use Rattle.std.specs.List.{position_from}
 use Rattle.std.proofs.lemmas.Iterator.Adapters.{position_from-zero}
 use Rattle.documents.specs.Json as D
@@ -38,6 +38,7 @@ failing-position test view i (v ∷ vs) =
     either true o = refl
     either false o = refl
 
+-- the place of the first element whose view fails a test is that of the first item that fails it
 pub position-failing : {J : Type 0} (test : D.Json → Bool) (view : J → D.Json) (vs : List J)
     → position (λ v. not (test (view v))) vs ≡ failing test 0 (D.items_of (map view vs))
 position-failing test view vs =
@@ -93,9 +94,5 @@ pub tells_first : (owed rest : Option (Fault PatternFault RefFault)) (f : Schema
     → Tells (or_else owed rest) f
 tells_first owed rest S.Memory h = tt
 tells_first owed rest _ h = ap (λ o. or_else o rest) h
-
-pub tells_whole : (owed whole : Option (Fault PatternFault RefFault)) (f : SchemaFault) → Tells owed f → owed ≡ whole
-    → Tells whole f
-tells_whole owed whole f h e = subst (λ o. Tells o f) e h
 
 pub ruleset first_faults = (tells_first)

@@ -1,5 +1,5 @@
 -- The names of keywords are ASCII, so that their bytes are their characters.
-use Rattle.std.proofs.Common.{◌≡◌, ℕ, zero, suc, List, [], ◌∷◌, map, Bool, true, false, ◌||◌, nat_lt, cond, Option, Some, None, option_map, is_some, chars, refl, sym, ap, ◌∙◌, arith}
+use Rattle.std.proofs.Common.{◌≡◌, ℕ, zero, suc, List, [], ◌∷◌, map, Bool, true, false, ◌||◌, nat_lt, cond, find, Option, Some, None, option_map, is_some, chars, refl, sym, ap, ◌∙◌, arith}
 use Rattle.documents.specs.Tests.{some, same_word}
 use Rattle.schemas.specs.Keyword.{type_words}
 use Rattle.schemas.specs.Entries.{type_in, type_named}
@@ -13,7 +13,7 @@ use Rattle.js_keywords.specs.Names.{keyword_name}
 use Rattle.js_keywords.specs.declared.type_name.TypeName.{TypeName}
 use Rattle.js_keywords.specs.declared.type_name.TypeName.TheVariants as T
 use Rattle.js_keywords.specs.TypeView.{type_view}
-use Rattle.js_keywords.specs.Words.{is_ascii, type_word, all_types, type_from}
+use Rattle.js_keywords.specs.Words.{is_ascii, keyword_in, type_word, all_types, type_from}
 
 is_ascii-IsAscii : (bytes : List ℕ) → is_ascii bytes ≡ true → IsAscii bytes
 is_ascii-IsAscii [] e i = omega arith
@@ -34,7 +34,19 @@ pub ruleset keyword_names = (chars-keyword_name)
 
 pub ruleset index_tokens = (index_token-decimal)
 
+-- the first keyword of that name
+pub find-keyword_in : (ks : List Keyword) (w : List ℕ)
+    → find (λ k. same_word w (keyword_name k)) ks ≡ keyword_in ks w
+find-keyword_in [] w = refl
+find-keyword_in (k ∷ ks) w = ap (cond (same_word w (keyword_name k)) (Some k)) (find-keyword_in ks w)
+
 -- ---- types
+
+-- the first type of that name
+pub find-type_from : (ts : List TypeName) (w : List ℕ)
+    → find (λ t. same_word w (type_word t)) ts ≡ type_from ts w
+find-type_from [] w = refl
+find-type_from (t ∷ ts) w = ap (cond (same_word w (type_word t)) (Some t)) (find-type_from ts w)
 
 is_ascii-type_word : (t : TypeName) → is_ascii (type_word t) ≡ true
 is_ascii-type_word T.Null = refl

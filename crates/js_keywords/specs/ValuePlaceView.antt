@@ -1,4 +1,4 @@
--- Where the value of a keyword stands.
+-- Where the value of a keyword is.
 use Rattle.std.specs.Prelude.{ℕ, List}
 use Rattle.js_keywords.specs.declared.value_place.ValuePlace.{ValuePlace}
 use Rattle.js_keywords.specs.Names.{keyword_name}

@@ -14,7 +14,7 @@ pub enum SchemaFault {
     /// The value here is neither an object nor a boolean.
     #[error("neither an object nor a boolean at {0:?}")]
     NotASchema(Pointer),
-    /// The value here is not what the keyword asks for.
+    /// The value here is not what the keyword requires.
     #[error("a value that {0:?} does not have at {1:?}")]
     WrongShape(Keyword, Pointer),
     /// A number that is to be whole isn't, or has more than 64 bits.
@@ -32,7 +32,7 @@ pub enum SchemaFault {
     /// Elements are to be unique, which is not decided.
     #[error("unique items at {0:?}")]
     UniqueItems(Pointer),
-    /// An identifier stands below the root.
+    /// An identifier is below the root.
     #[error("an identifier below the root at {0:?}")]
     InnerId(Pointer),
     /// The object here has a reference that leads to no schema.

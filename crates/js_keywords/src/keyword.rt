@@ -134,10 +134,8 @@ fn is_name(text: &str, keyword: Keyword) -> bool
 fn first_named(keywords: &[Keyword], name: &str) -> Option<Keyword>
     ensures { result ≡ keyword_in keywords.now (chars name.now) }
 {
-    for keyword in keywords {
-        if is_name(name, *keyword) {
-            return Some(*keyword);
-        }
-    }
-    None
+    keywords
+        .iter()
+        .copied()
+        .find(|keyword| is_name(name, *keyword))
 }

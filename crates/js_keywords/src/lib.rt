@@ -2,7 +2,7 @@
 //!
 //! `specs/Reading.antt` gives the rules by which schemas are read: what a pattern is, where a reference leads, and what
 //! a schema may weigh. A check takes time in proportion to the value that it looks at. The reader of schemas,
-//! `js_schema`, stands on this crate.
+//! `js_reader`, stands on this crate.
 #![tactic(auto)]
 
 mod elements;

@@ -26,7 +26,7 @@ pub struct ObjectPlace<'a> {
     pub listed: bool,
 }
 
-/// An identifier stands at the root alone, and is a string.
+/// An identifier is at the root alone, and is a string.
 fn check_id(alloc: Global, object: &Pointer, value: &Json) -> Result<(), SchemaFault>
     ensures { (root : D.Json) → ChecksOrTells (id_fault rules root object.now (view value.now)) result }
 {

@@ -1,4 +1,4 @@
-//! What is wrong in the value of a keyword first, by the shape that the keyword asks for.
+//! What is wrong in the value of a keyword first, by the shape that the keyword requires.
 //!
 //! Each check answers the fault that `keyword_fault` gives of the value at its place, or that memory was refused. It
 //! looks at the value itself, at the elements and names in it, and not at the schemas in it. It takes time in

@@ -62,10 +62,5 @@ fn is_type(text: &str, name: TypeName) -> bool
 fn first_type(types: &[TypeName], word: &str) -> Option<TypeName>
     ensures { result ≡ type_from types.now (chars word.now) }
 {
-    for name in types {
-        if is_type(word, *name) {
-            return Some(*name);
-        }
-    }
-    None
+    types.iter().copied().find(|name| is_type(word, *name))
 }

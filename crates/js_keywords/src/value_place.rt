@@ -1,4 +1,4 @@
-//! Where the value of a keyword stands, and what stands in it.
+//! Where the value of a keyword is, and what is in it.
 //!
 //! A pointer is made only where a fault is reported. It takes memory in proportion to its length.
 
@@ -26,7 +26,7 @@ pub(crate) struct ValuePlace<'a> {
 impl<'a> ValuePlace<'a> {
     ghost use Rattle.js_keywords.specs.ValuePlaceView.{name_at, place_of};
 
-    /// Its pointer.
+    /// The pointer of the value.
     #[tactic(auto, using(crate::proofs::WordsLemmas::keyword_names))]
     pub(crate) fn pointer(&self) -> Result<Pointer, Memory>
         ensures { IfOk result (λ q. q ≡ place_of self.now) }
@@ -65,7 +65,7 @@ impl<'a> ValuePlace<'a> {
         Ok(pointer)
     }
 
-    /// The fault of a value that isn't what the keyword asks for.
+    /// The fault of a value that isn't what the keyword requires.
     pub(crate) fn wrong_shape(&self) -> SchemaFault
         ensures { Tells (Some (F.WrongShape (name_at self.now) (place_of self.now))) result }
     {
@@ -76,7 +76,7 @@ impl<'a> ValuePlace<'a> {
     }
 }
 
-/// The fault of a keyword's value, in the object at `object`, that isn't what the keyword asks for.
+/// The fault of a keyword's value, in the object at `object`, that isn't what the keyword requires.
 pub fn wrong_shape(alloc: Global, object: &Pointer, keyword: Keyword) -> SchemaFault
     ensures { Tells (Some (F.WrongShape (keyword_name keyword) (value_place object.now keyword))) result }
 {

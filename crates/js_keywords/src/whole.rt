@@ -1,4 +1,4 @@
-//! The first number in a value that isn't whole, in the order of the text.
+//! The first number in a value that isn't whole, in the order of elements and of names.
 //!
 //! One look at each value. A token of the pointer is made on the way down to each value, and taken away after it.
 

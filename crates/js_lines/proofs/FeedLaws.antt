@@ -1,4 +1,4 @@
--- A piece that was read, or nothing: where the reader then stands.
+-- A piece that was read, or nothing: where the reader then is.
 use Rattle.std.proofs.Common.{◌≡◌, Bool, true, false, cond, List, ℕ, ◌+◌, ◌≤◌, arith, ◌++◌, take, Some, None, sym, ◌∙◌, ap, subst}
 use Rattle.std.specs.Prelude.{option_to_list}
 use Rattle.std.proofs.lemmas.Bool.{true≢false}

@@ -23,6 +23,6 @@ abbrev pub IsAnswer : {A : Type 0} → Result A LineFault → Result A LineFault
 IsAnswer (Err F.Memory) right = Unit {0}
 IsAnswer given right = given ≡ right
 
--- what is answered to a piece: how much of it was read, or the fault at which the reader then stands
+-- what is answered to a piece: how much of it was read, or the fault at which the reader then is
 abbrev pub piece_answer : Reader → List ℕ → Result ℕ LineFault
 piece_answer r piece = answer (read_count piece) (fed r piece).fault

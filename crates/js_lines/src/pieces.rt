@@ -6,7 +6,7 @@ ghost use Rattle.certificate_lines.specs.Pieces.{pieces, split_at, after_word, i
 use js_doc::Memory;
 use std::alloc::Global;
 
-/// What stands between the places of a byte: one piece more than there are places.
+/// What is between the places of a byte: one piece more than there are places.
 pub fn pieces<'a>(alloc: Global, text: &'a [u8], at: u8) -> Result<Vec<&'a [u8]>, Memory>
     ensures { IfOk result (λ v. map (λ piece. piece.now) v.items ≡ pieces at text.now) }
 {
@@ -22,7 +22,7 @@ pub fn pieces<'a>(alloc: Global, text: &'a [u8], at: u8) -> Result<Vec<&'a [u8]>
     Ok(found)
 }
 
-/// What stands before the first place of a byte, and behind it.
+/// What comes before the first place of a byte, and behind it.
 pub fn split_once<'a>(text: &'a [u8], at: u8) -> Option<(&'a [u8], &'a [u8])>
     ensures { option_map (λ (front, rest). (front.now, rest.now)) result ≡ split_at at text.now }
 {

@@ -42,7 +42,7 @@ pub fn cert_text(alloc: Global, cert: &Cert) -> Result<Vec<u8>, Memory>
     Ok(out.into_bytes())
 }
 
-/// Puts the text of a line at the end. After a refusal of memory a part of it may stand there.
+/// Puts the text of a line at the end. After a refusal of memory a part of it may be there.
 pub fn append_line(out: &mut String, line: &CertLine) -> Result<(), Memory>
     ensures { OnOk result (string_bytes out.new ≡ string_bytes out.old ++ line_text (line_view line.now)) }
 {
@@ -103,8 +103,20 @@ fn append_numbers(out: &mut String, word: &str, numbers: &[u32]) -> Result<(), M
 {
     out.push_str(word)?;
     for number in numbers {
-        append_number(out, " ", *number)?;
+        append_spaced(out, *number)?;
     }
+    Ok(())
+}
+
+/// Puts a number behind a blank. Of the numbers of a list most have one digit, which needs no formatter.
+fn append_spaced(out: &mut String, number: u32) -> Result<(), Memory>
+    ensures { OnOk result (string_bytes out.new ≡ string_bytes out.old ++ 32 ∷ decimal number) }
+{
+    if number >= 10 {
+        return append_number(out, " ", number);
+    }
+    out.push(' ')?;
+    out.push(char::from(b'0' + number as u8))?;
     Ok(())
 }
 

@@ -1,5 +1,5 @@
 -- Words in which a tree is found begin with one of the characters that it needs.
-use Rattle.std.proofs.Common.{◌≡◌, ℕ, zero, suc, ◌<◌, List, [], ◌∷◌, map, length, get_or, slice_index, Bool, true, false, Option, Some, None, refl, sym, ap, subst, ◌∙◌, arith, true≢false}
+use Rattle.std.proofs.Common.{◌≡◌, ℕ, zero, suc, ◌<◌, List, [], ◌∷◌, map, length, slice_index, Bool, true, false, Option, Some, None, refl, sym, ap, subst, ◌∙◌, arith, true≢false}
 use Rattle.patterns.specs.CharSet.{has}
 use Rattle.patterns.specs.Tree.{Tree, Trees, empty, one_of, at_start, at_end, in_turn, either, repeated, no_trees, tree, trees_of}
 use Rattle.patterns.specs.Match.{Matches}
@@ -7,7 +7,6 @@ use Rattle.patterns.specs.Decision.{finds}
 use Rattle.pattern_laws.proofs.Decides.{finds-decides}
 use Rattle.js_pattern.specs.declared.re.Re.{Re}
 use Rattle.js_pattern.specs.View.{view}
-use Rattle.js_match.specs.Anchors.{is_start}
 use Rattle.js_match.specs.First.{lone_set, lone_set_of, first_set, set_after, set_in_turn, needed_set}
 
 abbrev is_some : Option (List (ℕ × ℕ)) → Bool
@@ -76,6 +75,7 @@ module _ (w : List ℕ) (s : List (ℕ × ℕ)) where
   needed-begins (either ts) i j h m = absurd (none-some s h)
   needed-begins (repeated t low high) i j h m = absurd (none-some s h)
 
+  -- a tree isn't found in a word that begins with none of the characters that the tree needs
   pub not-found : (t : Tree) → needed_set t ≡ Some s → (Begins s w 0 → ⊥) → finds t w ≡ false
   not-found t h other = go (finds t w) refl
     where
@@ -85,23 +85,6 @@ module _ (w : List ℕ) (s : List (ℕ × ℕ)) where
       go false k = k
 
 -- ---- lists of trees
-
-pub set-first : (items : List Re) (x y : Re) → 1 < length items → x ≡ get_or items 0 x → y ≡ get_or items 1 y
-    → is_start (view x) ≡ true → first_set (view y) ≡ set_in_turn (trees_of (map view items))
-set-first [] x y l ex ey h = absurd (omega (arith, l))
-set-first (a ∷ []) x y l ex ey h = absurd (omega (arith, l))
-set-first (a ∷ b ∷ items) x y l ex ey h =
-    ap (λ z. first_set (view z)) ey ∙ start-after (view a) (view b) (trees_of (map view items))
-    (ap (λ z. is_start (view z)) (sym ex) ∙ h)
-  where
-    start-after : (t u : Tree) (ts : Trees) → is_start t ≡ true → first_set u ≡ set_after t (tree u ts)
-    start-after empty u ts h = absurd (true≢false (sym h))
-    start-after (one_of s) u ts h = absurd (true≢false (sym h))
-    start-after at_start u ts h = refl
-    start-after at_end u ts h = absurd (true≢false (sym h))
-    start-after (in_turn us) u ts h = absurd (true≢false (sym h))
-    start-after (either us) u ts h = absurd (true≢false (sym h))
-    start-after (repeated t low high) u ts h = absurd (true≢false (sym h))
 
 pub set-none : (items : List Re) → length items < 2 → None ≡ set_in_turn (trees_of (map view items))
 set-none [] l = refl
@@ -116,17 +99,3 @@ set-none (a ∷ []) l = alone (view a)
     alone (either us) = refl
     alone (repeated t low high) = refl
 set-none (a ∷ b ∷ items) l = absurd (omega (arith, l))
-
-pub set-loose : (items : List Re) (x : Re) → 1 < length items → x ≡ get_or items 0 x → is_start (view x) ≡ false
-    → None ≡ set_in_turn (trees_of (map view items))
-set-loose [] x l ex h = absurd (omega (arith, l))
-set-loose (a ∷ items) x l ex h = loose (view a) (trees_of (map view items)) (ap (λ z. is_start (view z)) (sym ex) ∙ h)
-  where
-    loose : (t : Tree) (ts : Trees) → is_start t ≡ false → None ≡ set_after t ts
-    loose empty ts h = refl
-    loose (one_of s) ts h = refl
-    loose at_start ts h = absurd (true≢false h)
-    loose at_end ts h = refl
-    loose (in_turn us) ts h = refl
-    loose (either us) ts h = refl
-    loose (repeated t low high) ts h = refl

@@ -20,6 +20,7 @@ some-place : (xs : List ℕ) → has_place xs ≡ true → (j : ℕ) × IsAt j x
 some-place [] h = absurd (true≢false (sym h))
 some-place (x ∷ xs) h = (x, here_at x xs)
 
+-- from all places of a word a tree leads somewhere exactly where it is found in the word
 pub found-in : (t : Tree) (w starts ends : List ℕ) → ((j : ℕ) → is_at j starts ≡ nat_le j (length w))
     → Leads (Matches t w) starts ends → has_place ends ≡ finds t w
 found-in t w starts ends all leads =

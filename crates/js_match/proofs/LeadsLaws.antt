@@ -1,7 +1,6 @@
 -- Steps from places to places, one after another and side by side.
 use Rattle.std.proofs.Common.{◌≡◌, ℕ, zero, suc, ◌+◌, ◌-◌, ◌<◌, ◌≤◌, ◌⊎◌, inl, inr, List, [], ◌∷◌, ◌++◌, length, flat_map, slice_index, Bool, true, false, if◌then◌else◌, ◌||◌, ◌&&◌, nat_eq, nat_le, nat_lt, Some, None, refl, sym, ap, subst, ◌∙◌, arith, true≢false}
 use Rattle.std.proofs.lemmas.Bool.{and_parts, or_cases, eqb-true, eq-eqb, ltb-true, lt-ltb}
-use Rattle.documents.specs.Tests.{every}
 use Rattle.patterns.specs.CharSet.{has}
 use Rattle.patterns.specs.Tree.{Tree, Trees, empty, one_of, at_start, at_end, in_turn, either, repeated, no_trees, tree}
 use Rattle.patterns.specs.Match.{Repeats, Matches, MatchesInTurn, MatchesOne}
@@ -42,13 +41,6 @@ within-from n (x ∷ xs) h =
     let le : nat_le x n ≡ true = (let l = h x (here_at x xs) in grind (arith, l)) in
     let rest = within-from n xs (λ j a. h j (or_right_true (nat_eq x j) (is_at j xs) a)) in
     ap (λ b. b && are_within n xs) le ∙ rest
-
-pub below-from : (n m : ℕ) (xs : List ℕ) → m ≡ n + 1 → are_within n xs ≡ true → every (λ i. nat_lt i m) xs ≡ true
-below-from n m [] e h = refl
-below-from n m (x ∷ xs) e h =
-    let both = and_parts (nat_le x n) (are_within n xs) h in
-    let lt : nat_lt x m ≡ true = (let l = both.0 in grind (arith, l, e)) in
-    ap (λ b. b && every (λ i. nat_lt i m) xs) lt ∙ below-from n m xs e both.1
 
 -- ---- steps
 
@@ -233,11 +225,6 @@ place_leads p xs false h = record {
   complete = λ i j a m. absurd (true≢false (sym (subst (λ z. IsAt z xs) m.0 a) ∙ h));
 }
 
-pub leads_place : (p : ℕ) (xs ys : List ℕ) → ys ≡ (if is_at p xs then p ∷ [] else [])
-    → Leads (λ i j. (i ≡ p) × (j ≡ p)) xs ys
-leads_place p xs ys e = subst (λ zs. Leads (λ i j. (i ≡ p) × (j ≡ p)) xs zs) (sym e) (place_leads p xs
-    (is_at p xs) refl)
-
 -- ---- repeats
 
 pub leads_repeated : (t : Tree) (w : List ℕ) (low : ℕ) (xs ys zs : List ℕ) → Leads (Repeats (Matches t w) low) xs ys
@@ -275,11 +262,4 @@ leads_up_to t w low high xs ys zs le a b = record {
       let (p, c, d) = repeats_split (Matches t w) low (m.0 - low) i j (subst (λ z. Repeats
       (Matches t w) z i j) count m.3) in
       b.complete p j (a.complete i p h c) (m.0 - low, (let most = m.2 in let l = m.1 in omega (arith, most, l)), d);
-}
-
-pub leads_never : (t : Tree) (w : List ℕ) (low high : ℕ) (xs : List ℕ) → high < low
-    → Leads (Matches (repeated t low (Some high)) w) xs []
-leads_never t w low high xs lt = record {
-  sound = λ j a. absurd (true≢false (sym a));
-  complete = λ i j a m. let l = m.1 in let u = m.2 in absurd (omega (arith, l, u, lt));
 }

@@ -163,6 +163,7 @@ module _ (Step : ℕ → ℕ → Type 0) (most : Option ℕ) (starts : List ℕ)
           let (p, a, b) = repeats_before Step r i j s in
           after p j (round.complete i p r h a (taken_before left r some round.remains t)) b
 
+      -- what holds before a round holds after it, with one step less left
       pub round-next : IsRound Step most starts (option_map (λ n. n - 1) left) marks' fresh'
       round-next = record {
         remains = left_next left round.remains;
@@ -200,6 +201,7 @@ module _ (Step : ℕ → ℕ → Type 0) (most : Option ℕ) (starts : List ℕ)
         go (Some m) (Some zero) k e h = omega (arith, h)
         go (Some m) (Some (suc l)) k e h = absurd (true≢false (sym (ap is_none_left e)))
 
+    -- once nothing is left to explore, the marked places are those that so many steps lead to
     pub round-last : (places : List ℕ) → ((fresh ≡ []) ⊎ (left ≡ Some 0))
         → ((j : ℕ) → is_at j places ≡ marked marks j) → Leads (More Step most) starts places
     round-last places stop same = record {

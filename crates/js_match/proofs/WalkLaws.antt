@@ -32,6 +32,7 @@ module _ (w starts : List ℕ) (items : List Re) where
   abbrev pub OneOf : ℕ → List ℕ → List ℕ → Type 0
   OneOf i xs ys = Leads (MatchesOne (trees_of (map view (drop i items))) w) xs ys
 
+  -- what the trees behind place i reach from where the tree there leads, the trees from place i on reach
   pub in_turn_next : (R : List ℕ → Type 0) (i : ℕ) (x : Re) (places next : List ℕ) → i < length items
       → x ≡ get_or items i x → Leads (Matches (view x) w) places next
       → ((ends : List ℕ) → InTurn i places ends → R ends) → (ends : List ℕ) → InTurn (i + 1) next ends → R ends
@@ -40,12 +41,7 @@ module _ (w starts : List ℕ) (items : List Re) where
       (leads_then (Matches (view x) w) (MatchesInTurn (trees_of (map view (drop (i + 1)
       items))) w) places next ends l k))
 
-  pub in_turn_done : (R : List ℕ → Type 0) (i : ℕ) (places : List ℕ) → length items ≤ i
-      → ((ends : List ℕ) → InTurn i places ends → R ends) → R places
-  in_turn_done R i places h rest =
-      rest places (subst (λ ts. Leads (MatchesInTurn ts w) places places) (sym (no_rest items i h))
-      (leads_nowhere_else places))
-
+  -- what the tree at place i reaches joins what was found, and the trees behind it are left
   pub either_next : (Step : ℕ → ℕ → Type 0) (i : ℕ) (x : Re) (found next both : List ℕ) → i < length items
       → x ≡ get_or items i x → Leads (Matches (view x) w) starts next → HasBoth found next both
       → ((ends : List ℕ) → OneOf i starts ends → Leads Step starts (found ++ ends))

@@ -1,4 +1,4 @@
--- The characters of which a word must begin with one, where a tree can tell.
+-- The characters of which a word must begin with one, where a tree can say.
 use Rattle.std.specs.Prelude.{ℕ, zero, suc, List, Option, Some, None}
 use Rattle.patterns.specs.Tree.{Tree, Trees, empty, one_of, at_start, at_end, in_turn, either, repeated, no_trees, tree}
 

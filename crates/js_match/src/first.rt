@@ -9,7 +9,7 @@ ghost use Rattle.js_match.specs.First.{lone_set, first_set, set_in_turn, needed_
 use crate::anchor::is_start;
 use js_pattern::{CharSet, Re, ReList};
 
-/// Whether the word doesn't begin as the pattern asks. Time in the ranges of one set.
+/// Whether the word doesn't begin as the pattern requires. Time in the ranges of one set.
 pub(crate) fn begins_otherwise(re: &Re, word: &[char]) -> bool
     ensures { result ≡ true → finds (view re.now) word.now ≡ false }
 {

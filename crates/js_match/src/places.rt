@@ -42,12 +42,7 @@ pub(crate) fn kept(alloc: Global, starts: &[usize], place: usize) -> Result<Vec<
 fn is_among(places: &[usize], place: usize) -> bool
     ensures { result ≡ is_at place places.now }
 {
-    for other in places {
-        if *other == place {
-            return true;
-        }
-    }
-    false
+    places.contains(&place)
 }
 
 /// The places of two sets, each once and rising where the two are.

@@ -80,7 +80,7 @@ fn walk_repeat(
     }
 }
 
-/// One tree after another.
+/// The places to which the trees of a list lead, one after another.
 #[cycle(walk)]
 fn walk_in_turn(
     alloc: Global,
@@ -103,7 +103,7 @@ fn walk_in_turn(
     Ok(places)
 }
 
-/// One tree or another.
+/// The places to which one tree of a list or another leads.
 #[cycle(walk)]
 fn walk_either(
     alloc: Global,

@@ -1,4 +1,4 @@
--- What is kept of a set is what its frame asks.
+-- What is kept of a set is what its frame requires.
 use Rattle.std.proofs.Common.{◌≡◌, ℕ, zero, suc, ◌<◌, Bool, true, not, cond, List, [], ◌∷◌, map, filter, flat_map, length, get_or, nat_lt, refl, ap, ap₂, sym, ◌∙◌, subst, arith}
 use Rattle.std.specs.List.{range_with_len}
 use Rattle.std.proofs.lemmas.Bool.{and_parts, ltb-true}

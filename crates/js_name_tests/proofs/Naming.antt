@@ -1,4 +1,4 @@
--- Literals that say nothing of names bar nothing, ask nothing of values and are no demands.
+-- Literals that say nothing of names bar nothing, require nothing of values and are no demands.
 use Rattle.std.proofs.Common.{◌≡◌, ℕ, ◌++◌, ◌||◌, Bool, true, false, cond, List, [], ◌∷◌, filter, flat_map, is_some, refl, ap, sym, ◌∙◌}
 use Rattle.std.proofs.lemmas.Bool.{and_parts, and_from}
 use Rattle.documents.specs.Tests.{every, some}
@@ -78,6 +78,7 @@ module _ (T : List Position) where
       go b (Has n) e = cc e
       go b _ e = refl
 
+    -- a set bars a cell exactly where its literals that speak of names bar it
     pub naming-bars : (S : List Signed) → some (bars T C c) (naming T S) ≡ some (bars T C c) S
     naming-bars S = some_naming (bars T C c) bars_speak S
 

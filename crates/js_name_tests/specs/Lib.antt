@@ -1,2 +1,2 @@
--- What a reader must believe: what literals that speak of names ask of members, each by its number among them.
+-- What a reader must believe: what literals that speak of names require of members, each by its number among them.
 pub mod NameTests

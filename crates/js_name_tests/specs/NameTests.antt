@@ -1,4 +1,4 @@
--- What literals that speak of names ask of members, each by its number among them.
+-- What literals that speak of names require of members, each by its number among them.
 use Rattle.std.specs.Prelude.{ℕ, ◌+◌, List, [], ◌∷◌, ◌++◌, length, get_or, Bool, true, false, cond, nat_lt, Option, Some, None}
 use Rattle.std.specs.Bool.{beq}
 use Rattle.documents.specs.Tests.{every}
@@ -35,7 +35,7 @@ abbrev pub served_at : List Position → Signed → Option Bool
 served_at T (Plus p) = plus_served (position_at T p)
 served_at T (Minus p) = minus_served (position_at T p)
 
--- what it asks of the values of the names of which it holds
+-- what it requires of the values of the names of which it holds
 abbrev pub plus_value : Position → Option ℕ
 plus_value (MembersOf s q) = Some q
 plus_value _ = None
@@ -44,7 +44,7 @@ abbrev pub value_at : List Position → Signed → Option ℕ
 value_at T (Plus p) = plus_value (position_at T p)
 value_at T (Minus p) = None
 
--- with the number of the literal
+-- tests with the number of their literal
 
 abbrev pub test_at : ℕ → Option Bool → List NameTest
 test_at i None = []
@@ -65,7 +65,7 @@ abbrev pub values_from : (Signed → Option ℕ) → ℕ → List Signed → Lis
 values_from f i [] = []
 values_from f i (x ∷ xs) = value_by i (f x) ++ values_from f (i + 1) xs
 
--- of the names of a cell
+-- what literals say of the names of a cell
 
 abbrev pub says_at : Cells → ℕ → ℕ → Bool
 says_at C c i = truth C c (get_or C.names i (Plus 0))

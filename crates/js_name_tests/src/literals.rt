@@ -1,5 +1,5 @@
-//! What the literals of a set that speak of names ask of members. Each is kept by its number among them, so that a cell
-//! gives what it says of its names.
+//! What the literals of a set that speak of names require of members. Each is kept by its number among them, so that a
+//! cell gives what it says of its names.
 
 ghost use Rattle.std.specs.Prelude.{◌≡◌, ◌<◌, map, true, length, filter, IfOk, IfSome, option_map};
 ghost use Rattle.std.specs.Option.{option_to_list};
@@ -57,7 +57,7 @@ fn served(core: &Core, x: Signed) -> Option<bool>
     }
 }
 
-/// What a literal asks of the values of names of which it holds.
+/// What a literal requires of the value of names of which it holds.
 fn value(core: &Core, x: Signed) -> Option<Pos>
     requires { is_in_table core.now.positions (signed_view x) ≡ true }
     ensures value { option_map (λ p. p.0) result ≡ value_at core.now.positions (signed_view x) }
@@ -69,7 +69,7 @@ fn value(core: &Core, x: Signed) -> Option<Pos>
     }
 }
 
-/// What a literal asks of the value of a member that serves it.
+/// What a literal requires of the value of a member that serves it.
 pub fn asked_of_server(core: &Core, x: Signed) -> Option<Signed>
     requires { is_in_table core.now.positions (signed_view x) ≡ true }
     ensures value { map signed_view (option_to_list result) ≡ O.serving core.now.positions (signed_view x) }

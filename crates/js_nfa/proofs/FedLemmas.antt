@@ -12,10 +12,10 @@ use Rattle.std.proofs.lemmas.Nat.Bits.{bit_at-lt, bit_at-suc, bit_at_lowest, sam
 use Rattle.word_states.specs.PatternState.{numbers_from}
 use Rattle.state_laws.specs.Flow.{flag_at, is_among}
 use Rattle.js_nfa.specs.Fed.{word_from, word_at, word_count, fed_word, fed_words, fed_places}
-use Rattle.js_nfa.specs.Walk.{Quiet}
-use Rattle.js_nfa.proofs.FlagsLemmas.{among-flag}
-use Rattle.js_nfa.proofs.BitsLemmas.{same_bit}
-use Rattle.js_nfa.proofs.SetLemmas.{HasBits, IsWord}
+use Rattle.js_pattern_positions.specs.Walk.{Quiet}
+use Rattle.js_pattern_positions.proofs.FlagsLemmas.{among-flag}
+use Rattle.js_pattern_positions.proofs.BitsLemmas.{same_bit}
+use Rattle.js_pattern_positions.proofs.SetLemmas.{HasBits, IsWord}
 
 -- ---- a word by its bits
 word-bits : (ps : List ℕ) (place n : ℕ) → HasBits (word_from ps place n) place n (is_among ps)
@@ -55,6 +55,7 @@ word-none ps place (suc n) h =
     ap₂ (λ b w. (if b then 1 else 0) + 2 * w) (ap (is_among ps) here ∙ h 0 (omega arith))
     (word-none ps (suc place) n (λ i l. ap (is_among ps) (next i) ∙ h (suc i) (omega (arith, l))))
 
+-- a word is determined by the positions whose bits it has
 pub is_word : (flags : List Bool) (k word : ℕ) → IsWord word flags k → word < 2 ^ 64
     → word ≡ word_at (numbers_from 0 flags) k
 unfolding word_at
@@ -115,6 +116,7 @@ none-quiet flags n quiet k h =
     word-none (numbers_from 0 flags) (64 * k) 64
     (λ i l. among-flag flags (64 * k + i) ∙ quiet (64 * k + i) (omega (arith, h)))
 
+-- what is fed of enough words is what is fed of the positions
 pub fed-all : (flags : List Bool) (n : ℕ) → Quiet (flag_at flags) (64 * n)
     → fed_words (numbers_from 0 flags) n ≡ fed_places (numbers_from 0 flags)
 fed-all flags n quiet =

@@ -1,14 +1,14 @@
--- Rows joined four at a time.
+-- Follow sets joined four at a time.
 --
--- Key: `fours_join`, the union of four rows is that of the choice which their bits are.
+-- Key: `fours_join`, the union of four sets is that of the choice which their bits are.
 use Rattle.std.proofs.Common.{◌≡◌, ℕ, zero, suc, ◌+◌, ◌-◌, ◌*◌, ◌/◌, ◌%◌, ◌<◌, ◌≤◌, Bool, true, false, if◌then◌else◌, eqb, List, [], ◌∷◌, length, refl, sym, ◌∙◌, ap, ap₂, arith}
 use Rattle.std.proofs.Math.Bool.{or_assoc}
 use Rattle.std.specs.Int.{bit_at}
-use Rattle.state_laws.specs.Rows.{or_each}
-use Rattle.state_laws.proofs.RowsLemmas.{or_each_none}
-use Rattle.js_nfa.specs.Marks.{Marks}
-use Rattle.js_nfa.specs.Rows.{row, HaveAtMost, AreFours, chosen_rows, four_bits, choice_at, by_fours}
-use Rattle.js_nfa.proofs.RowsSteps.{row-past, joined}
+use Rattle.state_laws.specs.FollowSets.{or_each}
+use Rattle.state_laws.proofs.FollowSetsLemmas.{or_each_none}
+use Rattle.js_pattern_positions.specs.Marks.{Marks}
+use Rattle.js_nfa.specs.FollowSets.{set_at, HaveAtMost, AreFours, chosen_sets, four_bits, choice_at, by_fours}
+use Rattle.js_nfa.proofs.FollowSetsSteps.{set_at-past, joined}
 
 -- ---- the bits of a choice
 pub choice-bits : (v : ℕ) → v < 16
@@ -174,87 +174,88 @@ length-by_fours always fours read (suc n) h within =
     let before = length-by_fours always fours read n (omega (arith, h)) within in
     let small = choice-small read (4 * n) in
     let one = within (16 * n + choice_at read (4 * n)) (omega (arith, h, small)) in
-    or_each-long (by_fours always fours read n) (row fours (16 * n + choice_at read (4 * n)))
+    or_each-long (by_fours always fours read n) (set_at fours (16 * n + choice_at read (4 * n)))
     (omega (arith, one, before))
     ∙ before
 
--- the rows of four positions, of which a number's bits are those in the set
-chosen_rows-joined : (always : List Bool) (rows : List Marks) (read : ℕ → Bool) (first bits : ℕ)
+-- the follow sets of four positions, of which a number's bits are those in the set
+chosen_sets-joined : (always : List Bool) (sets : List Marks) (read : ℕ → Bool) (first bits : ℕ)
     → ((i : ℕ) → i < 4 → eqb (bit_at bits i) 1 ≡ read (first + i)) → (n : ℕ) → n ≤ 4
-    → or_each (joined always rows read first) (chosen_rows rows first bits n) ≡ joined always rows read (first + n)
-chosen_rows-joined always rows read first bits is zero h =
+    → or_each (joined always sets read first) (chosen_sets sets first bits n) ≡ joined always sets read (first + n)
+chosen_sets-joined always sets read first bits is zero h =
     let same : first ≡ first + 0 = omega arith in
-    or_each_none (joined always rows read first) ∙ ap (joined always rows read) same
-chosen_rows-joined always rows read first bits is (suc n) h =
+    or_each_none (joined always sets read first) ∙ ap (joined always sets read) same
+chosen_sets-joined always sets read first bits is (suc n) h =
     let next : suc (first + n) ≡ first + suc n = omega arith in
-    sym (or_each-assoc (joined always rows read first) (chosen_rows rows first bits n)
-    (if eqb (bit_at bits n) 1 then row rows (first + n) else []))
-    ∙ ap₂ (λ xs b. or_each xs (if b then row rows (first + n) else []))
-    (chosen_rows-joined always rows read first bits is n (omega (arith, h))) (is n (omega (arith, h)))
-    ∙ ap (joined always rows read) next
+    sym (or_each-assoc (joined always sets read first) (chosen_sets sets first bits n)
+    (if eqb (bit_at bits n) 1 then set_at sets (first + n) else []))
+    ∙ ap₂ (λ xs b. or_each xs (if b then set_at sets (first + n) else []))
+    (chosen_sets-joined always sets read first bits is n (omega (arith, h))) (is n (omega (arith, h)))
+    ∙ ap (joined always sets read) next
 
-by_fours-joined : (always : List Bool) (rows fours : List Marks) (read : ℕ → Bool) → AreFours rows fours → (n : ℕ)
-    → n ≤ length fours / 16 → by_fours always fours read n ≡ joined always rows read (4 * n)
-by_fours-joined always rows fours read are zero h = refl
-by_fours-joined always rows fours read are (suc n) h =
+by_fours-joined : (always : List Bool) (sets fours : List Marks) (read : ℕ → Bool) → AreFours sets fours → (n : ℕ)
+    → n ≤ length fours / 16 → by_fours always fours read n ≡ joined always sets read (4 * n)
+by_fours-joined always sets fours read are zero h = refl
+by_fours-joined always sets fours read are (suc n) h =
     let choice = choice_at read (4 * n) in
     let small = choice-small read (4 * n) in
     let four : (16 * n + choice) / 16 ≡ n = omega (arith, small) in
     let bits : (16 * n + choice) % 16 ≡ choice = omega (arith, small) in
     let next : 4 * n + 4 ≡ 4 * suc n = omega arith in
-    ap₂ or_each (by_fours-joined always rows fours read are n (omega (arith, h)))
-    (are.1 (16 * n + choice) (omega (arith, h, small)) ∙ ap₂ (λ f b. chosen_rows rows (4 * f) b 4) four bits)
-    ∙ chosen_rows-joined always rows read (4 * n) choice (choice-read read (4 * n)) 4 (omega arith)
-    ∙ ap (joined always rows read) next
+    ap₂ or_each (by_fours-joined always sets fours read are n (omega (arith, h)))
+    (are.1 (16 * n + choice) (omega (arith, h, small)) ∙ ap₂ (λ f b. chosen_sets sets (4 * f) b 4) four bits)
+    ∙ chosen_sets-joined always sets read (4 * n) choice (choice-read read (4 * n)) 4 (omega arith)
+    ∙ ap (joined always sets read) next
 
--- beyond the last row nothing is added
-joined-past : (always : List Bool) (rows : List Marks) (read : ℕ → Bool) (n : ℕ)
-    → joined always rows read (length rows + n) ≡ joined always rows read (length rows)
-joined-past always rows read zero = let same : length rows + 0 ≡ length rows = omega arith in
-    ap (joined always rows read) same
-joined-past always rows read (suc n) =
-    let next : length rows + suc n ≡ suc (length rows + n) = omega arith in
-    ap (joined always rows read) next
-    ∙ ap (or_each (joined always rows read (length rows + n))) (none (read (length rows + n)))
-    ∙ or_each_none (joined always rows read (length rows + n))
-    ∙ joined-past always rows read n where
-      none : (b : Bool) → (if b then row rows (length rows + n) else []) ≡ []
-      none true = row-past rows (length rows + n) (omega arith)
+-- beyond the last set nothing is added
+joined-past : (always : List Bool) (sets : List Marks) (read : ℕ → Bool) (n : ℕ)
+    → joined always sets read (length sets + n) ≡ joined always sets read (length sets)
+joined-past always sets read zero = let same : length sets + 0 ≡ length sets = omega arith in
+    ap (joined always sets read) same
+joined-past always sets read (suc n) =
+    let next : length sets + suc n ≡ suc (length sets + n) = omega arith in
+    ap (joined always sets read) next
+    ∙ ap (or_each (joined always sets read (length sets + n))) (none (read (length sets + n)))
+    ∙ or_each_none (joined always sets read (length sets + n))
+    ∙ joined-past always sets read n where
+      none : (b : Bool) → (if b then set_at sets (length sets + n) else []) ≡ []
+      none true = set_at-past sets (length sets + n) (omega arith)
       none false = refl
 
-pub fours_join : (always : List Bool) (rows fours : List Marks) (read : ℕ → Bool) → AreFours rows fours
-    → joined always rows read (length rows) ≡ by_fours always fours read (length fours / 16)
-fours_join always rows fours read are =
-    let rest = 4 * (length fours / 16) - length rows in
-    let all : length rows + rest ≡ 4 * (length fours / 16) = omega (arith, are.0) in
-    sym (joined-past always rows read rest)
-    ∙ ap (joined always rows read) all
-    ∙ sym (by_fours-joined always rows fours read are (length fours / 16) (omega arith))
+pub fours_join : (always : List Bool) (sets fours : List Marks) (read : ℕ → Bool) → AreFours sets fours
+    → joined always sets read (length sets) ≡ by_fours always fours read (length fours / 16)
+fours_join always sets fours read are =
+    let rest = 4 * (length fours / 16) - length sets in
+    let all : length sets + rest ≡ 4 * (length fours / 16) = omega (arith, are.0) in
+    sym (joined-past always sets read rest)
+    ∙ ap (joined always sets read) all
+    ∙ sym (by_fours-joined always sets fours read are (length fours / 16) (omega arith))
 
 -- ---- loops
-pub chosen_rows-more : (rows : List Marks) (first bits n : ℕ) (x : Marks) (before after : List Bool)
-    → before ≡ chosen_rows rows first bits n → eqb (bit_at bits n) 1 ≡ true → row rows (first + n) ≡ Marks.flags x
-    → after ≡ or_each before (Marks.flags x) → after ≡ chosen_rows rows first bits (n + 1)
-chosen_rows-more rows first bits n x before after e bit is f =
+pub chosen_sets-more : (sets : List Marks) (first bits n : ℕ) (x : Marks) (before after : List Bool)
+    → before ≡ chosen_sets sets first bits n → eqb (bit_at bits n) 1 ≡ true → set_at sets (first + n) ≡ Marks.flags x
+    → after ≡ or_each before (Marks.flags x) → after ≡ chosen_sets sets first bits (n + 1)
+chosen_sets-more sets first bits n x before after e bit is f =
     let next : suc n ≡ n + 1 = omega arith in
     f
     ∙ ap₂ or_each e (sym is)
-    ∙ sym (ap (λ b. or_each (chosen_rows rows first bits n) (if b then row rows (first + n) else [])) bit)
-    ∙ ap (chosen_rows rows first bits) next
+    ∙ sym (ap (λ b. or_each (chosen_sets sets first bits n) (if b then set_at sets (first + n) else [])) bit)
+    ∙ ap (chosen_sets sets first bits) next
 
-pub chosen_rows-still : (rows : List Marks) (first bits n : ℕ) (before : List Bool)
-    → before ≡ chosen_rows rows first bits n
-    → (if eqb (bit_at bits n) 1 then row rows (first + n) else []) ≡ [] → before ≡ chosen_rows rows first bits (n + 1)
-chosen_rows-still rows first bits n before e none =
+pub chosen_sets-still : (sets : List Marks) (first bits n : ℕ) (before : List Bool)
+    → before ≡ chosen_sets sets first bits n
+    → (if eqb (bit_at bits n) 1 then set_at sets (first + n) else []) ≡ []
+    → before ≡ chosen_sets sets first bits (n + 1)
+chosen_sets-still sets first bits n before e none =
     let next : suc n ≡ n + 1 = omega arith in
     e
-    ∙ sym (or_each_none (chosen_rows rows first bits n))
-    ∙ sym (ap (or_each (chosen_rows rows first bits n)) none)
-    ∙ ap (chosen_rows rows first bits) next
+    ∙ sym (or_each_none (chosen_sets sets first bits n))
+    ∙ sym (ap (or_each (chosen_sets sets first bits n)) none)
+    ∙ ap (chosen_sets sets first bits) next
 
-pub within-again : (rows : List Marks) (count other : ℕ) → count ≡ other → HaveAtMost count rows → HaveAtMost other rows
-within-again rows count other e within n h = let one = within n h in omega (arith, one, e)
+pub within-again : (sets : List Marks) (count other : ℕ) → count ≡ other → HaveAtMost count sets → HaveAtMost other sets
+within-again sets count other e within n h = let one = within n h in omega (arith, one, e)
 
-pub picked-past : (b : Bool) (rows : List Marks) (n : ℕ) → length rows ≤ n → (if b then row rows n else []) ≡ []
-picked-past true rows n h = row-past rows n h
-picked-past false rows n h = refl
+pub picked-past : (b : Bool) (sets : List Marks) (n : ℕ) → length sets ≤ n → (if b then set_at sets n else []) ≡ []
+picked-past true sets n h = set_at-past sets n h
+picked-past false sets n h = refl

@@ -6,14 +6,13 @@ ghost use Rattle.patterns.specs.Match.{IsFoundIn};
 ghost use Rattle.state_laws.specs.Flow.{flag_at, reads_next, ends_here};
 ghost use Rattle.js_nfa.specs.View.{tree_of, HasRoom};
 
-use crate::advance::Next;
-use crate::ends::Edges;
 use crate::nfa::Nfa;
 use crate::scratch::Scratch;
+use js_pattern_positions::{Edges, Next};
 use std::mem;
 
 /// Whether the pattern matches somewhere in the word. It takes no memory. Up to the end of the first match, a character
-/// costs a look at the words of one row for each four positions. The word's first character, one beyond ASCII, and each
+/// costs a look at the words of one set for each four positions. The word's first character, one beyond ASCII, and each
 /// with more than 256 positions cost two walks over the pattern's tree, or one where none of the positions was read
 /// that a match's end needs. So do the word's beginning and its end, a walk each.
 pub fn finds(nfa: &Nfa, word: &[char], scratch: &mut Scratch) -> bool

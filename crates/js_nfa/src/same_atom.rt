@@ -1,4 +1,4 @@
-//! Equality, hashes and copies of atoms, by what they ask: patterns of one tree are one atom.
+//! Equality, hashes and copies of atoms, by what they require: patterns of one tree are one atom.
 
 ghost use Rattle.std.specs.Prelude.{◌≡◌, IfOk};
 ghost use Rattle.std.specs.Cmp.{on_equiv, partial_equiv_from_equiv};

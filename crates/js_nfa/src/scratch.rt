@@ -1,8 +1,8 @@
 //! Room for the states of a word's beginnings.
 
 use crate::nfa::Nfa;
-use crate::position_set::PositionSet;
 use js_doc::Memory;
+use js_pattern_positions::PositionSet;
 use std::alloc::Global;
 
 /// Room for the states that `finds` goes through: the positions that were read last, and those that read the next

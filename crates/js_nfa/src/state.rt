@@ -12,7 +12,7 @@ ghost use Rattle.js_nfa.specs.View.{state_view};
 ghost use Rattle.js_nfa.specs.Fed.{fed_state, fed_places};
 ghost use Rattle.js_nfa.specs.StateLaws.{same_pattern_state-equivalence, fed-same};
 
-use crate::position_set::PositionSet;
+use js_pattern_positions::PositionSet;
 use std::hash::{Hash, Hasher};
 
 /// What is kept of a word. Contracts see it by `state_view`.

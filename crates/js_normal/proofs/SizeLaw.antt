@@ -156,14 +156,6 @@ takes-groups ds =
           → Takes (one_of_kind t P (once same xs)) (three xs)
       once_kind t P same xs = rw (← three-once same xs) (takes-kind t P (once same xs))
 
-null-size : (t : Bool) → cond t 1 0 ≤ 1
-null-size true = omega arith
-null-size false = omega arith
-
-three-size : {A : Type 0} (xs : List A) → three xs ≤ 3
-three-size [] = omega arith
-three-size (x ∷ xs) = omega arith
-
 -- the groups and 8 more are within 8 for each value
 groups-size : (ds : List Document) → group_sizes ds + 8 ≤ 8 * values_size ds
 groups-size [] = omega arith

@@ -19,7 +19,7 @@ pub record Made : Type 0 where
 abbrev pub next_of : Made → ℕ
 next_of m = m.first + length m.nodes
 
--- with the entry of that form and rank
+-- what was made, with the entry of one more form and rank
 unfoldable pub with_entry : Form → ℕ → Made → Made
 with_entry f r m = record {
   first = m.first;
@@ -29,7 +29,7 @@ with_entry f r m = record {
   node_ranks = m.node_ranks ++ numbered r (next_of m) (form_nodes tree_of f (next_of m)).added;
 }
 
--- with entries of those forms and ranks
+-- what was made, with the entries of more forms and ranks
 abbrev pub with_all : List Form → List ℕ → Made → Made
 with_all (f ∷ fs) (r ∷ rs) m = with_all fs rs (with_entry f r m)
 with_all _ _ m = m

@@ -1,6 +1,6 @@
 //! Two core tables in one.
 //!
-//! The first table stands as it is, and the positions of the second are moved up by its length. Each keeps what it
+//! The first table stays as it is, and the positions of the second are moved up by its length. Each keeps what it
 //! means.
 //! The cost is that of a copy.
 
@@ -17,7 +17,7 @@ use js_algebra::{Core, Node, NodeList, Pos, PosList, RankList};
 use js_doc::Memory;
 use std::alloc::Global;
 
-/// The table of both, and where position 0 of each stands in it.
+/// The table of both, and where position 0 of each is in it.
 pub fn join_tables(alloc: Global, a: &Core, b: &Core) -> Result<(Core, Pos, Pos), Memory>
     requires { length a.now.positions + length b.now.positions < 2 ^ 32 }
     ensures positions { IfOk result (λ r. r.0.positions ≡ joined a.now.positions b.now.positions) }

@@ -228,12 +228,7 @@ fn add_kind(types: &TypeList, kind: JsonKind, kinds: &mut Vec<JsonKind>) -> Resu
 fn is_named(types: &TypeList, kind: JsonKind) -> bool
     ensures { result ≡ some (λ t. K.same_kind (kind_view kind) (kind_named t)) (map type_view types.now) }
 {
-    for name in types.as_slice() {
-        if kind_of(*name) == kind {
-            return true;
-        }
-    }
-    false
+    types.as_slice().iter().any(|name| kind_of(*name) == kind)
 }
 
 /// The kind that the name of a type names.

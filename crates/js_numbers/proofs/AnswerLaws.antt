@@ -249,7 +249,7 @@ says_among limit m g l none = elim (least_below-cases (λ k. is_last g (reached 
       (says_at_limit limit m g l none w.0)
 ]
 
--- ---- all steps
+-- ---- the answer by multiples
 
 says_multiples : (limit m : ℕ) (g : Group) → IsLcmOf g.multiples m → g.sets ≡ []
     → Says limit m g (answer_of_multiples limit m g)

@@ -37,13 +37,6 @@ rank_within values j l =
 
 -- ---- block after block
 
-pub IsFirstBelow-none : (values : List ℤ) (test : ℤ → Bool) → IsFirstBelow 0 values test (length values)
-IsFirstBelow-none values test = record {
-  within = omega arith;
-  before = λ j k l e less. absurd (omega arith);
-  here = λ l. absurd (omega arith);
-}
-
 pub IsFirstBelow-more : (limit start : ℕ) (values : List ℤ) (test : ℤ → Bool) (end place : ℕ)
     → IsFirstBelow start values test end → IsFirstIn limit start values test end place
     → IsFirstBelow (start + limit) values test place
@@ -75,6 +68,7 @@ none_before rank values test place first all j l =
     let (k, e, less) = rank_within values j (omega (arith, l, within)) in
     first.before j k l e (omega (arith, less, all))
 
+-- once all ranks are looked at, the place that was found is that of the first value that passes
 pub find-IsFirstBelow : (rank : ℕ) (values : List ℤ) (test : ℤ → Bool) (place : ℕ)
     → IsFirstBelow rank values test place → length values ≤ rank → place < length values
     → find test values ≡ Some (get_or values place (pos 0))

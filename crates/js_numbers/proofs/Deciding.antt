@@ -10,6 +10,7 @@ pub lcm_of_positive : (ms : List ℕ) → 0 < lcm_of ms
 unfolding lcm_of
 lcm_of_positive ms = zero-lt-suc _
 
+-- a group whose bounds cross is empty, and any other is answered by its sets
 pub step : (limit : ℕ) (g : Group) (b : Bool) → is_crossed g.low g.high ≡ b
     → outcome limit g ≡ (if b then Empty else answer_in limit g g.sets)
 unfolding outcome

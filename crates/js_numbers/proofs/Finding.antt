@@ -18,7 +18,7 @@ find-at p (x ∷ xs) (suc i) d l before h =
     find-front p x xs false (before 0 (omega arith))
     ∙ find-at p xs i d (omega arith) (λ j m. before (suc j) (omega arith)) h
 
--- where none passes
+-- where no element passes, none is found
 pub find-none : {X : Type 0} (p : X → Bool) (xs : List X) (d : X)
     → ((j : ℕ) → j < length xs → p (get_or xs j d) ≡ false)
     → find p xs ≡ None

@@ -53,7 +53,7 @@ index_down_found m low x last k d e l f = same_test (k * m == d) (int_eq x (neg_
 
 -- ---- marks
 
--- marks that stood nowhere before
+-- marks that were nowhere before
 pub AreMarked-from_none : (limit : ℕ) (candidate : ℕ → ℤ) (test : ℤ → Bool) (new : List Bool)
     → AddsMarks limit candidate test (replicate limit false) new → AreMarked limit candidate test new
 AreMarked-from_none limit candidate test new h = λ k l small.

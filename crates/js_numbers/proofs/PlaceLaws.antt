@@ -83,7 +83,7 @@ some_multiple_from m low x p h l =
     let (d, i, e) = difference m a x (first_divides m low p) h (first_least m low x p h l) in
     (d / m, ap (λ n. a +ℤ pos n) (div-mul_cancel m i) ∙ sym e)
 
--- ---- without bounds
+-- ---- multiples without bounds
 
 divides_alternate : (m k : ℕ) → m ∣ unsigned_abs (alternate m k)
 divides_alternate m k = go (k % 2 == 0)
@@ -115,7 +115,7 @@ some_alternate m (pos n) h = not_negative m n (n / m) (div-mul_cancel m h)
 some_alternate m (negsuc n) h =
     (2 * (suc n / m), alternate_even m (suc n / m) ∙ ap (λ z. neg_ℤ (pos z)) (div-mul_cancel m h))
 
--- ---- all three orders
+-- ---- multiples in all three orders
 
 pub divides_place : (m : ℕ) (low high : Option ℤ) (k : ℕ) → 0 < m → m ∣ unsigned_abs (place m low high k)
 divides_place m (Some low) high k p = divides_multiple_from m low k p

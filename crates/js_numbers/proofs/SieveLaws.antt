@@ -1,4 +1,4 @@
--- The steps of a divisor among the multiples of a number, and the candidates that stand at them.
+-- The steps of a divisor among the multiples of a number, and the candidates that are at them.
 use Rattle.std.proofs.Common.{◌≡◌, ◌≢◌, ℕ, zero, suc, ◌+◌, ◌-◌, ◌*◌, ◌/◌, ◌%◌, ◌<◌, ◌≤◌, ◌==◌, nat_lt, Bool, true, false, ◌&&◌, ◌||◌, List, length, get_or, replicate, set, take, Some, ◌^◌, ℤ, pos, negsuc, neg_ℤ, ◌+ℤ◌, unsigned_abs, inl, inr, refl, ap, sym, ◌∙◌, subst, arith, if◌then◌else◌}
 use Rattle.std.specs.List.{list_any}
 use Rattle.std.specs.Int.{IsGcd, int_div_euclid, int_rem_euclid}
@@ -85,19 +85,6 @@ passed_more first step j k h other = same_test
 pub passed_here : (first step k : ℕ) → 0 < step → is_on first step k ≡ true
     → (is_on first step k && nat_lt k (k + step)) ≡ true
 passed_here first step k p h = and_from _ _ h (lt-ltb k (k + step) (omega arith))
-
--- none is passed at the first one
-pub passed_none : (first step j : ℕ) → (is_on first step j && nat_lt j first) ≡ false
-passed_none first step j = sym (same_test false (is_on first step j && nat_lt j first)
-    (λ e. absurd (false≢true e))
-    (λ e. let (a, b) = and_parts _ _ e in
-    let (i, f) = is_on-parts first step j a in
-    let lt = ltb-true j first b in absurd (omega (arith, f))))
-
--- all are passed that are below a number
-pub passed_all : (first step j k : ℕ) → j < k → (is_on first step j && nat_lt j k) ≡ is_on first step j
-passed_all first step j k l = same_test (is_on first step j && nat_lt j k) (is_on first step j)
-    (λ e. (and_parts _ _ e).0) (λ e. and_from _ _ e (lt-ltb j k l))
 
 -- ---- upwards and downwards
 
@@ -256,9 +243,6 @@ pub is_on-next : (first step k : ℕ) → is_on first step k ≡ true → is_on 
 is_on-next first step k h =
     let (j, e) = is_on-parts first step k h in
     is_on-step first step (j + 1) (k + step) (omega (arith, e))
-
-pub is_on-first : (first step : ℕ) → is_on first step first ≡ true
-is_on-first first step = is_on-step first step 0 first (omega arith)
 
 -- ---- the marks of several divisors
 

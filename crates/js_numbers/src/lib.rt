@@ -7,7 +7,7 @@
 //! Without required sets, the cost is a pass over the sets that are ruled out, a greatest common divisor for
 //! each divisor that is ruled out, and a sieve of 65,536 candidates. With such sets it is binary searches, in
 //! proportion to the values, but for three products: values that pass everything else times divisors that are ruled
-//! out; all values times blocks, the values of the first set by 65,536 being a block; and how often a value stands in
+//! out; all values times blocks, the values of the first set by 65,536 being a block; and how often a value is in
 //! the first set times the required sets that have it.
 #![tactic(auto)]
 

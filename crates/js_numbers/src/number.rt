@@ -56,22 +56,12 @@ pub fn divides_any(divisors: &[u64], x: i128) -> bool
 pub fn all_have(sets: &[&NumList], x: i128) -> bool
     ensures { result ≡ list_all (λ s. has s x) (lists_of sets.now) }
 {
-    for set in sets {
-        if !set.has(x) {
-            return false;
-        }
-    }
-    true
+    sets.iter().all(|set| set.has(x))
 }
 
 /// Whether one of the sets has `x`.
 pub fn any_has(sets: &[&NumList], x: i128) -> bool
     ensures { result ≡ list_any (λ s. has s x) (lists_of sets.now) }
 {
-    for set in sets {
-        if set.has(x) {
-            return true;
-        }
-    }
-    false
+    sets.iter().any(|set| set.has(x))
 }

@@ -1,25 +1,24 @@
 -- The cells that are found for a set are those of the rows of its automaton, and its faults are the limits passed.
-use Rattle.std.proofs.Common.{◌≡◌, ℕ, suc, ◌<◌, ◌≤◌, List, map, length, Result, Ok, Err, Some, None, Option, IfOk, IfErr, refl, ap, sym, ◌∙◌, subst, arith}
+use Rattle.std.proofs.Common.{◌≡◌, ℕ, ◌≤◌, List, length, Result, Ok, Err, Some, None, Option, IfOk, OnOk, IfErr, ap, sym, ◌∙◌, subst}
 use Rattle.std.specs.Result.{IsErrAnd}
 use Rattle.word_states.specs.Atom.{Atom}
-use Rattle.word_states.specs.AtomPositions.{positions_of}
-use Rattle.word_states.specs.Classes.{class_count, characters}
-use Rattle.word_states.specs.Rows.{AreRows, HaveStates}
+use Rattle.word_states.specs.Classes.{characters}
+use Rattle.word_states.specs.Rows.{AreRows}
 use Rattle.positions.specs.Position.{Position}
 use Rattle.goals.specs.Signed.{Signed}
 use Rattle.cells.specs.Cells.{Cells, cells}
-use Rattle.alternatives.specs.Limit.{LimitKind, Positions, Classes, States, most_positions, most_classes, most_states, most_words}
+use Rattle.alternatives.specs.Limit.{LimitKind, Positions, Classes, States, most_states, most_words}
 use Rattle.finders.specs.Limits.{rows_found, limit_passed, unless_passed}
 use Rattle.finders.specs.WordsFound.{far}
 use Rattle.finders.specs.Names.{atoms_of_names, cells_of}
-use Rattle.finder_laws.proofs.RowsFound.{rows_grown, passes_positions, passes_classes, passes_states, passes_none}
-use Rattle.js_nfa.specs.AtomView.{atom_view}
-use Rattle.js_automaton.specs.AutomatonView.{rows_of}
+use Rattle.finder_laws.proofs.RowsFound.{rows_grown}
+use Rattle.js_automaton.specs.AutomatonView.{atoms_of, rows_of}
+use Rattle.js_automaton.specs.declared.automaton.Automaton.{Automaton}
 use Rattle.js_automaton.specs.declared.fault.AutoFault.{AutoFault}
 use Rattle.js_automaton.specs.declared.fault.AutoFault.TheVariants as F
+use Rattle.js_kept_automaton.specs.Outcomes.{passed, Passes}
 use Rattle.js_objects.specs.Leaves.{NamesFail}
 use Rattle.js_objects.specs.Steps.{IsOfNames}
-use Rattle.js_objects.specs.declared.names.Names.{Names}
 
 module _ (T : List Position) (S : List Signed) where
   abbrev by_rows : List (List ℕ) → Cells
@@ -31,66 +30,42 @@ module _ (T : List Position) (S : List Signed) where
       ap (λ l. unless_passed l (by_rows (rows_found characters most_states (atoms_of_names T S)))) e
 
   -- the faults of the automaton
-  pub names-fail : (atoms : List Atom) → atoms ≡ atoms_of_names T S → (fault : AutoFault)
-      → (fault ≡ F.LimitPositions → most_positions < positions_of atoms)
-      → (fault ≡ F.LimitClasses → (positions_of atoms ≤ most_positions) × (most_classes < class_count atoms))
-      → (fault ≡ F.LimitStates → (positions_of atoms ≤ most_positions) × (class_count atoms ≤ most_classes)
-      × HaveStates atoms (suc most_states))
+  pub names-fail : (atoms : List Atom) → atoms ≡ atoms_of_names T S → (fault : AutoFault) → Passes atoms fault
       → NamesFail (cells_of T S) fault
-  names-fail atoms is F.LimitPositions p c s =
-      answer_is (Some Positions) (passes_positions (atoms_of_names T S) most_states
-      (subst (λ z. most_positions < positions_of z) is (p refl)))
-  names-fail atoms is F.LimitClasses p c s =
-      answer_is (Some Classes) (passes_classes (atoms_of_names T S) most_states
-      (subst (λ z. positions_of z ≤ most_positions) is (c refl).0)
-      (subst (λ z. most_classes < class_count z) is (c refl).1))
-  names-fail atoms is F.LimitStates p c s =
-      answer_is (Some States) (passes_states (atoms_of_names T S) most_states
-      (subst (λ z. positions_of z ≤ most_positions) is (s refl).0)
-      (subst (λ z. class_count z ≤ most_classes) is (s refl).1)
-      (subst (λ z. HaveStates z (suc most_states)) is (s refl).2))
-  names-fail atoms is F.Memory p c s = tt
+  names-fail atoms is F.LimitPositions p =
+      answer_is (Some Positions) (subst (λ z. passed z ≡ Some Positions) is p)
+  names-fail atoms is F.LimitClasses p = answer_is (Some Classes) (subst (λ z. passed z ≡ Some Classes) is p)
+  names-fail atoms is F.LimitStates p = answer_is (Some States) (subst (λ z. passed z ≡ Some States) is p)
+  names-fail atoms is F.Memory p = tt
 
-  -- its rows
+  -- where the automaton has rows, the cells are found by these
   pub names-found : (atoms : List Atom) → atoms ≡ atoms_of_names T S → (L : List (List ℕ)) → AreRows atoms L
-      → length L ≤ most_states → positions_of atoms ≤ most_positions → class_count atoms ≤ most_classes
-      → cells_of T S ≡ Ok (by_rows L)
-  names-found atoms is L rows few positions classes =
-      let own : AreRows (atoms_of_names T S) L = subst (λ z. AreRows z L) is rows in
-      answer_is None (passes_none (atoms_of_names T S) most_states
-      (subst (λ z. positions_of z ≤ most_positions) is positions)
-      (subst (λ z. class_count z ≤ most_classes) is classes) L own few)
-      ∙ ap (λ K. Ok (by_rows K)) (rows_grown (atoms_of_names T S) most_states L own few)
+      → length L ≤ most_states → passed atoms ≡ None → cells_of T S ≡ Ok (by_rows L)
+  names-found atoms is L rows few none =
+      answer_is None (subst (λ z. passed z ≡ None) is none)
+      ∙ ap (λ K. Ok (by_rows K))
+      (rows_grown (atoms_of_names T S) most_states L (subst (λ z. AreRows z L) is rows) few)
 
-  -- names of the set's atoms
-  pub names-of : (n : Names) → map atom_view n.atoms.items ≡ atoms_of_names T S → IsOfNames T S n.automaton
-  names-of n is =
-      let a = n.automaton in
-      let p = n.positions in
-      let k = n.classes in
-      record {
-        atoms = n.of_atoms ∙ is;
-        found = names-found (map atom_view n.atoms.items) is (rows_of a)
-            (subst (λ z. AreRows z (rows_of a)) n.of_atoms a.found.1.0) a.found.1.1 (omega (arith, p))
-            (omega (arith, k));
-      }
+  -- an automaton of the set's atoms
+  pub names-of : (a : Automaton) (atoms : List Atom) → atoms_of a ≡ atoms → atoms ≡ atoms_of_names T S
+      → passed atoms ≡ None → IsOfNames T S a
+  names-of a atoms of is none = record {
+    atoms = of ∙ is;
+    found = names-found atoms is (rows_of a) (subst (λ z. AreRows z (rows_of a)) of a.found.1.0) a.found.1.1 none;
+  }
 
   -- what is built
 
-  pub built-of : {E : Type 0} (r : Result Names E) (atoms : List Atom) → atoms ≡ atoms_of_names T S
-      → IfOk r (λ n. map atom_view n.atoms.items ≡ atoms) → IfOk r (λ n. IsOfNames T S n.automaton)
-  built-of (Err f) atoms is h = tt
-  built-of (Ok n) atoms is h = names-of n (h ∙ is)
+  pub built-of : {R : Type 0} (r : Result R AutoFault) (now : R → Automaton) (atoms : List Atom)
+      → atoms ≡ atoms_of_names T S → IfOk r (λ a. atoms_of (now a) ≡ atoms) → OnOk r (passed atoms ≡ None)
+      → IfOk r (λ a. IsOfNames T S (now a))
+  built-of (Err f) now atoms is of none = tt
+  built-of (Ok a) now atoms is of none = names-of (now a) atoms of is none
 
-  pub built-fails : {A : Type 0} (r : Result A AutoFault) (atoms : List Atom) → atoms ≡ atoms_of_names T S
-      → IfErr r (λ f. f ≡ F.LimitPositions → most_positions < positions_of atoms)
-      → IfErr r (λ f. f ≡ F.LimitClasses
-      → (positions_of atoms ≤ most_positions) × (most_classes < class_count atoms))
-      → IfErr r (λ f. f ≡ F.LimitStates → (positions_of atoms ≤ most_positions) × (class_count atoms ≤ most_classes)
-      × HaveStates atoms (suc most_states))
-      → IfErr r (λ f. NamesFail (cells_of T S) f)
-  built-fails (Ok a) atoms is p c s = tt
-  built-fails (Err f) atoms is p c s = names-fail atoms is f p c s
+  pub built-fails : {R : Type 0} (r : Result R AutoFault) (atoms : List Atom) → atoms ≡ atoms_of_names T S
+      → IfErr r (λ f. Passes atoms f) → IfErr r (λ f. NamesFail (cells_of T S) f)
+  built-fails (Ok a) atoms is p = tt
+  built-fails (Err f) atoms is p = names-fail atoms is f p
 
 -- want of memory says nothing
 pub memory-fails : {A : Type 0} (r : Result A AutoFault) (found : Result Cells LimitKind)

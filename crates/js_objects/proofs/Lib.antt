@@ -1,5 +1,4 @@
 mod Finding
-mod SameAtoms
 mod Past
 mod Columns
 mod Framing

@@ -45,7 +45,7 @@ right_past T ranks table l S C e c past =
     let (scalar, place) = right.words.of_cell c w i in
     let within = right.cells.known w scalar in omega (arith, past, place, within))
 
--- a set that asks nothing has one cell
+-- a set that requires nothing has one cell
 one_vector : (T : List Position) (L : List (List ℕ))
     → mention_all same_vector ([] ∷ []) (map (vector T []) L) ≡ [] ∷ []
 one_vector T [] = refl

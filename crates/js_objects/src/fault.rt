@@ -8,7 +8,7 @@ use thiserror::Error;
 /// The count, the names or the plans are beyond a limit, or there is no memory.
 #[derive(Clone, Copy, PartialEq, Eq, Debug, Error)]
 pub enum ObjectFault {
-    /// The branch asks for more than 65,536 members.
+    /// The branch requires more than 65,536 members.
     #[error("more than 65536 members")]
     LimitCounts,
     /// The patterns of names have more than 16,384 positions together.

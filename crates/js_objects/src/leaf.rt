@@ -14,7 +14,7 @@ ghost use Rattle.js_objects.specs.Leaves.{Answers, Follows, Makes, Says, planned
 ghost use Rattle.js_objects.specs.Steps.{AreOpen, IsOfNames, cells_by};
 
 use crate::fault::ObjectFault;
-use crate::names::{KeptNames, Names};
+use crate::names::name_automaton;
 use crate::object_frame::ObjectFrame;
 use js_algebra::{BranchId, Core, JsonKind, Signed};
 use js_automaton::Automaton;
@@ -22,24 +22,26 @@ use js_bounds::Bounds;
 use js_cells::Cells;
 use js_doc::Memory;
 use js_expansion::{AlternativeList, Leaf};
+use js_kept_automaton::KeptAutomaton;
 use js_plans::{Naming, plan_alternatives};
 use js_tableau::Branch;
 use std::alloc::Global;
 
-/// The most members that a branch may ask for.
+/// The most members that a branch may require.
 pub const MOST_COUNTS: u32 = 65_536;
 
 /// The alternatives of a branch at objects: one for each complete plan, in order. Without any where the bounds of the
-/// count cross; `LimitCounts` exactly where they don't and the branch asks for more than 65,536 members; where neither
+/// count cross; `LimitCounts` exactly where they don't and the branch requires more than 65,536 members; where neither
 /// holds, the limits of the automaton of names, each exactly where it is passed first; and then `LimitPlans` exactly
 /// where the tree of plans has more than 65,536 ends.
 ///
-/// What is kept of names serves a later branch that says the same of them, and changes no answer.
+/// The automaton of the names is kept, or its limit: it serves a later branch that says the same of them, and changes
+/// no answer.
 pub fn object_alternatives(
     alloc: Global,
     core: &Core,
     branch: &Branch,
-    kept: &mut KeptNames,
+    kept: &mut KeptAutomaton,
 ) -> Result<Leaf, ObjectFault>
     requires { are_in_table core.now.positions branch.now.set ≡ true }
     ensures answer { Answers core.now.positions branch.now.id.number branch.now.set result }
@@ -62,7 +64,7 @@ fn leaf(
     core: &Core,
     set: &[Signed],
     number: u32,
-    kept: &mut KeptNames,
+    kept: &mut KeptAutomaton,
 ) -> Result<Leaf, ObjectFault>
     requires in_table { are_in_table core.now.positions (map signed_view set.now) ≡ true }
     requires table { is_table core.now.positions core.now.ranks ≡ true }
@@ -87,7 +89,7 @@ fn open_leaf(
     set: &[Signed],
     number: u32,
     bounds: Bounds,
-    kept: &mut KeptNames,
+    kept: &mut KeptAutomaton,
 ) -> Result<Leaf, ObjectFault>
     requires in_table { are_in_table core.now.positions (map signed_view set.now) ≡ true }
     requires table { is_table core.now.positions core.now.ranks ≡ true }
@@ -95,10 +97,8 @@ fn open_leaf(
     ensures { Says (planned_leaf core.now.positions number (map signed_view set.now)
         (cells_of core.now.positions (map signed_view set.now))) result }
 {
-    let names = Names::of_set(alloc, core, set, kept.names.take())?;
-    let leaf = leaf_of_names(alloc, core, set, number, bounds, &names.automaton);
-    kept.names = Some(names);
-    leaf
+    let automaton = name_automaton(alloc, core, set, kept)?;
+    leaf_of_names(alloc, core, set, number, bounds, automaton)
 }
 
 /// The leaf over the cells of the automaton's rows.

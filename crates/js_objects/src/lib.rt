@@ -3,7 +3,7 @@
 //!
 //! `object_alternatives` answers the leaf of the definition, and its contract says what the alternatives mean. It costs
 //! the automaton of the names with its cells, the counts of these, and the walk through the plans. `object_words` costs
-//! the automaton with its cells again, and the names.
+//! the automaton with its cells again, and the names; `object_words_by_cell` costs them once for all cells.
 #![tactic(auto)]
 
 mod cell_tests;
@@ -16,6 +16,6 @@ mod words;
 
 pub use fault::ObjectFault;
 pub use leaf::{MOST_COUNTS, frame_of, object_alternatives};
-pub use names::{KeptNames, Names};
+pub use names::name_automaton;
 pub use object_frame::ObjectFrame;
-pub use words::object_words;
+pub use words::{object_words, object_words_by_cell};

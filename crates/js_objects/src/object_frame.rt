@@ -21,8 +21,8 @@ use std::alloc::Global;
 /// From so many names on, the count of a cell's names is cut.
 const MOST_NAMES: u32 = 65_537;
 
-/// What a set asks of the members of an object, by the cells of their names. `frame_view` is the frame that it stands
-/// for.
+/// What a set requires of the members of an object, by the cells of their names. `frame_view` is the frame that it
+/// stands for.
 #[derive(Drop)]
 pub struct ObjectFrame<'a> {
     core: &'a Core,
@@ -64,7 +64,7 @@ impl<'a> ObjectFrame<'a> {
     ghost use Rattle.js_cells.specs.View.{cells_view};
     ghost use Rattle.js_objects.specs.FrameView.{frame_view};
 
-    /// The frame of a set, which asks for so many members, by the cells of its names.
+    /// The frame of a set, which requires so many members, by the cells of its names.
     pub(crate) fn new(
         alloc: Global,
         core: &'a Core,
@@ -172,8 +172,8 @@ impl PlanFrame for ObjectFrame<'_> {
         self.allowed.as_slice()
     }
 
-    fn is_inside(&self, demand: usize, cell: u32) -> bool {
-        self.inside.is_passed(demand, cell)
+    fn inside(&self, demand: usize) -> &[bool] {
+        self.inside.row(demand)
     }
 
     fn cap(&self, cell: u32) -> Option<u32> {

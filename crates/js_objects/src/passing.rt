@@ -1,9 +1,9 @@
 //! Which tests the names of each cell pass.
 //!
-//! A walk through plans asks all cells about one test, and then about another one, and there are many walks and few
-//! tests: so what the cells say is read off once, cell by cell, and kept test by test.
+//! A walk through plans looks up one test at all cells, and then another one, and there are many walks and few tests:
+//! so what the cells say is read off once, cell by cell, and kept test by test.
 
-ghost use Rattle.std.specs.Prelude.{◌≡◌, ◌≢◌, ◌+◌, ◌-◌, ◌*◌, ◌<◌, ◌≤◌, ℕ, length, get_or, min, true, IfOk};
+ghost use Rattle.std.specs.Prelude.{◌≡◌, ◌≢◌, ◌+◌, ◌*◌, ◌<◌, ◌≤◌, ◌^◌, ℕ, length, get_or, true, false, IfOk};
 ghost use Rattle.js_cells.specs.View.{cells_view};
 ghost use Rattle.js_name_tests.specs.NameTests.{passes, are_within};
 ghost use Rattle.js_objects.specs.Passing.{is_passed_at, ArePassed};
@@ -29,8 +29,8 @@ impl Passing {
     {
         let width = cells.len() as usize + 1;
         let mut passing = Passing::none(alloc, tests.len(), width)?;
-        for column in 0..width {
-            passing.read(cells, tests, column as u32);
+        for (row, test) in tests.iter().enumerate() {
+            passing.read(cells, *test, row);
         }
         Ok(passing)
     }
@@ -49,31 +49,31 @@ impl Passing {
         })
     }
 
-    /// Reads off which tests the names of a cell pass.
-    fn read(&mut self, cells: &Cells, tests: &[NameTest], cell: u32)
-        requires within { are_within (length (cells_view cells.now).names) tests.now ≡ true }
-        requires wide { cell < self.old.width }
-        requires long { length self.old.truths.items ≡ length tests.now * self.old.width }
+    /// Reads off into a row of which cells the names pass a test.
+    fn read(&mut self, cells: &Cells, test: NameTest, row: usize)
+        requires literal { test.literal < length (cells_view cells.now).names }
+        requires few { self.old.width ≤ 2 ^ 32 }
+        requires row { row * self.old.width + self.old.width ≤ length self.old.truths.items }
         ensures wide { self.new.width ≡ self.old.width }
         ensures long { length self.new.truths.items ≡ length self.old.truths.items }
-        ensures told { (d : ℕ) (t : NameTest) → d < length tests.now
-            → is_passed_at self.new d cell ≡ passes (cells_view cells.now) cell (get_or tests.now d t) }
-        ensures others { (d c : ℕ) → c < self.old.width → c ≢ cell
+        ensures told { (c : ℕ) → c < self.old.width
+            → is_passed_at self.new row c ≡ passes (cells_view cells.now) c test }
+        ensures others { (d c : ℕ) → c < self.old.width → d ≢ row
             → is_passed_at self.new d c ≡ is_passed_at self.old d c }
     {
-        for (row, test) in tests.iter().enumerate() {
-            let is_passed = says(cells, cell, test.literal) == test.truth;
-            self.truths[row * self.width + cell as usize] = is_passed;
+        for column in 0..self.width {
+            let is_passed = says(cells, column as u32, test.literal) == test.truth;
+            self.truths[row * self.width + column] = is_passed;
         }
     }
 
-    /// Whether the names of a cell pass the test of that number.
-    pub(crate) fn is_passed(&self, test: usize, cell: u32) -> bool
-        requires wide { 0 < self.now.width }
-        requires test { test * self.now.width + self.now.width ≤ length self.now.truths.items }
-        ensures { result ≡ is_passed_at self.now test (min cell (self.now.width - 1)) }
+    /// For each cell whether its names pass the test of that number, and a last truth for cells that aren't there.
+    pub(crate) fn row(&self, test: usize) -> &[bool]
+        requires { test * self.now.width + self.now.width ≤ length self.now.truths.items }
+        ensures long { length result.now ≡ self.now.width }
+        ensures truths { (c : ℕ) → c < self.now.width → get_or result.now c false ≡ is_passed_at self.now test c }
     {
-        let column = (cell as usize).min(self.width - 1);
-        self.truths[test * self.width + column]
+        let start = test * self.width;
+        &self.truths[start..start + self.width]
     }
 }

@@ -13,7 +13,7 @@ use Rattle.std.proofs.lemmas.Map.Text.{is_eq-slice_cmp}
 use Rattle.std.proofs.lemmas.Slice.Eq.{bytes_eq-Decides}
 use Rattle.js_outside.specs.Contents.{Entries, contents, bytes_at, place_of, with_file}
 
--- no bytes stand past the end
+-- no bytes are past the end
 pub bytes_at-past : (files : Entries) (i : ℕ) → length files ≤ i → bytes_at files i ≡ []
 bytes_at-past [] i past = refl
 bytes_at-past (file ∷ files) zero past = absurd (omega arith)
@@ -61,7 +61,7 @@ contents-found f xs files i x name seen within at same none =
 abbrev nothing : List ℕ
 nothing = []
 
--- nothing stands behind the front of nothing
+-- nothing comes behind the front of nothing
 drop-nothing : (n : ℕ) → drop n nothing ≡ nothing
 drop-nothing zero = refl
 drop-nothing (suc n) = refl

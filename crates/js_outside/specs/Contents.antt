@@ -24,7 +24,7 @@ bytes_at (file ∷ files) (suc place) = bytes_at files place
 abbrev pub with_file : Entries → List ℕ → List ℕ → Entries
 with_file files name bytes = insert_entry (slice_cmp nat_cmp) files name bytes
 
--- how many names stand before `name`
+-- how many names come before `name`
 abbrev pub place_of : Entries → List ℕ → ℕ
 place_of [] name = 0
 place_of (file ∷ files) name = if is_gt (slice_cmp nat_cmp name file.0) then suc (place_of files name) else 0

@@ -1,4 +1,4 @@
--- Counts of faults. A count stands still at its last value.
+-- Counts of faults. A count stays at its last value.
 use Rattle.std.specs.Prelude.{◌≡◌, ℕ, ◌+◌, ◌-◌, ◌^◌, ◌<◌, ◌≤◌, max, min}
 use Rattle.std.specs.Prelude.{Result, Ok, Err}
 use Rattle.js_outside.specs.declared.faults.BeginFault.{BeginFault}
@@ -8,11 +8,11 @@ use Rattle.js_outside.specs.declared.faults.BeginFault.TheVariants.{Failed, Memo
 abbrev pub last_count : ℕ
 last_count = 2 ^ 64 - 1
 
--- a count after one fault more. It never falls, and it stands still at its last value
+-- a count after one fault more. It never falls, and it stays at its last value
 abbrev pub one_more : ℕ → ℕ
 one_more count = max count (min (count + 1) last_count)
 
--- a count rose in a call: it is greater after the call than before, or it stands at its last value
+-- a count rose in a call: it is greater after the call than before, or it is at its last value
 abbrev pub Rose : ℕ → ℕ → Type 0
 Rose before after = one_more before ≤ after
 

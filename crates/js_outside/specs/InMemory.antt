@@ -1,5 +1,5 @@
 -- Shelves and sinks over memory, as contracts see them, and what a call does to each.
-use Rattle.std.specs.Prelude.{◌≡◌, ℕ, ◌+◌, ◌<◌, ◌≤◌, ◌==◌, List, [], ◌∷◌, ◌++◌, length, take, drop, min, Bool}
+use Rattle.std.specs.Prelude.{◌≡◌, ℕ, ◌+◌, ◌<◌, ◌≤◌, ◌==◌, List, [], ◌∷◌, ◌++◌, length, take, drop, min, Bool, true, false}
 use Rattle.std.specs.Prelude.{Option, None, Some, Result, Ok, Err}
 use Rattle.std.specs.List.{list_any}
 use Rattle.js_outside.specs.Counts.{one_more}
@@ -9,17 +9,18 @@ use Rattle.js_outside.specs.declared.faults.BeginFault.{BeginFault}
 use Rattle.js_outside.specs.declared.faults.BeginFault.TheVariants.{Failed, Memory}
 use Rattle.js_outside.specs.declared.memory_shelf.Begun.{Begun}
 
--- a shelf over memory: its files, what is left of the file that was begun, its count of faults, and the names that were
--- begun
+-- a shelf over memory: its files, whether one is begun, what is left of it, the count of faults, and the names that
+-- were begun
 pub record ShelfState : Type 0 where
   pub files : Entries
+  pub is_begun : Bool
   pub left : List ℕ
   pub faults : ℕ
   pub begun : List (List ℕ)
 
 -- a shelf with no file begun and no fault
 abbrev pub new_shelf : Entries → ShelfState
-new_shelf files = record { files = files; left = []; faults = 0; begun = [] }
+new_shelf files = record { files = files; is_begun = false; left = []; faults = 0; begun = [] }
 
 -- each fault was a name that was begun and isn't there
 abbrev pub FaultsAreMisses : ShelfState → Type 0
@@ -32,13 +33,13 @@ left_of files (Some begun) = drop begun.position (bytes_at files begun.file)
 
 -- the name was begun and failed: no file is begun, and there is a fault more
 abbrev pub unbegun : ShelfState → List ℕ → ShelfState
-unbegun s name = record s { left = []; faults = one_more s.faults; begun = s.begun ++ name ∷ [] }
+unbegun s name = record s { is_begun = false; left = []; faults = one_more s.faults; begun = s.begun ++ name ∷ [] }
 
 -- `begin`: the file of the name is there and is all left to be read, or it isn't there and the call failed
 abbrev pub BeginsIn : {T : Type 0} → ShelfState → ShelfState → List ℕ → Result T BeginFault → Type 0
 BeginsIn old new name (Ok x) =
     (contents old.files name ≡ Some new.left)
-    × (new ≡ record old { left = new.left; begun = old.begun ++ name ∷ [] })
+    × (new ≡ record old { is_begun = true; left = new.left; begun = old.begun ++ name ∷ [] })
 BeginsIn old new name (Err Failed) = (contents old.files name ≡ None) × (new ≡ unbegun old name)
 BeginsIn old new name (Err Memory) = ⊥
 

@@ -17,7 +17,7 @@ pub enum BeginFault {
 #[derive(Clone, Copy, PartialEq, Eq, Debug)]
 pub struct Failed;
 
-/// The count after one fault more. It stands still at its last value.
+/// The count after one fault more. It stays at its last value.
 pub(crate) fn raised(count: u64) -> u64
     ensures { result ≡ one_more count }
 {

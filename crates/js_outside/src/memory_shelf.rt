@@ -29,12 +29,14 @@ pub(crate) struct Stock {
 }
 
 impl Model for Stock {
+    ghost use Rattle.std.specs.Prelude.{is_some};
     ghost use Rattle.js_outside.specs.InMemory.{ShelfState, left_of};
 
     ghost Value = { ShelfState };
 
     ghost view = { λ s. record {
       files = s.files;
+      is_begun = is_some s.begun;
       left = left_of s.files s.begun;
       faults = s.faults;
       begun = s.names.names;
@@ -163,6 +165,8 @@ impl Shelf for MemoryShelf {
 
     ghost left = { λ s. Some s.left };
 
+    ghost is_begun = { λ s. s.is_begun };
+
     ghost faults = { λ s. s.faults };
 
     ghost begun = { λ s. s.begun };
@@ -217,6 +221,8 @@ impl Shelf for FailingShelf {
     ghost told = { λ s. Some (contents s.shelf.files) };
 
     ghost left = { λ s. Some s.shelf.left };
+
+    ghost is_begun = { λ s. s.shelf.is_begun };
 
     ghost faults = { λ s. s.shelf.faults };
 
@@ -289,6 +295,8 @@ impl Shelf for CutShelf {
     ghost told = { λ s. Some (contents s.shelf.files) };
 
     ghost left = { λ s. Some s.shelf.left };
+
+    ghost is_begun = { λ s. s.shelf.is_begun };
 
     ghost faults = { λ s. s.shelf.faults };
 

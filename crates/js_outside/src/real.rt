@@ -36,11 +36,13 @@ impl<'a, R: Files> FileShelf<'a, R> {
 }
 
 impl<'a, R: Files> Shelf for FileShelf<'a, R> {
-    ghost use Rattle.std.specs.Prelude.{None, refl};
+    ghost use Rattle.std.specs.Prelude.{None, is_some, refl};
 
     ghost told = { λ s. None };
 
     ghost left = { λ s. None };
+
+    ghost is_begun = { λ s. is_some s.file };
 
     ghost faults = { λ s. s.faults };
 

@@ -1,6 +1,6 @@
 //! A shelf: where files are read from, one at a time.
 
-ghost use Rattle.std.specs.Prelude.{◌≡◌, ◌∷◌, ◌++◌, ℕ, List, [], Option, OnOk, OnErr, is_some};
+ghost use Rattle.std.specs.Prelude.{◌≡◌, ◌∷◌, ◌++◌, ℕ, Bool, List, [], Option, OnOk, OnErr, is_ok, is_some};
 ghost use Rattle.std.specs.Io.{ReadsAtMost};
 ghost use Rattle.std.specs.Io.KnownBytes.{ReadConsumes};
 ghost use Rattle.js_outside.specs.Counts.{Rose, CountsBegin};
@@ -17,7 +17,10 @@ pub trait Shelf {
     // What is left of the file that was begun, where files are known.
     ghost left: { Self → Option (List ℕ) };
 
-    // How many faults there were. The count stands still at its last value.
+    // Whether a file is begun. Where none is, nothing is left, as where all of one was read.
+    ghost is_begun: { Self → Bool };
+
+    // How many faults there were. The count stays at its last value.
     ghost faults: { Self → ℕ };
 
     // The names with which `begin` was called, in their order, whatever it answered.
@@ -28,17 +31,19 @@ pub trait Shelf {
         ensures told { told self.new ≡ told self.old }
         ensures begun { OnOk result (FileIsLeft (told self.old) name.now (left self.new)) }
         ensures unbegun { OnErr result (NothingIsLeft (told self.old) (left self.new)) }
+        ensures is_begun { is_begun self.new ≡ is_ok result }
         ensures counted { CountsBegin result (faults self.old) (faults self.new) }
         ensures named { begun self.new ≡ begun self.old ++ name.now ∷ [] };
 
     /// Reads bytes of the file that was begun into the front of `into`, and answers how many. Where `into` has room, 0
-    /// says that nothing is left. With no file begun there is nothing to read.
+    /// says that nothing is left. With no file begun there is nothing to read. After a fault the file is still begun.
     fn read(&mut self, into: &mut [u8]) -> Result<usize, Failed>
         ensures told { told self.new ≡ told self.old }
         ensures within { ReadsAtMost result into.new }
         ensures taken { ReadConsumes (left self.old) (left self.new) result into.new }
         ensures counted { OnOk result (faults self.new ≡ faults self.old) }
         ensures failed { OnErr result (Rose (faults self.old) (faults self.new)) }
+        ensures is_begun { is_begun self.new ≡ is_begun self.old }
         ensures named { begun self.new ≡ begun self.old };
 
     // What is left is known exactly where the files are.

@@ -12,7 +12,7 @@ pub trait Sink {
     // The bytes so far, where they are known.
     ghost written: { Self → Option (List ℕ) };
 
-    // How many faults there were. The count stands still at its last value.
+    // How many faults there were. The count stays at its last value.
     ghost faults: { Self → ℕ };
 
     /// Appends a prefix of `piece` and answers its length. The answer 0 for a piece that isn't empty is a fault too,

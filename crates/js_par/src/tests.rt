@@ -43,7 +43,7 @@ fn two_threads_run(rt: HostRuntime) -> Result<(), Fail> {
     let inside = Meeting::new(0, 2);
     let task = Doubling { meeting: &inside };
     let answers = map_items(&rt, rt.alloc(), &task, &at_gate, &[5, 7], 2)?;
-    assert!(rt; at_gate.was_met());
+    assert!(rt; at_gate.was_each_met());
     assert!(rt; inside.was_met());
     assert_eq!(rt; answers.as_slice(), [10, 14].as_slice());
     Ok(())

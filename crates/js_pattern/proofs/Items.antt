@@ -45,7 +45,7 @@ after_item old new n (Ok p) more h =
     ∙ (let e : p.1 ≡ n = omega (arith, same) in ap (λ k. after (suc n) (λ x. new ++ x) (more k)) e)
 after_item old new n (Err fault) more h = cc
 
--- a character stands at an index, and the text follows it
+-- a character is at an index, and the text follows it
 pub text_at : (text : List ℕ) (i c : ℕ) → i < length text → c ≡ get_or text i c
     → drop i text ≡ c ∷ drop (i + 1) text
 text_at text i c l e = rw add-one (drop-cons text i c l ∙ ap (λ x. x ∷ drop (suc i) text) (sym e))

@@ -90,6 +90,7 @@ are_ranges-joined_from low first last (r ∷ rs) l is h e =
       lower low high [] l h = tt
       lower low high (r ∷ rs) l h = (omega (arith, h.0), h.1)
 
+-- sorted ranges that are joined rise, with a number between each two that is in neither
 pub are_ranges-joined : (rs : List (ℕ × ℕ)) → IsSorted pair_cmp rs → every_range rs ≡ true
     → are_ranges 0 (joined rs) ≡ true
 are_ranges-joined [] s e = refl
@@ -147,6 +148,7 @@ module _ (xs ys : List (ℕ × ℕ)) (same : IsPermutation xs ys) where
       has-sum ys n ∙ ap (nat_lt 0) (sum_by-IsPermutation (λ r. one (is_within r n)) xs ys same)
       ∙ sym (has-sum xs n)
 
+  -- whatever the order of ranges was, what is joined of them sorted is their set
   pub joined-set_of : IsSorted pair_cmp ys → every_range xs ≡ true → joined ys ≡ set_of xs
   joined-set_of s e =
       let every : every_range ys ≡ true = every_range-permuted e in

@@ -9,7 +9,7 @@ pub mod SetOps
 pub mod Characters
 pub mod Items
 pub mod Steps
--- Trees that stand in a list.
+-- Trees that are in a list.
 pub mod TreeLists
 -- A text has a tree or a first fault, and want of memory is none.
 pub mod NoMemory

@@ -200,6 +200,7 @@ whole_no : (t : List ℕ) (r : Reading Body) → NoMemory r → NoMemory (whole 
 whole_no t (Ok p) h = if_no (nat_lt p.1 (length t)) _ _ (syntax_no p.1) (ok_no (tree_of p.0))
 whole_no t (Err fault) h = λ e. h (let same : fault ≡ Memory = cc in ap Err same)
 
+-- no text has want of memory as the answer of the grammar
 pub pattern_no_memory : (t : List ℕ) → pattern t ≢ Err Memory
 unfolding pattern
 pattern_no_memory t = whole_no t (alternatives 0 0 0 t) (alternatives_no 0 0 0 t)

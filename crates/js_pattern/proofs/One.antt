@@ -6,6 +6,7 @@ use Rattle.js_pattern.specs.Grammar.{pattern}
 use Rattle.js_pattern.proofs.NoMemory.{pattern_no_memory}
 use Rattle.js_pattern.specs.Correct.{HasOne}
 
+-- each text has a tree, or a first fault that isn't want of memory
 pub has_one : (text : List ℕ) → HasOne text
 has_one text = by (pattern text) refl where
   by : (r : Result Tree PatternFault) → pattern text ≡ r → HasOne text

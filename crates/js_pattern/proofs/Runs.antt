@@ -64,7 +64,7 @@ module _ (radix : ℕ) where
             ∙ sym (ap (λ p. cut p.0) (digits_from-other b c t l))
       ]
 
-  -- the run at an index, where a digit stands there and where none does
+  -- the run at an index, where a digit is there and where none is
   pub run-digit : (n m i c d : ℕ) (t : List ℕ) → 1 ≤ radix → i < length t → c ≡ get_or t i c
       → digit_value c < radix → digit_value c ≡ d
       → m ≡ min (min (n * radix) 4294967295 + d) 4294967295

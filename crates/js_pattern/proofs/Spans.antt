@@ -65,11 +65,6 @@ module _ (c : ℕ) (s : ℕ × ℕ) (one : IsOneGroup s) where
     before = λ e w a. (is_within-true s e w).0;
   }
 
-  -- nothing of an earlier group
-  pub none_within : (set : List (ℕ × ℕ)) → group_of s.0 < group_of c → NextWithin set c s None
-  none_within set g =
-      λ e w a. absurd (let l = (is_later (group_of e) (group_of c) e c a).0 in omega (arith, one e w))
-
 pub next_within : (set : List (ℕ × ℕ)) (c : ℕ) (s : ℕ × ℕ) (low : ℕ) (o : Option ℕ) → Begins c s low
     → FirstWithin set low s.1 o → NextWithin set c s o
 next_within set c s low None b h = λ e w a. h e (b.before e w a) (is_within-true s e w).1

@@ -78,14 +78,14 @@ finished-add_alternative p body =
     ∙ ap alternation_of (sym
     (append_assoc p.done (sequence_of p.terms ∷ []) (sequence_of body.0 ∷ map sequence_of body.1)))
 
--- a fault of what stands here is what comes of the text
+-- a fault of what is here is what comes of the text
 pub outcome_fault : (outers : List Part) (p : Part) (at : ℕ) (s : List ℕ) (fault : PatternFault)
     → alternatives (length outers) 0 at s ≡ Err fault → outcome outers p at s ≡ Err fault
 outcome_fault [] p at s fault e = ap (ended p at s) e
 outcome_fault (outer ∷ outers) p at s fault e =
     ap (closed (λ tree. outcome outers (with_term outer tree)) p at s) e
 
--- the opening of a group that stands inside few others, or inside too many
+-- the opening of a group that is inside few others, or inside too many
 pub nested_within : (depth at n : ℕ) (r : Result ℕ PatternFault) → r ≡ Ok n → depth < most_nested
     → nested depth at r ≡ Ok n
 nested_within depth at n r e few =
@@ -120,7 +120,7 @@ module _ (outers : List Part) (p : Part) (at c : ℕ) (t : List ℕ) where
       → outcome outers q (at + suc k) (drop (suc k) (c ∷ t)) ≡ outcome outers q (at + 1 + k) (drop k t)
   moved k q = let place : at + suc k ≡ at + 1 + k = omega arith in ap (λ a. outcome outers q a (drop k t)) place
 
-  -- what stands here, by what its character means
+  -- what is here, by what its character means
   by_sign : (x : Sign) → sign_of c ≡ x
       → alternatives (length outers) 0 at (c ∷ t) ≡ body_at x (length outers) at c t inner_on here_on
   unfolding here_on inner_on
@@ -225,7 +225,7 @@ module _ (outers : List Part) (p : Part) (at c : ℕ) (t : List ℕ) where
       ap (λ a. go_on (λ tree. outcome outers (with_term outer tree)) (a + 1) t
       (quantified (finished p empty_body) (a + 1) t)) place)
 
-  -- faults of what stands here
+  -- faults of what is here
   pub term_fault : (fault : PatternFault) → sign_of c ≡ begins_term → IsFault fault (term at c t)
       → IsFault fault (outcome outers p at (c ∷ t))
   term_fault fault sign h no_memory =
@@ -237,13 +237,6 @@ module _ (outers : List Part) (p : Part) (at c : ℕ) (t : List ℕ) where
       → IsFault fault (outcome outers p at (c ∷ t))
   opening_fault fault sign e no_memory =
       outcome_fault outers p at (c ∷ t) fault (by_sign opens sign ∙ ap (group_of inner_on here_on at t) e)
-
-  pub close_fault : (outer : Part) (fault : PatternFault) → sign_of c ≡ closes
-      → IsFault fault (quantified (finished p empty_body) (at + 1) t)
-      → IsFault fault (outcome (outer ∷ outers) p at (c ∷ t))
-  close_fault outer fault sign h no_memory =
-      after_close outer sign
-      ∙ ap (go_on (λ tree. outcome outers (with_term outer tree)) (at + 1) t) (h no_memory)
 
 -- the end of the text, where no group is open, and where one is
 pub at_last : (p : Part) (at : ℕ) → outcome [] p at [] ≡ Ok (finished p empty_body)

@@ -1,4 +1,4 @@
--- A class: what stands between `[` and `]`.
+-- A class: what is between `[` and `]`.
 use Rattle.std.specs.Prelude.{ℕ, zero, suc, ◌+◌, Bool, true, false, not, ◌&&◌, nat_le, nat_lt, List, [], ◌∷◌, ◌++◌, drop, Ok, Err, if◌then◌else◌}
 use Rattle.patterns.specs.CharSet.{set_of, complement_of}
 use Rattle.js_pattern.specs.declared.fault.PatternFault.TheVariants.{Syntax, RangeOrder}
@@ -7,7 +7,7 @@ use Rattle.js_pattern.specs.declared.escape.Escape.TheVariants.{Character, Class
 use Rattle.js_pattern.specs.Reading.{Reading, and_then, after, ◌∈◌, stands_at}
 use Rattle.js_pattern.specs.Escapes.{class_set, escape}
 
--- a member of a class: c stands at the place `at`, and the text follows it
+-- a member of a class: c is at the place `at`, and the text follows it
 abbrev pub class_atom : ℕ → ℕ → List ℕ → Reading Escape
 class_atom at c t = if c ∈ "\\" then escape at t else Ok (Character c, 0)
 
@@ -36,7 +36,7 @@ item_of at t (Character x) n =
     (drop (n + 1) t)
     else Ok ((x, x) ∷ [], n)
 
--- one item of a class: c stands at the place `at`, and the text follows it
+-- one item of a class: c is at the place `at`, and the text follows it
 abbrev pub item : ℕ → ℕ → List ℕ → Reading (List (ℕ × ℕ))
 item at c t = and_then (class_atom at c t) (item_of at t)
 
@@ -52,7 +52,7 @@ items skip at [] = Err (Syntax at)
 items (suc skip) at (c ∷ t) = items skip (suc at) t
 items zero at (c ∷ t) = items_at (c ∈ "]") at c t (λ n. items n (suc at) t)
 
--- a class as its set: the `[` stands at the place `at`, and the text follows it
+-- a class as its set: the `[` is at the place `at`, and the text follows it
 abbrev pub class : ℕ → List ℕ → Reading (List (ℕ × ℕ))
 class at t =
     if stands_at 0 "^" t then after 1 (λ rs. complement_of (set_of rs)) (items 0 (at + 2) (drop 1 t))

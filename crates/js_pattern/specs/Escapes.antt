@@ -122,7 +122,7 @@ byte_of at (Some n) = numbered at 3 n
 abbrev pub byte_escape : ℕ → List ℕ → Reading Escape
 byte_escape at t = byte_of at (hexadecimal 2 t)
 
--- `\0`, after which no digit stands; t follows the `0`
+-- `\0`, after which no digit comes; t follows the `0`
 abbrev pub null_escape : ℕ → List ℕ → Reading Escape
 null_escape at t = if nat_lt 0 (digits 10 t).1 then Err (Unsupported at Octal) else Ok (Character 0, 1)
 
@@ -139,7 +139,7 @@ escape_of at c t None None =
     else if c ∈ "u" then unicode_escape at t
     else letter_of at (letter_escape c)
 
--- an escape: the backslash stands at the place `at`, and the text follows it
+-- an escape: the backslash is at the place `at`, and the text follows it
 abbrev pub escape : ℕ → List ℕ → Reading Escape
 escape at [] = Err (Syntax at)
 escape at (c ∷ t) = escape_of at c t (class_escape c) (unsupported_escape c)

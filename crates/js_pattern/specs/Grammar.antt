@@ -50,8 +50,8 @@ abbrev pub set_of_escape : Escape → Tree
 set_of_escape (Character c) = one_of ((c, c) ∷ [])
 set_of_escape (Class set) = one_of (class_set set)
 
--- a character, a set, or a quantifier with no atom before it, which is a fault. c stands at the place `at`, and the
--- text follows it
+-- a character, a set, or a quantifier with no atom before it, which is a fault. c is at the place `at`, and the text
+-- follows it
 abbrev pub atom : ℕ → ℕ → List ℕ → Reading Tree
 atom at c t =
     if c ∈ "." then Ok (one_of dot_set, 0)
@@ -71,7 +71,7 @@ term at c t =
     else if c ∈ "$" then Ok (at_end, 0)
     else quantified_atom at c t
 
--- how many characters belong to the opening of a group after its `(`, which stands at the place `at`
+-- how many characters belong to the opening of a group after its `(`, which is at the place `at`
 abbrev pub opening : ℕ → List ℕ → Result ℕ PatternFault
 opening at t =
     if stands_at 0 "?" t
@@ -83,7 +83,7 @@ opening at t =
     else Err (Syntax at))
     else Ok 0
 
--- a group may stand inside so many others
+-- a group may be inside so many others
 abbrev pub most_nested : ℕ
 most_nested = 1000
 
@@ -106,14 +106,14 @@ sign_of c = if c ∈ ")" then closes else if c ∈ "|" then divides else if c �
 abbrev pub term_and_more : (ℕ → Reading Body) → Tree → ℕ → Reading Body
 term_and_more more tree n = after (suc n) (add_term tree) (more n)
 
--- a group with its quantifier, and the terms after it. The text begins at the `)`, which stands at the place `at`;
--- `taken` characters of the group lie between its `(` and there
+-- a group with its quantifier, and the terms after it. The text begins at the `)`, which is at the place `at`; `taken`
+-- characters of the group lie between its `(` and there
 abbrev pub group_end : (ℕ → Reading Body) → Body → ℕ → ℕ → List ℕ → Reading Body
 group_end more body taken at [] = Err (Syntax at)
 group_end more body taken at (c ∷ t) =
     and_then (quantified (tree_of body) (at + 1) t) (λ tree n. term_and_more more tree (taken + 1 + n))
 
--- a group whose `(` stands at the place `at`, and the text follows it. Its body begins `taken` characters later;
+-- a group whose `(` is at the place `at`, and the text follows it. Its body begins `taken` characters later;
 -- `inner n` reads n characters on inside the group, and `more n` behind it
 abbrev pub group : (ℕ → Reading Body) → (ℕ → Reading Body) → ℕ → List ℕ → ℕ → Reading Body
 group inner more at t taken =
@@ -124,7 +124,7 @@ abbrev pub group_of : (ℕ → Reading Body) → (ℕ → Reading Body) → ℕ 
 group_of inner more at t (Ok taken) = group inner more at t taken
 group_of inner more at t (Err fault) = Err fault
 
--- what a character begins inside so many groups: c stands at the place `at`, and the text follows it
+-- what a character begins inside so many groups: c is at the place `at`, and the text follows it
 abbrev pub body_at : Sign → ℕ → ℕ → ℕ → List ℕ → (ℕ → Reading Body) → (ℕ → Reading Body) → Reading Body
 body_at closes depth at c t inner more = Ok (empty_body, 0)
 body_at divides depth at c t inner more = after 1 add_alternative (more 0)

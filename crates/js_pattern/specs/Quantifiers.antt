@@ -1,4 +1,4 @@
--- How often an atom stands.
+-- How often an atom is repeated.
 use Rattle.std.specs.Prelude.{ℕ, ◌+◌, ◌&&◌, ◌||◌, nat_eq, nat_lt, List, [], ◌∷◌, drop, Result, Ok, Err, Option, Some, None, if◌then◌else◌}
 use Rattle.patterns.specs.Tree.{Tree, repeated}
 use Rattle.js_pattern.specs.declared.fault.PatternFault.{PatternFault}
@@ -46,7 +46,7 @@ judged_by at low (Some high) =
 abbrev pub judged : ℕ → Bounds → Result (Unit {0}) PatternFault
 judged at b = judged_by at b.low b.high
 
--- a `?` after a quantifier asks for the shortest match first, and changes nothing of what matches
+-- a `?` after a quantifier prefers the shortest match, and changes nothing of what matches
 abbrev pub repeated_by : Tree → List ℕ → Bounds → Result (Unit {0}) PatternFault → Reading Tree
 repeated_by tree t b (Ok u) =
     Ok (repeated tree b.low b.high, 1 + b.taken + (if stands_at b.taken "?" t then 1 else 0))

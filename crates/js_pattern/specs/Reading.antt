@@ -4,7 +4,7 @@ use Rattle.std.specs.Char.{digit_value}
 use Prim.Native.String.{String}
 use Rattle.js_pattern.specs.declared.fault.PatternFault.{PatternFault}
 
--- what stands at the front of a text and how many characters it takes, or the first fault
+-- what is at the front of a text and how many characters it takes, or the first fault
 abbrev pub Reading : Type 0 → Type 0
 Reading A = Result (A × ℕ) PatternFault
 

@@ -1,4 +1,4 @@
--- What a contract sees of a tree that the reader made, and how an answer of the reader stands to the grammar's.
+-- What a contract sees of a tree that the reader made, and how an answer of the reader compares with the grammar's.
 use Rattle.std.specs.Prelude.{◌≡◌, ◌≢◌, ℕ, min, List, ◌++◌, option_map, Result, Ok, Err}
 use Rattle.patterns.specs.Tree as trees
 use Rattle.js_pattern.specs.declared.re.Re.{Re, fold-Re}

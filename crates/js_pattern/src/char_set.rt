@@ -39,12 +39,9 @@ impl CharSet {
         ensures { result ≡ has self.now c }
     {
         let code = c as u32;
-        for range in &self.ranges {
-            if range.0 <= code && code <= range.1 {
-                return true;
-            }
-        }
-        false
+        self.ranges
+            .iter()
+            .any(|range| range.0 <= code && code <= range.1)
     }
 
     /// The set's ranges in order, each with its first and its last character.

@@ -1,4 +1,4 @@
-//! A class: what stands between `[` and `]`.
+//! A class: what is between `[` and `]`.
 //!
 //! Reading a class looks at each character once, but for an escape after a `-`, which may be read twice. Its ranges
 //! are sorted at the end.
@@ -15,7 +15,7 @@ use crate::range_list::RangeList;
 use crate::scan::{is_at, skip};
 use std::alloc::Global;
 
-/// A member of a class, whose first character stands at the place `at`.
+/// A member of a class, whose first character is at the place `at`.
 fn class_atom(first: char, rest: &[char], at: usize) -> Result<(Escape, usize), PatternFault>
     ensures value { result ≡ class_atom at first rest.now }
     ensures within { IfOk result (λ r. r.1 ≤ length rest.now) }
@@ -62,7 +62,7 @@ fn read_range(
     }
 }
 
-/// Reads an item of a class, whose first character stands at the place `at`. Answers how many characters follow that.
+/// Reads an item of a class, whose first character is at the place `at`. Answers how many characters follow that.
 fn read_item(
     list: &mut RangeList,
     first: char,
@@ -116,7 +116,7 @@ fn read_items(alloc: Global, text: &[char], at: usize) -> Result<(RangeList, usi
     Err(PatternFault::Syntax(at + text.len()))
 }
 
-/// Reads a class, whose `[` stands at the place `at`, before the text.
+/// Reads a class, whose `[` is at the place `at`, before the text.
 pub(crate) fn read_class(
     alloc: Global,
     text: &[char],

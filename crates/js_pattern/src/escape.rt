@@ -232,7 +232,7 @@ fn null_escape(text: &[char], at: usize) -> Result<(Escape, usize), PatternFault
     Ok((Escape::Character('\0'), 1))
 }
 
-/// Reads an escape whose backslash stands at the place `at`, before the text. Answers what it stands for, and how many
+/// Reads an escape whose backslash is at the place `at`, before the text. Answers what it stands for, and how many
 /// characters follow the backslash.
 pub(crate) fn read_escape(text: &[char], at: usize) -> Result<(Escape, usize), PatternFault>
     ensures value { result ≡ escape at text.now }

@@ -1,4 +1,4 @@
-//! How often an atom stands.
+//! How often an atom is repeated.
 //!
 //! Reading a quantifier takes one look at each of its characters, and memory for one node.
 

@@ -6,11 +6,11 @@ ghost use Rattle.std.specs.Prelude.{◌≡◌, map};
 
 use crate::char_set::CharSet;
 
-/// What a pattern asks of a word. Groups leave no node, and lists have at least two elements.
+/// What a pattern requires of a word. Groups leave no node, and lists have at least two elements.
 #[cycle(re)]
 #[derive(Drop)]
 pub enum Re {
-    /// nothing
+    /// the empty word
     Empty,
     /// one character of a set
     Set(CharSet),
@@ -18,9 +18,9 @@ pub enum Re {
     Start,
     /// the end of the word
     End,
-    /// one after another
+    /// the trees of a list, one after another
     Seq(ReList),
-    /// one of several
+    /// one of the trees of a list
     Alt(ReList),
     /// so often at least, and so often at most, if there is a second number
     Repeat(Box<Re>, u32, Option<u32>),

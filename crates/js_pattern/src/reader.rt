@@ -19,7 +19,7 @@ use crate::term::{opening, read_term};
 use std::alloc::{AllocError, Global};
 use std::mem;
 
-/// A group may stand inside so many others.
+/// A group may be inside so many others.
 const MOST_NESTED: usize = 1_000;
 
 /// The groups that are open, the innermost last, and what is read of the innermost one.

@@ -1,4 +1,4 @@
-//! What several readers of a text ask of its front: one character, what follows, and a run of digits.
+//! What several readers of a text look up at its front: one character, what follows, and a run of digits.
 
 ghost use Rattle.std.specs.Prelude.{◌≡◌, ◌+◌, ◌<◌, ◌≤◌, ◌&&◌, nat_lt, nat_eq, length, drop, slice_index, IsTrue};
 ghost use Rattle.js_pattern.specs.Reading.{digits};

@@ -23,7 +23,7 @@ static DOT: [(u32, u32); 5] = [
     (0xe000, 0x10ffff),
 ];
 
-/// How many characters belong to the opening of a group after its `(`, which stands at the place `at`.
+/// How many characters belong to the opening of a group after its `(`, which is at the place `at`.
 pub(crate) fn opening(text: &[char], at: usize) -> Result<usize, PatternFault>
     ensures value { result ≡ opening at text.now }
     ensures within { IfOk result (λ n. n ≤ length text.now) }
@@ -63,7 +63,7 @@ fn escaped(alloc: Global, escape: Escape) -> Result<Re, Memory>
     }
 }
 
-/// Reads an atom, whose first character stands at the place `at`. Answers how many characters follow that.
+/// Reads an atom, whose first character is at the place `at`. Answers how many characters follow that.
 fn read_atom(
     alloc: Global,
     first: char,

@@ -1,18 +1,11 @@
 -- How far plans reach, as it comes with the servers of a path.
-use Rattle.std.proofs.Common.{◌≡◌, ℕ, zero, suc, ◌<◌, ◌≤◌, ◌^◌, List, [], ◌∷◌, ◌++◌, take, length, get_or, arith, ap, sym, ◌∙◌, subst, append_assoc}
+use Rattle.std.proofs.Common.{◌≡◌, ℕ, zero, suc, ◌<◌, ◌≤◌, ◌^◌, List, [], ◌∷◌, ◌++◌, take, length, get_or, arith, ap, sym, subst, append_assoc}
 use Rattle.std.proofs.lemmas.List.{length-take}
 use Rattle.js_plans.specs.declared.server.Server.{Server}
-use Rattle.js_plans.specs.declared.server.Server.TheVariants as V
-use Rattle.js_plans.specs.Servers.{cells_of, members_after, used_after}
-use Rattle.js_plans.proofs.Shown.{used-push, cells-push}
-use Rattle.js_plan_lines.specs.declared.extent.Extent.{Extent}
-use Rattle.js_plan_lines.specs.Reach.{IsExtent, AreExtents}
-
-pub cells-few : (ws : List Server) → length (cells_of ws) ≤ length ws
-cells-few [] = omega arith
-cells-few (V.Head k ∷ ws) = omega (arith, cells-few ws)
-cells-few (V.Member k ∷ ws) = omega (arith, cells-few ws)
-cells-few (V.New c ∷ ws) = omega (arith, cells-few ws)
+use Rattle.js_plans.specs.declared.path.Extent.{Extent}
+use Rattle.js_plans.specs.Servers.{members_after, used_after, IsExtent}
+use Rattle.js_plans.proofs.Extents.{next-extent}
+use Rattle.js_plan_lines.specs.Reach.{AreExtents}
 
 pub extents-none : (ws us : List Server) (xs : List Extent) → us ≡ [] → AreExtents ws us xs
 extents-none ws us xs e = subst (λ zs. AreExtents ws zs xs) (sym e) tt
@@ -22,7 +15,7 @@ extents-before vs [] ss xs a = tt
 extents-before vs (u ∷ us) ss [] a = absurd a
 extents-before vs (u ∷ us) ss (x ∷ xs) a = (a.0, extents-before (vs ++ u ∷ []) us ss xs a.1)
 
--- those of a path are those of what stands before its last server
+-- those of a path are those of what comes before its last server
 pub before-last : (ws us : List Server) (s : Server) (xs : List Extent) → ws ≡ us ++ s ∷ [] → AreExtents [] ws xs
     → AreExtents [] us xs
 before-last ws us s xs e a = extents-before [] us (s ∷ []) xs (subst (λ zs. AreExtents [] zs xs) e a)
@@ -79,15 +72,6 @@ extents-push vs (u ∷ us) s (y ∷ xs) x a l h = (
   extents-push (vs ++ u ∷ []) us s xs x a.1 (omega (arith, l))
       (subst (λ zs. IsExtent zs x) (sym (append_assoc vs (u ∷ []) (us ++ s ∷ []))) h),
 )
-
--- one more server
-next-extent : (ws : List Server) (s : Server) (x y : Extent) → IsExtent ws x → y.used ≡ used_after x.used s
-    → y.members ≡ members_after x.members s → y.used ≤ 2 ^ 32 → IsExtent (ws ++ s ∷ []) y
-next-extent ws s x y h u m b = record {
-  used = u ∙ ap (λ n. used_after n s) h.used ∙ sym (used-push 0 ws s);
-  members = m ∙ ap (λ n. members_after n s) h.members ∙ sym (cells-push ws s);
-  bound = b;
-}
 
 pub push-path : (n : ℕ) (ws us vs : List Server) (s : Server) (xs ys zs : List Extent) (x y : Extent)
     → us ≡ take n ws → ys ≡ take n xs → vs ≡ us ++ s ∷ [] → zs ≡ ys ++ y ∷ [] → n ≤ length ws → AreExtents [] ws xs

@@ -22,7 +22,7 @@ use Rattle.js_plan_lines.proofs.Placing.{heads-are, placed-count}
 use Rattle.js_plans.proofs.Plans.{members_on-cons, valid-before}
 use Rattle.js_plans.proofs.Placing.{at-head, at-member}
 
--- what stands before the last server
+-- what comes before the last server
 pub cut-last : (ws us : List Server) (s : Server) → ws ≡ us ++ s ∷ [] → take (length ws - 1) ws ≡ us
 cut-last ws us s e =
     let n : length (us ++ s ∷ []) - 1 ≡ length us = omega (arith, length-append us (s ∷ [])) in

@@ -17,6 +17,7 @@ module _ (frame : Frame) where
         (subst (λ us. are_valid frame.heads 0 us ≡ true) (sym (take-append-drop n ws)) path.valid);
   }
 
+  -- a path with one more server that fits there is a path
   pub path-push : (ws : List Server) (s : Server) → IsPath frame ws → Fits frame ws s → IsPath frame (ws ++ s ∷ [])
   path-push ws s path (l, v) = record {
     few = omega (arith, l, length-append ws (s ∷ []));

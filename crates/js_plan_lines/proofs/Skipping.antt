@@ -1,6 +1,6 @@
 -- What is kept is passed over: nothing there clashes.
 use Rattle.std.proofs.Common.{◌≡◌, ℕ, zero, suc, ◌+◌, ◌-◌, ◌<◌, ◌≤◌, ◌^◌, min, max, inl, inr, List, drop, length, Bool, true, false, not, cond, nat_eq, nat_lt, Option, Some, None, refl, arith, ap, sym, ◌∙◌, subst}
-use Rattle.std.proofs.lemmas.Bool.{and_from, cases_lt, ltb-true, ltb-false, eqb-true}
+use Rattle.std.proofs.lemmas.Bool.{ne_eqb, and_from, cases_lt, ltb-true, ltb-false}
 use Rattle.std.proofs.lemmas.List.{drop_all}
 use Rattle.positions.specs.Position.{Position}
 use Rattle.goals.specs.Signed.{Signed}
@@ -17,12 +17,6 @@ use Rattle.js_plan_lines.specs.Kept.{is_kept, AreBefore, head_or, member_or, end
 use Rattle.js_plan_lines.proofs.Firsts.{clash-next}
 use Rattle.js_plan_lines.proofs.Keeping.{kept-goal}
 
-pub eq-false : (i k : ℕ) → (i ≡ k → ⊥) → nat_eq i k ≡ false
-eq-false i k n = go (nat_eq i k) (eqb-true i k) where
-  go : (b : Bool) → (b ≡ true → i ≡ k) → b ≡ false
-  go true y = absurd (n (y refl))
-  go false y = refl
-
 lt-true : (i k : ℕ) → i < k → nat_lt i k ≡ true
 lt-true i k l = go (nat_lt i k) (ltb-false i k) where
   go : (b : Bool) → (b ≡ false → k ≤ i) → b ≡ true
@@ -37,14 +31,14 @@ lt-false i k l = go (nat_lt i k) (ltb-true i k) where
 
 -- the last server stands for neither
 head-apart : (k m n : ℕ) (s : Server) → (k ≡ head_or n s → ⊥) → serves_too (V.Head k) m s ≡ false
-head-apart k m n (V.Head i) a = eq-false i k (λ e. a (sym e))
+head-apart k m n (V.Head i) a = ne_eqb i k (λ e. a (sym e))
 head-apart k m n (V.Member i) a = refl
 head-apart k m n (V.New c) a = refl
 
 member-apart : (k m : ℕ) (s : Server) → (k ≡ member_or m s → ⊥) → serves_too (V.Member k) m s ≡ false
 member-apart k m (V.Head i) a = refl
-member-apart k m (V.Member i) a = eq-false i k (λ e. a (sym e))
-member-apart k m (V.New c) a = eq-false m k (λ e. a (sym e))
+member-apart k m (V.Member i) a = ne_eqb i k (λ e. a (sym e))
+member-apart k m (V.New c) a = ne_eqb m k (λ e. a (sym e))
 
 below : (n e last i : ℕ) → n ≤ i → i < max n (end_before n e last) → (i < e) × (i ≡ last → ⊥)
 below n e last i a = go (nat_lt last n) (ltb-true last n) where
@@ -101,6 +95,7 @@ module _ (T : List Position) (frame : Frame) (ws : List Server) (path : IsPath f
       ∙ pass-all m (suc k) (λ i a l. f i (omega (arith, a)) (omega (arith, l)))
       ∙ ap from z
 
+  -- nothing that is skipped clashes: the first clash from place k on is the first one behind what is skipped
   pub pass-kept : (k j : ℕ) → j ≡ skip o h k → k ≤ j → from k ≡ from j
   pass-kept k j e l =
       let z : k + (j - k) ≡ j = omega (arith, l) in

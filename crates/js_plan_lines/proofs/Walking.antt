@@ -61,9 +61,6 @@ module _ (T : List Position) (frame : Frame) where
       subst (λ us. IsClear T frame us × AreClear T frame us (map (entry (length ws)) ss ++ es)) (sym (take-length ws))
       (clear, clear-entries ws ss es clear c)
 
-pub empty-clear : (T : List Position) (frame : Frame) (ws : List Server) → ws ≡ [] → WasClear T frame ws
-empty-clear T frame ws e l = absurd (omega (arith, l, ap length e))
-
 pub empty-path : (frame : Frame) (ws : List Server) → ws ≡ [] → IsPath frame ws
 empty-path frame ws e = subst (IsPath frame) (sym e) (record { few = omega arith; valid = refl })
 
@@ -74,7 +71,7 @@ module _ (number : List Signed → Option ℕ) (form : Form) (T : List Position)
   abbrev left : List Server → List Pending → List Line
   left ws es = lines_left number form T frame ws es
 
-  -- servers that come later change nothing of what stands before them
+  -- servers that come later change nothing of what comes before them
   left-more : (ws zs : List Server) (es : List Pending) → AreFine frame ws es → left (ws ++ zs) es ≡ left ws es
   left-more ws zs [] f = refl
   left-more ws zs (e ∷ es) f = ap (λ us. after (us ++ e.server ∷ []) ++ left us es) (take-append-le e.level ws zs f.0)

@@ -41,7 +41,7 @@ member_or n (V.Head k) = n
 member_or n (V.Member k) = k
 member_or n (V.New c) = n
 
--- from n on, what stands below e goes on to there, or to the last server
+-- from n on, what is below e goes on to there, or to the last server
 abbrev pub end_before : ℕ → ℕ → ℕ → ℕ
 end_before n e last = cond (nat_lt last n) e (min e last)
 

@@ -1,24 +1,18 @@
 -- How far the plan of some servers reaches, and what it places by number, read off them.
-use Rattle.std.specs.Prelude.{◌≡◌, ℕ, ◌-◌, ◌≤◌, ◌^◌, min, List, [], ◌∷◌, ◌++◌, reverse, length, true, cond, nat_lt, ⊤}
+use Rattle.std.specs.Prelude.{◌≡◌, ℕ, ◌-◌, ◌≤◌, min, List, [], ◌∷◌, ◌++◌, reverse, length, true, cond, nat_lt, ⊤}
 use Rattle.goals.specs.Signed.{Signed}
 use Rattle.frames.specs.Frame.{Place, Frame}
 use Rattle.js_plans.specs.declared.server.Server.{Server}
 use Rattle.js_plans.specs.declared.server.Server.TheVariants as V
-use Rattle.js_plans.specs.Servers.{most_used, cells_of, earlier, are_valid}
+use Rattle.js_plans.specs.declared.path.Extent.{Extent}
+use Rattle.js_plans.specs.Servers.{earlier, are_valid, IsExtent}
 use Rattle.js_plans.specs.Goals.{place_after}
 use Rattle.js_plans.specs.Walks.{size_of}
-use Rattle.js_plan_lines.specs.declared.extent.Extent.{Extent}
 
 -- each server is there, and serves a demand
 pub record IsPath (frame : Frame) (ws : List Server) : Type 0 where
   pub few : length ws ≤ length frame.demands
   pub valid : are_valid frame.heads 0 ws ≡ true
-
--- how far the plan of these servers reaches
-pub record IsExtent (ws : List Server) (x : Extent) : Type 0 where
-  pub used : x.used ≡ most_used 0 ws
-  pub members : x.members ≡ length (cells_of ws)
-  pub bound : x.used ≤ 2 ^ 32
 
 -- how far the plan reaches with each of the servers after these; there may be more
 abbrev pub AreExtents : List Server → List Server → List Extent → Type 0
@@ -38,6 +32,6 @@ server_at h k = cond (nat_lt k h) (V.Head k) (V.Member (k - h))
 abbrev pub served_at : Frame → List Server → Server → List Signed
 served_at frame ws s = reverse (earlier s frame.demands 0 ws)
 
--- where a server stands, and what it serves
+-- where a server is, and what it serves
 abbrev pub seen : Frame → List Server → Server → Place × List Signed
 seen frame ws s = (place_after ws s, served_at frame ws s)

@@ -5,9 +5,8 @@ ghost use Rattle.std.specs.Prelude.{◌≡◌, ◌≤◌, []};
 ghost use Rattle.js_plan_lines.specs.Reach.{IsPath, AreExtents};
 ghost use Rattle.js_plan_lines.specs.Kept.{WasClear, is_among, is_kept, AreBefore, head_or, member_or, end_before, skip_kept, skip};
 
-use crate::extent::{Extent, Placed};
-use crate::path::serves_too;
-use js_plans::{PlanFrame, Server};
+use crate::extent::Placed;
+use js_plans::{Extent, PlanFrame, Server, serves_too};
 
 /// So many were placed before the last server of a path.
 #[derive(Clone, Copy)]
@@ -18,7 +17,7 @@ pub(crate) struct Before {
 }
 
 impl Before {
-    /// None for the path without servers.
+    /// What was placed before the last server of a path; none where the path has no servers.
     pub(crate) fn of<F: PlanFrame>(frame: &F, path: &[Server], extents: &[Extent]) -> Option<Before>
         requires path { IsPath (F.frame frame.now) path.now }
         requires extents { AreExtents [] path.now extents.now }

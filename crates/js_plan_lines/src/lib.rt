@@ -6,7 +6,6 @@
 #![tactic(auto)]
 
 mod before;
-mod choices;
 mod extent;
 mod form;
 mod lines;

@@ -4,20 +4,19 @@ ghost use Rattle.std.specs.Prelude.{◌≡◌, ◌++◌, ◌∷◌, [], map, OnO
 ghost use Rattle.certificate_lines.specs.Line as L;
 ghost use Rattle.refutations.specs.PlanTreeLines.{at_line, entry_at, kept_unless, complete_line};
 ghost use Rattle.js_lines.specs.View.{line_view, end_view, entry_view};
+ghost use Rattle.js_plans.specs.Servers.{cells_of};
 ghost use Rattle.js_plans.specs.Serving.{plan_after};
 ghost use Rattle.js_plan_lines.specs.FormView.{form_view};
 ghost use Rattle.js_plan_lines.specs.Reach.{IsPath, AreExtents};
 ghost use Rattle.js_plan_lines.specs.Cited.{entry_in};
 
-use crate::choices::count;
-use crate::extent::{Extent, Placed};
+use crate::extent::Placed;
 use crate::form::PlanForm;
-use crate::path;
 use crate::placed::{first_cited, goal_of};
 use js_doc::Memory;
 use js_expansion::Dead;
 use js_lines::{CertEnd, CertLine, ShortEntry, ShortEntryList};
-use js_plans::{Place, PlanFrame, Server};
+use js_plans::{Extent, Place, PlanFrame, Server, count};
 use std::alloc::Global;
 
 /// The number, where a line can have it.
@@ -137,15 +136,16 @@ fn add_short<F: PlanFrame, D: Dead>(
     frame: &F,
     dead: &D,
     path: &[Server],
+    members: &[u32],
     lines: &mut Vec<CertLine>,
 ) -> Result<(), Memory>
-    requires { length path.now ≤ length (F.frame frame.now).demands }
+    requires few { length path.now ≤ length (F.frame frame.now).demands }
+    requires members { members.now ≡ cells_of path.now }
     ensures { OnOk result (map line_view lines.new.items ≡ map line_view lines.old.items
         ++ L.Short (map (entry_at (D.number_of dead.now) (F.table frame.now) (F.frame frame.now)
         (plan_after (F.frame frame.now) path.now)) (F.frame frame.now).cells) ∷ []) }
 {
-    let members = path::cells(alloc, path)?;
-    let entries = entries(alloc, frame, dead, members.as_slice())?;
+    let entries = entries(alloc, frame, dead, members)?;
     lines.push(CertLine::Short(ShortEntryList::from_vec(entries)))?;
     Ok(())
 }
@@ -158,10 +158,12 @@ pub(crate) fn add_complete<F: PlanFrame, D: Dead>(
     dead: &D,
     path: &[Server],
     extents: &[Extent],
+    members: &[u32],
     lines: &mut Vec<CertLine>,
 ) -> Result<(), Memory>
     requires path { IsPath (F.frame frame.now) path.now }
     requires extents { AreExtents [] path.now extents.now }
+    requires members { members.now ≡ cells_of path.now }
     ensures { OnOk result (map line_view lines.new.items ≡ map line_view lines.old.items
         ++ complete_line (D.number_of dead.now) (form_view form) (F.table frame.now) (F.frame frame.now)
         (plan_after (F.frame frame.now) path.now) ∷ []) }
@@ -171,6 +173,6 @@ pub(crate) fn add_complete<F: PlanFrame, D: Dead>(
             let end = CertEnd::Goal(cited);
             add_at(frame, form, path, extents, number, end, lines)
         }
-        None => add_short(alloc, frame, dead, path, lines),
+        None => add_short(alloc, frame, dead, path, members, lines),
     }
 }

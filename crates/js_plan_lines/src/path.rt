@@ -1,39 +1,18 @@
 //! What serves the demands of a plan one after another.
 
-ghost use Rattle.std.specs.Prelude.{◌≡◌, ◌<◌, ◌≤◌, ◌^◌, drop, map, length, get_or, IfOk};
+ghost use Rattle.std.specs.Prelude.{◌≡◌, ◌≤◌, [], drop, map, length, get_or, IfOk};
 ghost use Rattle.js_algebra.specs.View.{signed_view};
 ghost use Rattle.js_plans.specs.Serving.{place_view};
-ghost use Rattle.js_plans.specs.Servers.{serves_too, members_after, cells_of, earlier};
+ghost use Rattle.js_plans.specs.Servers.{cells_of, earlier};
 ghost use Rattle.js_plans.specs.Goals.{place_after};
 ghost use Rattle.js_plan_lines.specs.Kept.{member_or};
+ghost use Rattle.js_plan_lines.specs.Reach.{AreExtents};
 
+use crate::extent::extent_of;
 use js_algebra::Signed;
 use js_doc::Memory;
-use js_plans::{Place, Server};
+use js_plans::{Extent, Place, Server, members_after, serves_too};
 use std::alloc::Global;
-
-/// How many members there are when one more demand is served.
-pub(crate) fn members_after(members: usize, server: Server) -> usize
-    requires { members < 2 ^ 63 }
-    ensures { result ≡ members_after members server }
-{
-    match server {
-        Server::New(_) => members + 1,
-        _ => members,
-    }
-}
-
-/// Whether what serves a demand also serves an earlier one, before which there were so many members.
-pub(crate) fn serves_too(server: Server, members: usize, earlier: Server) -> bool
-    ensures { result ≡ serves_too server members earlier }
-{
-    match (server, earlier) {
-        (Server::Head(k), Server::Head(i)) => i == k,
-        (Server::Member(k), Server::Member(i)) => i == k,
-        (Server::Member(k), Server::New(_)) => members == k,
-        _ => false,
-    }
-}
 
 /// No demand before that of this number is served: each member before this one was new when it came.
 pub(crate) fn start_of(server: Server) -> usize
@@ -73,19 +52,6 @@ pub(crate) fn earlier(
     Ok(found)
 }
 
-/// The cells of the members, in order.
-pub(crate) fn cells(alloc: Global, path: &[Server]) -> Result<Vec<u32>, Memory>
-    ensures { IfOk result (λ v. v.items ≡ cells_of path.now) }
-{
-    let mut cells = Vec::with_capacity(alloc, path.len())?;
-    for server in path {
-        if let Server::New(cell) = *server {
-            cells.push(cell)?;
-        }
-    }
-    Ok(cells)
-}
-
 /// The cell of the member of that number.
 fn cell_of(path: &[Server], member: usize) -> u32
     ensures { result ≡ get_or (cells_of path.now) member 0 }
@@ -102,13 +68,25 @@ fn cell_of(path: &[Server], member: usize) -> u32
     0
 }
 
+/// The cell of the member of that number, looked for from the server of that number on: each member before it was new
+/// when it came.
+fn cell_at(path: &[Server], extents: &[Extent], member: usize) -> u32
+    requires { AreExtents [] path.now extents.now }
+    ensures { result ≡ get_or (cells_of path.now) member 0 }
+{
+    let start = member.min(path.len());
+    let before = extent_of(&path[..start], extents).members;
+    cell_of(&path[start..], member - before)
+}
+
 /// The place of a server, after a path.
-pub(crate) fn place_of(path: &[Server], server: Server) -> Place
+pub(crate) fn place_of(path: &[Server], extents: &[Extent], server: Server) -> Place
+    requires { AreExtents [] path.now extents.now }
     ensures { place_view result ≡ place_after path.now server }
 {
     match server {
         Server::Head(k) => Place::Head(k),
-        Server::Member(k) => Place::In(cell_of(path, k)),
+        Server::Member(k) => Place::In(cell_at(path, extents, k)),
         Server::New(cell) => Place::In(cell),
     }
 }

@@ -11,12 +11,12 @@ ghost use Rattle.js_plan_lines.specs.Kept.{WasClear, AreBefore};
 ghost use Rattle.js_plan_lines.specs.Cited.{cited_from};
 
 use crate::before::{Before, is_kept, skip};
-use crate::extent::{Extent, Placed};
+use crate::extent::{Placed, extent_of};
 use crate::path::{self, place_of, start_of};
 use js_algebra::{Goal, Signed, form};
 use js_doc::Memory;
 use js_expansion::Dead;
-use js_plans::{Place, PlanFrame, Server};
+use js_plans::{Extent, Place, PlanFrame, Server};
 use std::alloc::Global;
 
 /// What is placed by that number, where so many first places are: one of them, or a member behind them.
@@ -31,7 +31,7 @@ fn server_at(heads: u64, number: u64) -> Server
     }
 }
 
-/// The goal of what stands at a place and serves these demands, none where its list clashes.
+/// The goal of what is at a place and serves these demands, none where its list clashes.
 pub(crate) fn goal_of<F: PlanFrame>(
     alloc: Global,
     frame: &F,
@@ -64,7 +64,7 @@ fn served_by<F: PlanFrame>(
     ensures in_table { IfOk result (λ v. are_in_table (F.table frame.now) (map signed_view v.items) ≡ true) }
 {
     let start = start_of(server).min(path.len());
-    let members = Extent::of(&path[..start], extents).members;
+    let members = extent_of(&path[..start], extents).members;
     let mut served = path::earlier(alloc, path, frame.demands(), start, members, server)?;
     served.reverse();
     Ok(served)
@@ -84,7 +84,7 @@ fn goal_at<F: PlanFrame>(
         (seen (F.frame frame.now) path.now server)) }
 {
     let served = served_by(alloc, frame, path, extents, server)?;
-    let place = place_of(path, server);
+    let place = place_of(path, extents, server);
     goal_of(alloc, frame, place, served.as_slice())
 }
 

@@ -18,7 +18,7 @@ use Rattle.js_plans.specs.Servers.{earlier, servers_of}
 use Rattle.js_plans.specs.Goals.{AreFirst}
 use Rattle.list_laws.proofs.Lists.{map-reverse}
 use Rattle.js_plans.proofs.Served.{every-reverse, every-earlier}
-use Rattle.list_laws.proofs.Every.{every-append}
+use Rattle.list_laws.proofs.Every.{every_joined}
 
 pub served_list : (s : Server) (ds : List C.Signed) (D : List Signed) (path : List Served) (v xs ys : List C.Signed)
     (z : C.Signed) (n : ℕ) → map signed_view ds ≡ D
@@ -44,7 +44,7 @@ module _ (p : Signed → Bool) where
   pub every-served : (s : Server) (ds : List Signed) (ws : List Server) → length ws < length ds → every p ds ≡ true
       → every p (reverse (earlier s ds 0 ws ++ get_or ds (length ws) (Plus 0) ∷ [])) ≡ true
   every-served s ds ws l a =
-      every-reverse p _ (every-append p (earlier s ds 0 ws) _ (every-earlier p s ds 0 ws a)
+      every-reverse p _ (every_joined p (earlier s ds 0 ws) _ (every-earlier p s ds 0 ws a)
       (and_from _ _ (every-get ds (length ws) (Plus 0) l a) refl))
 
 pub first-push : (T : List Position) (frame : Frame) (k : ℕ) (gs : List (List Signed)) (g : List Signed)
@@ -102,7 +102,7 @@ module _ (T : List Position) where
         in_list true h = refl
         in_list false h = h
 
-  -- what stands at a place and serves nothing clashes, so what serves something does
+  -- what is at a place and serves nothing clashes, so what serves something does
   pub goal-more : (frame : Frame) (k : ℕ) (ds : List Signed) → goal_of T frame (Head k, []) ≡ None
       → goal_of T frame (Head k, ds) ≡ None
   goal-more frame k ds e =

@@ -47,7 +47,7 @@ next_earlier s path demands i m x y b found found' all l k at also is more e =
       by_case true = refl
       by_case false = refl
 
--- the same over servers alone
+-- one more server is looked at, and its demand is found where it serves it; over servers alone
 pub next_earlier-servers : (s : Server) (path : List Server) (demands : List C.Signed) (i m : ℕ) (x : Server)
     (y : C.Signed) (b : Bool) (found found' : List C.Signed) (all : List Signed) → i < length path → i < length demands
     → x ≡ get_or path i x → y ≡ get_or demands i y → b ≡ serves_too s m x → found' ≡ found ++ cond b (y ∷ []) []

@@ -7,6 +7,6 @@ pub mod Options
 mod Opening
 mod Forming
 pub mod Shown
-mod Extents
+pub mod Extents
 mod Remaining
-mod Namings
+pub mod Namings

@@ -11,8 +11,8 @@ use Rattle.js_plans.specs.declared.server.Server.{Server}
 use Rattle.js_plans.specs.declared.server.Server.TheVariants as V
 use Rattle.js_plans.specs.Serving.{plan_after, serve, choices}
 use Rattle.js_plans.specs.Servers.{cells_of, is_valid}
-use Rattle.js_plans.specs.Choosing.{next_demand, choices_after, serving_cells, open_cells}
-use Rattle.list_laws.proofs.Every.{every-append}
+use Rattle.js_plans.specs.Choosing.{next_demand, choices_after, choices_at, serving_cells, open_cells}
+use Rattle.list_laws.proofs.Every.{every_joined}
 use Rattle.js_plans.proofs.Plans.{heads-long, members-count, cells-all}
 use Rattle.std.proofs.lemmas.List.{map-append}
 
@@ -83,8 +83,7 @@ module _ (frame : Frame) where
         go false us = refl
 
   pub choices-are : (ws : List Server) → length ws ≤ length frame.demands
-      → (map V.Head (range_with_len 0 frame.heads) ++ serving_cells frame (next_demand frame ws) 0 (cells_of ws))
-      ++ open_cells frame (next_demand frame ws) (cells_of ws) frame.cells ≡ choices_after frame ws
+      → choices_at frame (length ws) (cells_of ws) ≡ choices_after frame ws
   choices-are ws l =
       let d = next_demand frame ws in
       let p = plan_after frame ws in
@@ -112,9 +111,9 @@ module _ (frame : Frame) where
       let d = next_demand frame ws in
       let n = length (cells_of ws) in
       let cs = filter (λ c. frame.inside d c && has_room frame p.members c) frame.cells in
-      every-append _ (map V.Head (range_with_len 0 (length p.heads)) ++ map V.Member (servers frame d 0 p.members))
+      every_joined _ (map V.Head (range_with_len 0 (length p.heads)) ++ map V.Member (servers frame d 0 p.members))
       (map V.New cs)
-      (every-append _ (map V.Head (range_with_len 0 (length p.heads))) (map V.Member (servers frame d 0 p.members))
+      (every_joined _ (map V.Head (range_with_len 0 (length p.heads))) (map V.Member (servers frame d 0 p.members))
       (heads-few 0 (length p.heads) (omega (arith, heads-long frame ws)))
       (servers-few d 0 n p.members frame.heads (omega (arith, members-count frame ws l))))
       (new-few cs) where

@@ -24,7 +24,7 @@ get-head (suc n) j i zero (x ∷ hs) l m e = ap (λ b. Some (Head b, x)) (omega 
 get-head (suc n) j i (suc k) (x ∷ hs) l m e =
     get-head n (suc j) i k hs (omega (arith, l)) (omega (arith, m)) (omega (arith, e))
 
--- where a member stands, and what it serves
+-- where a member is, and what it serves
 abbrev pub stands : Member → Place × List Signed
 stands m = (In m.cell, m.served)
 
@@ -38,7 +38,7 @@ module _ (frame : Frame) (ws : List Server) where
   abbrev P : Plan
   P = plan_after frame ws
 
-  -- the demands that a server serves, the latest first; and with them where it stands
+  -- the demands that a server serves, the latest first; and with them where it is
   abbrev at : Server → List Signed
   at s = reverse (earlier s frame.demands 0 ws)
 
@@ -65,6 +65,7 @@ module _ (frame : Frame) (ws : List Server) where
         length-take (size frame P) (heads_from 0 P.heads)
         ∙ ap₂ min (size-plan frame ws few valid) (length-heads_from 0 P.heads ∙ heads-long frame ws)
 
+    -- what is placed at number k is first place k with what it serves, as long as there are first places
     pub at-head : (k : ℕ) → k < heads → slice_get (placed frame P) k ≡ Some (seen (V.Head k))
     at-head k l =
         let size_is = size-plan frame ws few valid in
@@ -73,6 +74,7 @@ module _ (frame : Frame) (ws : List Server) where
         ∙ get-head (size frame P) 0 k k P.heads (omega (arith, l, size_is)) (omega (arith, l, long)) (omega arith)
         ∙ ap (λ ds. Some (Head k, ds)) (served-is (V.Head k) (lt-ltb k frame.heads (omega (arith, l))))
 
+    -- behind the first places come the members in order, each with what it serves
     pub at-member : (j k : ℕ) → k ≡ heads + j → j < length (cells_of ws)
         → slice_get (placed frame P) k ≡ Some (seen (V.Member j))
     at-member j k e l =

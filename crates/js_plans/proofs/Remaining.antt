@@ -8,7 +8,7 @@ use Rattle.positions.specs.Position.{Position}
 use Rattle.goals.specs.Signed.{Signed}
 use Rattle.frames.specs.Frame.{Frame, is_at_end}
 use Rattle.frames.specs.Plan as S
-use Rattle.frames.specs.Plan.{Plan, placed, goal_of, PlanStep, Over, Clashing, Split, Complete, size, ends, complete, steps, first_clash, by_clash, unless_dropped, empty_plan}
+use Rattle.frames.specs.Plan.{Plan, placed, goal_of, PlanStep, Over, Clashing, Split, Complete, size, ends, steps, first_clash, by_clash, unless_dropped, empty_plan}
 use Rattle.frame_laws.proofs.FewMembers.{ends_append, unless_same, some_end}
 use Rattle.js_plans.specs.declared.server.Server.{Server}
 use Rattle.js_plans.specs.declared.path.Served.{Served}
@@ -20,7 +20,7 @@ use Rattle.js_plans.specs.Servers.{cells_of, is_valid, are_valid, servers_of, Is
 use Rattle.js_plans.specs.Goals.{goal_after, AreFirst, AreGoals}
 use Rattle.js_plans.specs.Placing.{put_heads, put_members}
 use Rattle.js_plans.specs.Choosing.{choices_after}
-use Rattle.js_plans.specs.Walks.{listed, placed_heads, IsClash, IsDropped, GoesOn, Opens, IsPath, Fits, AreFine, steps_left, entry, Matches, is_end, one_more, told_plans}
+use Rattle.js_plans.specs.Walks.{listed, placed_heads, IsClash, IsDropped, GoesOn, Opens, IsPath, Fits, AreFine, steps_left, entry, Matches, is_end, one_more}
 use Rattle.js_plans.proofs.Opening.{steps-split, steps-complete}
 use Rattle.js_plans.proofs.Options.{choices-valid}
 use Rattle.js_plans.proofs.Shown.{no-clash, shown-placed, server-clash}
@@ -29,7 +29,7 @@ use Rattle.js_plans.proofs.Plans.{valid-before, valid-push}
 use Rattle.list_laws.proofs.Lists.{reverse-last}
 
 module _ (T : List Position) (frame : Frame) where
-  -- servers that come later change nothing of what stands before them
+  -- servers that come later change nothing of what comes before them
   pub left-more : (ws zs : List Server) (es : List Pending) → AreFine frame ws es
       → steps_left T frame (ws ++ zs) es ≡ steps_left T frame ws es
   left-more ws zs [] f = refl
@@ -299,10 +299,3 @@ module _ (T : List Position) (frame : Frame) where
       let g = next-fine (servers_of path) es old e q f in
       let same = sym (ap servers_of cut ∙ servers-take e.level path) in
       (subst (λ us. Fits frame us e.server) same g.1, subst (λ us. AreFine frame us (reverse es)) same g.2)
-
-pub complete-told : (frame : Frame) (ws : List Server) (s : C.PlanStep) (step : PlanStep) (rest : List PlanStep)
-    → Matches frame ws s step → complete (step ∷ rest) ≡ told_plans frame ws s ++ complete rest
-complete-told frame ws W.Over step rest m = ap (λ x. complete (x ∷ rest)) m
-complete-told frame ws W.Clashing step rest m = ap (λ x. complete (x ∷ rest)) m.1
-complete-told frame ws (W.Split n) step rest m = ap (λ x. complete (x ∷ rest)) m
-complete-told frame ws W.Complete step rest m = ap (λ x. complete (x ∷ rest)) m

@@ -1,4 +1,4 @@
--- What stands at the places of a plan and serves which demands, read off the servers; and the goals of all places.
+-- What is at the places of a plan and serves which demands, read off the servers; and the goals of all places.
 use Rattle.std.proofs.Common.{◌≡◌, ℕ, zero, suc, ◌<◌, ◌≤◌, List, [], ◌∷◌, ◌++◌, reverse, length, get_or, Bool, true, false, cond, nat_eq, refl, arith, ap, sym, ◌∙◌, subst, append_assoc}
 use Rattle.std.proofs.lemmas.Bool.{and_parts, ltb-true, eqb-true, eqb-false}
 use Rattle.std.proofs.lemmas.List.{reverse-append}

@@ -5,7 +5,7 @@ use Rattle.std.proofs.lemmas.Bool.{and_parts, and_from}
 use Rattle.std.proofs.lemmas.List.{reverse-append}
 use Rattle.documents.specs.Tests.{every}
 use Rattle.list_laws.proofs.Lists.{map-reverse}
-use Rattle.list_laws.proofs.Every.{every-append}
+use Rattle.list_laws.proofs.Every.{every_joined}
 use Rattle.goals.specs.Signed.{Signed}
 use Rattle.js_algebra.specs.View.{signed_view}
 use Rattle.js_algebra.specs.declared.signed.Signed as C
@@ -30,7 +30,7 @@ module _ (p : Signed → Bool) where
   every-reverse (x ∷ xs) a =
       let (h, t) = and_parts (p x) (every p xs) a in
       subst (λ ys. every p ys ≡ true) (sym (reverse-append (x ∷ []) xs))
-      (every-append p (reverse xs) (x ∷ []) (every-reverse xs t) (and_from _ _ h refl))
+      (every_joined p (reverse xs) (x ∷ []) (every-reverse xs t) (and_from _ _ h refl))
 
   pub every-earlier : (s : Server) (ds : List Signed) (m : ℕ) (ws : List Server) → every p ds ≡ true
       → every p (earlier s ds m ws) ≡ true
@@ -44,6 +44,7 @@ module _ (p : Signed → Bool) where
         go true h t = and_from _ _ h t
         go false h t = t
 
+  -- where all demands pass a test, so do those that a server serves
   pub every-served : (s : Server) (ds : List Signed) (ws : List Server) → every p ds ≡ true
       → every p (reverse (earlier s ds 0 ws)) ≡ true
   every-served s ds ws a = every-reverse _ (every-earlier s ds 0 ws a)

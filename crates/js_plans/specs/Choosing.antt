@@ -1,5 +1,6 @@
 -- What may serve the next demand, by the cells of the members.
-use Rattle.std.specs.Prelude.{ℕ, ◌+◌, List, [], ◌∷◌, length, get_or, ◌&&◌, not, cond}
+use Rattle.std.specs.Prelude.{ℕ, ◌+◌, List, [], ◌∷◌, ◌++◌, map, length, get_or, ◌&&◌, not, cond}
+use Rattle.std.specs.List.{range_with_len}
 use Rattle.goals.specs.Signed.{Signed, Plus}
 use Rattle.frames.specs.Frame.{Frame, is_at_end}
 use Rattle.frames.specs.Fillers.{times}
@@ -26,3 +27,9 @@ open_cells frame d members [] = []
 open_cells frame d members (c ∷ cs) =
     cond (frame.inside d c && not (is_at_end (times c members) (frame.cap c)))
     (V.New c ∷ open_cells frame d members cs) (open_cells frame d members cs)
+
+-- the choices for the demand of that number, by the cells of the members
+abbrev pub choices_at : Frame → ℕ → List ℕ → List Server
+choices_at frame k members =
+    (map V.Head (range_with_len 0 frame.heads) ++ serving_cells frame (get_or frame.demands k (Plus 0)) 0 members)
+    ++ open_cells frame (get_or frame.demands k (Plus 0)) members frame.cells

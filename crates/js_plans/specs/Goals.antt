@@ -10,7 +10,7 @@ use Rattle.js_plans.specs.declared.server.Server.TheVariants as V
 use Rattle.js_plans.specs.declared.path.Served.{Served}
 use Rattle.js_plans.specs.Servers.{cells_of, earlier}
 
--- where a server stands
+-- where a server is
 abbrev pub place_after : List Server → Server → F.Place
 place_after ws (V.Head k) = F.Head k
 place_after ws (V.Member k) = F.In (get_or (cells_of ws) k 0)

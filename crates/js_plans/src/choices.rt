@@ -1,36 +1,33 @@
 //! What may serve the next demand after a path.
 
-ghost use Rattle.std.specs.Prelude.{◌≡◌, ◌<◌, ◌≤◌, ◌++◌, map, length, get_or, not, IfOk, OnOk};
+ghost use Rattle.std.specs.Prelude.{◌≡◌, ◌<◌, ◌≤◌, ◌-◌, ◌++◌, map, min, length, get_or, false, not, IfOk, OnOk};
 ghost use Rattle.std.specs.List.{range_with_len};
 ghost use Rattle.goals.specs.Signed as G;
 ghost use Rattle.frames.specs.Fillers.{times};
 ghost use Rattle.frames.specs.Frame.{is_at_end};
 ghost use Rattle.js_plans.specs.declared.server.Server.TheVariants as V;
-ghost use Rattle.js_plans.specs.Servers.{cells_of, servers_of};
-ghost use Rattle.js_plans.specs.Choosing.{serving_cells, open_cells, choices_after};
+ghost use Rattle.js_plans.specs.Choosing.{serving_cells, open_cells, choices_at};
 
-use crate::path::Served;
 use crate::plan_frame::PlanFrame;
 use crate::server::Server;
 use js_doc::Memory;
 use std::alloc::Global;
 
-/// What stands at each first place, each member inside, and a new member in each cell inside that has room. The members
-/// are those of the path, by their cells.
-pub(crate) fn choices<F: PlanFrame>(
+/// What may serve the demand of that number, where the members stand in these cells: what stands at each first place,
+/// each member inside, and a new member in each cell inside that has room. It costs a look at each member and cell.
+pub fn choices_at<F: PlanFrame>(
     alloc: Global,
     frame: &F,
-    path: &[Served],
+    demand: usize,
     members: &[u32],
 ) -> Result<Vec<Server>, Memory>
-    requires left { length path.now < length (F.frame frame.now).demands }
-    requires members { members.now ≡ cells_of (servers_of path.now) }
-    ensures { IfOk result (λ v. v.items ≡ choices_after (F.frame frame.now) (servers_of path.now)) }
+    requires { demand < length (F.frame frame.now).demands }
+    ensures { IfOk result (λ v. v.items ≡ choices_at (F.frame frame.now) demand members.now) }
 {
     let mut choices = Vec::new(alloc);
     add_heads(frame.heads(), &mut choices)?;
-    add_members(frame, path.len(), members, &mut choices)?;
-    add_new(frame, path.len(), members, &mut choices)?;
+    add_members(frame, demand, members, &mut choices)?;
+    add_new(frame, demand, members, &mut choices)?;
     Ok(choices)
 }
 
@@ -53,8 +50,9 @@ fn add_members<F: PlanFrame>(
     ensures { OnOk result (choices.new.items ≡ choices.old.items
         ++ serving_cells (F.frame frame.now) (get_or (F.frame frame.now).demands demand (G.Plus 0)) 0 members.now) }
 {
+    let inside = frame.inside(demand);
     for (k, cell) in members.iter().enumerate() {
-        if frame.is_inside(demand, *cell) {
+        if is_inside(inside, *cell) {
             choices.push(Server::Member(k))?;
         }
     }
@@ -72,12 +70,21 @@ fn add_new<F: PlanFrame>(
         ++ open_cells (F.frame frame.now) (get_or (F.frame frame.now).demands demand (G.Plus 0)) members.now
         (F.frame frame.now).cells) }
 {
+    let inside = frame.inside(demand);
     for cell in frame.cells() {
-        if frame.is_inside(demand, *cell) && has_room(frame.cap(*cell), members, *cell) {
+        if is_inside(inside, *cell) && has_room(frame.cap(*cell), members, *cell) {
             choices.push(Server::New(*cell))?;
         }
     }
     Ok(())
+}
+
+/// Whether a cell is inside: the last truth is that of all further cells.
+fn is_inside(inside: &[bool], cell: u32) -> bool
+    requires { 0 < length inside.now }
+    ensures { result ≡ get_or inside.now (min cell (length inside.now - 1)) false }
+{
+    inside[(cell as usize).min(inside.len() - 1)]
 }
 
 fn has_room(cap: Option<u32>, members: &[u32], cell: u32) -> bool
@@ -90,7 +97,7 @@ fn has_room(cap: Option<u32>, members: &[u32], cell: u32) -> bool
 }
 
 /// How many of the cells are that one.
-pub(crate) fn count(cells: &[u32], cell: u32) -> usize
+pub fn count(cells: &[u32], cell: u32) -> usize
     ensures value { result ≡ times cell cells.now }
     ensures bound { result ≤ length cells.now }
 {

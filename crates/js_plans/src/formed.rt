@@ -1,4 +1,4 @@
-//! The goals of what stands at the places of a plan.
+//! The goals of what is at the places of a plan.
 
 ghost use Rattle.std.specs.Prelude.{◌≡◌, ◌<◌, ◌≤◌, ◌∷◌, map, length, get_or, IfOk, OnOk, Option, Some, None, true, false};
 ghost use Rattle.goals.specs.Signed as G;
@@ -15,7 +15,7 @@ use js_algebra::{Goal, Signed, form};
 use js_doc::Memory;
 use std::alloc::Global;
 
-/// The goal of what stands at a place and serves these demands, none where its list clashes.
+/// The goal of what is at a place and serves these demands, none where its list clashes.
 pub(crate) fn goal_at<F: PlanFrame>(
     alloc: Global,
     frame: &F,

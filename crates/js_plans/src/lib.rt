@@ -16,8 +16,10 @@ mod server;
 mod walk;
 
 pub use alternative_list::plan_alternatives;
+pub use choices::{choices_at, count};
 pub use fault::PlanFault;
 pub use naming::Naming;
+pub use path::{Extent, members_after, serves_too};
 pub use plan_frame::PlanFrame;
 pub use server::{Place, Server};
-pub use walk::{PlanStep, PlanWalk};
+pub use walk::{PlanStep, PlanWalk, add_cell, is_at_end, size};

@@ -30,7 +30,7 @@ pub struct Served {
 }
 
 /// How many members there are when one more demand is served.
-fn members_after(members: usize, server: Server) -> usize
+pub fn members_after(members: usize, server: Server) -> usize
     requires { members < 2 ^ 63 }
     ensures { result ≡ members_after members server }
 {
@@ -71,7 +71,7 @@ impl Extent {
     }
 
     /// The extent when one more demand is served.
-    pub(crate) fn with(self, server: Server) -> Extent
+    pub fn with(self, server: Server) -> Extent
         requires members { self.members < 2 ^ 63 }
         requires used { self.used ≤ 2 ^ 32 }
         ensures used { result.used ≡ used_after self.used server }
@@ -86,7 +86,7 @@ impl Extent {
 }
 
 /// Whether what serves a demand also serves an earlier one, before which there were so many members.
-fn serves_too(server: Server, members: usize, earlier: Server) -> bool
+pub fn serves_too(server: Server, members: usize, earlier: Server) -> bool
     ensures { result ≡ serves_too server members earlier }
 {
     match (server, earlier) {

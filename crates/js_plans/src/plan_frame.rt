@@ -6,7 +6,7 @@ use js_doc::Memory;
 
 /// A frame over a table: what the elements or members of a branch are to serve, and what is required of each.
 pub trait PlanFrame {
-    ghost use Rattle.std.specs.Prelude.{◌≡◌, ◌<◌, ◌++◌, List, true, map, flat_map, length, get_or, OnOk};
+    ghost use Rattle.std.specs.Prelude.{◌≡◌, ◌<◌, ◌-◌, ◌++◌, ℕ, List, true, false, map, min, flat_map, length, get_or, OnOk};
     ghost use Rattle.positions.specs.Position.{Position};
     ghost use Rattle.goals.specs.Signed as G;
     ghost use Rattle.frames.specs.Frame.{Frame};
@@ -41,12 +41,15 @@ pub trait PlanFrame {
     fn cells(&self) -> &[u32]
         ensures { result.now ≡ (frame self.now).cells };
 
-    /// Whether what stands in a cell may serve the demand of that number.
-    fn is_inside(&self, demand: usize, cell: u32) -> bool
+    /// For each cell whether what stands in it may serve the demand of that number. The last truth is that of all
+    /// further cells.
+    fn inside(&self, demand: usize) -> &[bool]
         requires { demand < length (frame self.now).demands }
-        ensures { result ≡ (frame self.now).inside (get_or (frame self.now).demands demand (G.Plus 0)) cell };
+        ensures some { 0 < length result.now }
+        ensures told { (c : ℕ) → get_or result.now (min c (length result.now - 1)) false
+            ≡ (frame self.now).inside (get_or (frame self.now).demands demand (G.Plus 0)) c };
 
-    /// How many may stand in a cell, if that is bounded.
+    /// How many may be in a cell, if that is bounded.
     fn cap(&self, cell: u32) -> Option<u32>
         ensures { result ≡ (frame self.now).cap cell };
 
@@ -54,7 +57,7 @@ pub trait PlanFrame {
     fn room(&self, cell: u32, count: usize) -> u32
         ensures { result ≡ (frame self.now).room cell count };
 
-    /// Adds what is required of whatever stands at a place.
+    /// Adds what is required of whatever is at a place.
     fn add_each(&self, place: Place, list: &mut Vec<Signed>) -> Result<(), Memory>
         ensures added { OnOk result (map signed_view list.new.items ≡ map signed_view list.old.items
             ++ flat_map ((frame self.now).each (place_view place)) (frame self.now).set) }

@@ -1,6 +1,6 @@
-//! Where something stands, and what serves a demand of a frame.
+//! Where something is, and what serves a demand of a frame.
 
-/// Where something stands; `place_view` is the place that it stands for.
+/// Where something is; `place_view` is the place that it stands for.
 #[derive(Clone, Copy, PartialEq, Eq, Debug)]
 pub enum Place {
     /// At a first place.
@@ -12,7 +12,7 @@ pub enum Place {
 /// What serves a demand.
 #[derive(Clone, Copy, PartialEq, Eq, Debug)]
 pub enum Server {
-    /// What stands at a first place.
+    /// What is at a first place.
     Head(u32),
     /// The member of the plan with that number.
     Member(usize),

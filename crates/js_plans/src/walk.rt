@@ -1,8 +1,8 @@
 //! The steps of the tree of plans, one after another in pre-order.
 //!
-//! Plans still to be visited stand in a list, the next one last, each as what serves the next demand after the first
-//! part of the path. Each has at least one end, so the tree has too many as soon as the ends that were given and the
-//! plans that are left are too many; this bounds the list too.
+//! Plans still to be visited are in a list, the next one last, each as what serves the next demand after the first part
+//! of the path. Each has at least one end, so the tree has too many as soon as the ends that were given and the plans
+//! that are left are too many; this bounds the list too.
 
 ghost use Rattle.std.specs.Prelude.{◌≡◌, List, ◌<◌, ◌≤◌, ◌+◌, ◌^◌, ◌++◌, [], ◌∷◌, length, reverse, map, true, false, None, IfOk, IfErr, OnOk, IfSome, MatchOption, IsNone};
 ghost use Rattle.positions.specs.Position.{Position};
@@ -10,10 +10,11 @@ ghost use Rattle.frames.specs.Frame.{Frame, is_at_end};
 ghost use Rattle.frames.specs.Plan.{size, ends, plan_steps};
 ghost use Rattle.js_plans.specs.Serving.{plan_after, steps_after};
 ghost use Rattle.js_plans.specs.Servers.{with_cell, most_used, cells_of, servers_of, AreExtents};
+ghost use Rattle.js_plans.specs.Choosing.{choices_after};
 ghost use Rattle.js_plans.specs.Goals.{AreFirst};
 ghost use Rattle.js_plans.specs.Walks.{most_plans, size_of, listed, placed_heads, IsPath, Fits, entries, left, IsWalk, is_end, one_more, entry, AreFine, IsDropped, IsClash, GoesOn, Opens, Visits, Tells, IsCounted, AfterStep};
 
-use crate::choices::choices;
+use crate::choices::choices_at;
 use crate::fault::PlanFault;
 use crate::formed::{form_first, goal_after};
 use crate::path::{Extent, Served};
@@ -31,7 +32,7 @@ pub const MOST_PLANS: usize = 65_536;
 pub enum PlanStep {
     /// The plan places more than there may be.
     Over,
-    /// What stands somewhere clashes.
+    /// What is placed somewhere clashes.
     Clashing,
     /// The next demand can be served in so many ways.
     Split(usize),
@@ -191,7 +192,8 @@ impl PlanWalk {
     }
 }
 
-fn is_at_end(count: u64, below: Option<u128>) -> bool
+/// Whether so many are too many.
+pub fn is_at_end(count: u64, below: Option<u128>) -> bool
     ensures { result ≡ is_at_end count below }
 {
     match below {
@@ -216,7 +218,7 @@ fn extent_after(path: &[Served], server: Option<Server>) -> Extent
 }
 
 /// How many a plan of that extent has at least.
-pub(crate) fn size<F: PlanFrame>(frame: &F, extent: Extent) -> u64
+pub fn size<F: PlanFrame>(frame: &F, extent: Extent) -> u64
     requires { extent.members ≤ 2 ^ 63 }
     ensures { result ≡ size_of (F.frame frame.now) extent.used extent.members }
 {
@@ -260,7 +262,7 @@ fn place_first<F: PlanFrame>(
 }
 
 /// Adds the cell of a new member.
-fn add_cell(cells: &mut Vec<u32>, server: Server) -> Result<(), Memory>
+pub fn add_cell(cells: &mut Vec<u32>, server: Server) -> Result<(), Memory>
     ensures { OnOk result (cells.new.items ≡ cells.old.items ++ with_cell server []) }
 {
     if let Server::New(cell) = server {
@@ -320,10 +322,24 @@ fn open<F: PlanFrame>(
     if path.len() == frame.demands().len() {
         return Ok(PlanStep::Complete);
     }
-    let choices = choices(alloc, frame, path, members)?;
-    let count = choices.len();
-    add_pending(path.len(), choices, pending)?;
+    let options = options(alloc, frame, path, members)?;
+    let count = options.len();
+    add_pending(path.len(), options, pending)?;
     Ok(PlanStep::Split(count))
+}
+
+/// What may serve the next demand after the path, whose members stand in these cells.
+fn options<F: PlanFrame>(
+    alloc: Global,
+    frame: &F,
+    path: &[Served],
+    members: &[u32],
+) -> Result<Vec<Server>, Memory>
+    requires left { length path.now < length (F.frame frame.now).demands }
+    requires members { members.now ≡ cells_of (servers_of path.now) }
+    ensures { IfOk result (λ v. v.items ≡ choices_after (F.frame frame.now) (servers_of path.now)) }
+{
+    choices_at(alloc, frame, path.len(), members)
 }
 
 /// Adds plans still to be visited, the first one next.

@@ -1,4 +1,4 @@
--- A table with one more word, or with one more step: no word and no pointer stands there twice.
+-- A table with one more word, or with one more step: no word and no pointer is there twice.
 use Rattle.std.proofs.Common.{◌≡◌, ℕ, suc, ◌+◌, ◌<◌, List, [], ◌∷◌, ◌++◌, map, length, get_or, Bool, true, false, cond, ◌&&◌, nat_lt, nat_eq, None, position, refl, sym, ap, subst, ◌∙◌, add-one, inl, inr, Result, Ok, Err, arith}
 use Rattle.std.specs.Prelude.{String, IfOk, OnErr, ◌⊎◌}
 use Rattle.std.specs.List.{position_or_len, list_any}
@@ -114,6 +114,7 @@ module _ (names : List (List ℕ)) (steps : List (ℕ × ℕ)) (ps : List Pointe
                 ∙ ap (λ q. q ++ word names k ∷ []) (sym (stays n less));
           })
 
+  -- with a new step, and the pointer that it makes behind the others, a table is a table
   pub one_more_step : IsTable names (steps ++ pair n k ∷ []) (ps ++ added ∷ [])
   one_more_step = record {
     counted =

@@ -16,6 +16,7 @@ module _ {Z Y : Type 0} (names : List (String Z)) (places new : BTreeMap (String
   abbrev is_text : List ℕ → String Z → Bool
   is_text bytes w = bytes_eq bytes (string_bytes w)
 
+  -- with one more name, at the next place, the map has the place of each name
   pub more_places : ArePlaces (names ++ name ∷ []) new
   more_places bytes =
       btree_map_updates_text (string_bytes key) places new (Some (length names)) updates bytes

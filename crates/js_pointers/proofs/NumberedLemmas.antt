@@ -153,5 +153,6 @@ module _ (steps : List (ℕ × ℕ)) (found : ℕ → ℕ → Option ℕ) (numbe
             let at : i ≡ length steps = omega (arith, l, long, most) in
             ap (λ s. new s.0 s.1) (ap (λ j. get_or longer j (0, 0)) at ∙ last) ∙ complete-last ∙ ap Some (sym at)
 
+    -- with one more step, at the next number, each step is found at its number
     pub numbered-more : IsNumbered longer new
     numbered-more = record { sound = sound-more; complete = complete-more }

@@ -22,7 +22,7 @@ found-other block o token n = go (nat_lt token block.count)
     go true h = absurd (none-some (block.first + token) (sym h))
     go false h = refl
 
--- the map's order tells steps apart
+-- the map's order distinguishes steps
 same_order : (a b : ℕ × ℕ) → is_eq (step_order a b) ≡ same_step a b
 same_order a b =
     sym (both_tied (nat_eq a.0 b.0) (nat_eq a.1 b.1) (nat_cmp a.0 b.0) (nat_cmp a.1 b.1)

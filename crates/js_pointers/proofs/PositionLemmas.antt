@@ -43,6 +43,7 @@ module _ {X : Type 0} (test : X → Bool) (xs : List X) where
   position-None k d h less =
       let all = position_or_len-None h in fails_before_first test xs k d (omega (arith, all, less))
 
+  -- where an element passes, the first such place is what `position_or_len` gives
   pub position_or_len-Some : (i : ℕ) → position test xs ≡ Some i → i ≡ position_or_len test xs
   position_or_len-Some i h = go (nat_lt (position_or_len test xs) (length xs)) h
     where

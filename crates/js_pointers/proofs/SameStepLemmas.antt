@@ -6,6 +6,7 @@ use Rattle.js_pointers.specs.Numbered.{same_step}
 abbrev pub pair : ℕ → ℕ → ℕ × ℕ
 pair m n = (m, n)
 
+-- steps that pass the test are equal
 pub same_step-true : (a b : ℕ × ℕ) → same_step a b ≡ true → a ≡ b
 same_step-true (m, n) (k, l) h =
     let parts = and_parts (nat_eq m k) (nat_eq n l) h in ap₂ pair (eqb-true m k parts.0) (eqb-true n l parts.1)

@@ -98,6 +98,7 @@ module _ (names : List (List ℕ)) (steps : List (ℕ × ℕ)) (ps : List Pointe
             ∙ ap₂ (λ a b. a ++ b ∷ []) (ap (λ j. get_or ps j []) of_is ∙ is) text_is,
       )
 
+  -- where the step from a pointer by a word is found, its pointer is that one with the word behind it
   pub below-found : (n k i : ℕ) (p : Pointer) (t : List ℕ) → get_or ps n [] ≡ p → word names k ≡ t
       → position (λ s. nat_eq n s.0 && nat_eq k s.1) steps ≡ Some i
       → (i + 1 < length ps) × (get_or ps (i + 1) [] ≡ p ++ t ∷ [])
@@ -125,6 +126,7 @@ module _ (names : List (List ℕ)) (steps : List (ℕ × ℕ)) (ps : List Pointe
       let on = goes_on n p t m q less is within h in
       unknown (get_or steps on.0 (0, 0)).1 ((table.made on.0 on.1).known, on.3)
 
+  -- where the step from a pointer by a word isn't there, no pointer of the table leads through it
   pub below-missing : AreNames names → (n k : ℕ) (p : Pointer) (t : List ℕ) → n < length ps → get_or ps n [] ≡ p
       → IsWord names k t → position (λ s. nat_eq n s.0 && nat_eq k s.1) steps ≡ None
       → (m : ℕ) (q : Pointer) → m < length ps → get_or ps m [] ≡ (p ++ t ∷ []) ++ q → ⊥

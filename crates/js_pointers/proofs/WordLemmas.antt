@@ -10,7 +10,7 @@ use Rattle.schemas.specs.Places.{index_token}
 use Rattle.schema_laws.proofs.Tokens.{index_of-token}
 use Rattle.js_pointers.specs.Table.{word, IsWord, AreNames, Keeps}
 
--- one more that isn't there
+-- a distinct list with one more element that isn't in it is distinct
 pub distinct_more : {A : Type 0} (xs : List A) (x d : A)
     → ((i j : ℕ) → i < length xs → j < length xs → get_or xs i d ≡ get_or xs j d → i ≡ j)
     → ((i : ℕ) → i < length xs → get_or xs i d ≡ x → ⊥)

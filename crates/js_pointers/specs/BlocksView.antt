@@ -9,6 +9,6 @@ no_block = record { first = 0; count = 0; others = false }
 abbrev pub block_of : List Block → ℕ → Block
 block_of blocks of = get_or blocks of no_block
 
--- where a step stands by its block and by what the map has for it
+-- where a step is by its block and by what the map has for it
 abbrev pub found_in : Block → Option ℕ → ℕ → Option ℕ
 found_in block other token = if nat_lt token block.count then Some (block.first + token) else other

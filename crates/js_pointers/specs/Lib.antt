@@ -4,7 +4,7 @@ pub mod TokensView
 pub mod PointersView
 -- And that steps are numbered where each is found at its number, and nothing else is found.
 pub mod Numbered
--- Internal: where names stand, and where blocks and the map say that a step stands.
+-- Internal: where names are, and where blocks and the map say that a step is.
 pub mod NamePlaces
 pub mod BlocksView
 pub mod PlacesView

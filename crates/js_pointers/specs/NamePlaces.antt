@@ -1,4 +1,4 @@
--- Where each name stands, by its bytes.
+-- Where each name is, by its bytes.
 use Rattle.std.specs.Prelude.{◌≡◌, ℕ, List, String, position, string_bytes, bytes_eq}
 use Rattle.std.specs.BTreeMap.{BTreeMap, get_by_text}
 

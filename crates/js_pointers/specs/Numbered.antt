@@ -10,7 +10,7 @@ same_step a b = nat_eq a.0 b.0 && nat_eq a.1 b.1
 abbrev pub step_order : ℕ × ℕ → ℕ × ℕ → Ordering
 step_order a b = ordering_then (nat_cmp a.0 b.0) (nat_cmp a.1 b.1)
 
--- what is found stands there, and each step is found where it stands. So no step stands twice
+-- what is found is there, and each step is found where it is. So no step is there twice
 pub record IsNumbered (steps : List (ℕ × ℕ)) (found : ℕ → ℕ → Option ℕ) : Type 0 where
   pub sound : (of token i : ℕ) → found of token ≡ Some i
       → (i < length steps) × (get_or steps i (0, 0) ≡ (of, token))

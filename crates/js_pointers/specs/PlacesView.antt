@@ -1,4 +1,4 @@
--- Where blocks and the map say that a step stands.
+-- Where blocks and the map say that a step is.
 use Rattle.std.specs.Prelude.{ℕ, Option}
 use Rattle.std.specs.BTreeMap.{get}
 use Rattle.js_pointers.specs.Numbered.{step_order}

@@ -16,7 +16,7 @@ word names k = if nat_lt k first_name then index_token k else get_or names (k - 
 abbrev pub IsWord : List (List ℕ) → ℕ → List ℕ → Type 0
 IsWord names k t = IsKnown names k × (word names k ≡ t)
 
--- no name stands there twice, and none is a token that has a number without it
+-- no name is there twice, and none is a token that has a number without it
 pub record AreNames (names : List (List ℕ)) : Type 0 where
   pub distinct : (i j : ℕ) → i < length names → j < length names → get_or names i [] ≡ get_or names j [] → i ≡ j
   pub no_index : (i n : ℕ) → i < length names → get_or names i [] ≡ index_token n → first_name ≤ n
@@ -40,11 +40,11 @@ pub record IsStep (names : List (List ℕ)) (ps : List Pointer) (s : ℕ × ℕ)
   pub known : IsKnown names s.1
   pub makes : get_or ps (suc i) [] ≡ get_or ps s.0 [] ++ word names s.1 ∷ []
 
--- no pointer stands there twice
+-- no pointer is there twice
 abbrev pub AreDistinct : List Pointer → Type 0
 AreDistinct ps = (i j : ℕ) → i < length ps → j < length ps → get_or ps i [] ≡ get_or ps j [] → i ≡ j
 
--- where each is made by its step
+-- a table of pointers, each of which is made by its step
 pub record IsTable (names : List (List ℕ)) (steps : List (ℕ × ℕ)) (ps : List Pointer) : Type 0 where
   pub counted : length ps ≡ suc (length steps)
   pub root : get_or ps 0 [] ≡ []

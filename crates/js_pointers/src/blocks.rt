@@ -1,11 +1,11 @@
-//! The blocks: for each number from which steps go on, where those by the first tokens stand.
+//! The blocks: for each number from which steps go on, where those by the first tokens are.
 
 ghost use Rattle.std.specs.Prelude.{◌≡◌, ◌<◌, ℕ, List, length, get_or, OnOk, OnErr};
 ghost use Rattle.js_pointers.specs.BlocksView.{block_of};
 
 use js_doc::Memory;
 
-/// The steps by the tokens below `count` stand one after another from `first` on. `others` says whether others go on
+/// The steps by the tokens below `count` come one after another from `first` on. `others` says whether others go on
 /// from the same number.
 #[derive(Clone, Copy, Drop)]
 pub(crate) struct Block {

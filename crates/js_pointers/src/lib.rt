@@ -4,8 +4,8 @@
 //! token. `Tokens` numbers the tokens, and `Steps` the pairs, in the order in which they were added. The tokens of a
 //! list's elements are their indices, which are mostly added one after another, so for each pointer a block says where
 //! they stand: they are found and added by looks at lists alone. Other steps, and names, stand in maps by order, in
-//! which no file can make a look-up slow. The walk of a schema, `js_walk`, stands on this crate, and so does what is
-//! looked up in its places, `js_schema`.
+//! which no file can make a look-up slow. The walk of a schema, `js_walk`, stands on this crate, and so do a schema's
+//! table, `js_schema`, and its reader, `js_reader`.
 #![tactic(auto)]
 
 mod blocks;

@@ -1,4 +1,4 @@
-//! Where steps stand: in the block of the number from which they go on, or in a map.
+//! Where steps are: in the block of the number from which they go on, or in a map.
 //!
 //! A member's name may be a number, which is then that of its token. So the map is one by order, as that of the names
 //! is: a file could make steps collide in one by a hash without a secret.
@@ -13,7 +13,7 @@ use js_doc::Memory;
 use std::alloc::Global;
 use std::collections::BTreeMap;
 
-/// The numbers at which steps stand. The map has those alone that have no place in a block.
+/// The numbers at which steps are. The map has those alone that have no place in a block.
 #[derive(Drop)]
 pub(crate) struct Places {
     blocks: Vec<Block>,
@@ -35,8 +35,8 @@ impl Places {
         }
     }
 
-    /// Where a step stands. It takes a look at the map only where the step is in no block, and others beside a block go
-    /// on from the same number.
+    /// Where a step is. It takes a look at the map only where the step is in no block, and others beside a block go on
+    /// from the same number.
     pub(crate) fn number(&self, of: u32, token: u32) -> Option<usize>
         ensures { result ≡ found self.now of token }
     {
@@ -51,8 +51,8 @@ impl Places {
         Some(*number as usize)
     }
 
-    /// Notes where a step stands that has stood nowhere. The map changes only where the block of `of` doesn't go on
-    /// with the step. An error is memory that is wanting, and then each step is found where it was.
+    /// Notes where a step is that was nowhere before. The map changes only where the block of `of` doesn't go on with
+    /// the step. An error is memory that is wanting, and then each step is found where it was.
     pub(crate) fn note(&mut self, of: u32, token: u32, number: u32) -> Result<(), Memory>
         requires new { found self.old of token ≡ None }
         requires few { number < 4294967295 }
@@ -71,7 +71,7 @@ impl Places {
             };
             return note_block(&mut self.blocks, of, longer);
         }
-        // The mark comes first: where the map then fails, it may stand with no others.
+        // The mark comes first: where the map then fails, it may be there with no others.
         let marked = Block {
             first: block.first,
             count: block.count,

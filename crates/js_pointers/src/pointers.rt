@@ -17,7 +17,7 @@ use js_doc::Memory;
 use js_json::Pointer;
 use std::alloc::Global;
 
-/// Pointers, no two of them the same. With each stand all those that lead to it.
+/// Pointers, no two of them the same. With each are all those that lead to it.
 #[derive(Drop)]
 pub struct Pointers {
     tokens: Tokens,

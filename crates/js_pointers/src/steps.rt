@@ -61,7 +61,7 @@ impl Steps {
 
     /// The number of a step, where it is there. Where it and those by the lower tokens were added in turn it takes no
     /// look at the map, nor where all that go on from `of` were so added; else one, in time in proportion to the
-    /// logarithm of what stands there.
+    /// logarithm of what is there.
     pub fn number(&self, of: u32, token: u32) -> Option<usize>
         ensures index { result ≡ position (λ s. nat_eq of s.0 && nat_eq token s.1) self.now }
         ensures few { length self.now < 4294967295 }

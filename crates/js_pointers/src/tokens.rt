@@ -1,8 +1,8 @@
 //! The tokens of pointers, by number.
 //!
 //! The token of an element's index is numbered by that index, below 2³¹: it needs no text, and nothing is kept for it.
-//! Every other text is a name. Names are numbered from 2³¹ on. They stand in a list in the order of their numbers, and
-//! a map by order has the place of each: a file chooses them, and could make them collide in a map by a hash without a
+//! Every other text is a name. Names are numbered from 2³¹ on. They are in a list in the order of their numbers, and a
+//! map by order has the place of each: a file chooses them, and could make them collide in a map by a hash without a
 //! secret.
 
 ghost use Rattle.std.specs.Prelude.{◌≡◌, ◌≤◌, ◌<◌, ◌++◌, ◌∷◌, ℕ, [], length, get_or, map, chars, string_bytes, IfOk, OnOk, MatchOption};

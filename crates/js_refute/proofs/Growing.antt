@@ -6,7 +6,7 @@ use Rattle.std.proofs.lemmas.List.{get_or_append_left, take_more, take_all, leng
 use Rattle.std.proofs.lemmas.Grind.{flat_map-append}
 use Rattle.goals.specs.Signed.{Signed}
 use Rattle.list_laws.specs.In.{IsIn}
-use Rattle.list_laws.proofs.Lists.{in_left, in_get}
+use Rattle.list_laws.proofs.Lists.{in_left, get_or-in}
 use Rattle.word_states.specs.Mention.{mention_all}
 use Rattle.word_laws.proofs.Mentions as M
 use Rattle.finders.specs.RowsFound.{grow}
@@ -81,7 +81,7 @@ module _ (goals : List (List Signed)) (lines : List Signed → List Line) where
         let (X, p) = grow_to extend i (length goals) l in
         N.listed_below extend (length goals) positive small (get_or now i 0)
         (subst (IsIn (get_or now i 0)) (sym (p ∙ ap (λ z. z ++ X) (sym e)))
-        (in_left (get_or now i 0) now X (in_get now i 0 m)))
+        (in_left (get_or now i 0) now X (get_or-in now i 0 m)))
 
     one_more : (i : ℕ) (now next text more : List ℕ) → IsListing i now text → i < length goals → i < length now
         → next ≡ mention_all nat_eq now (extend (get_or now i 0))

@@ -1,5 +1,5 @@
 -- Lines that are written one after another.
-use Rattle.std.proofs.Common.{◌≡◌, ℕ, nat_eq, List, [], ◌∷◌, ◌++◌, map, flat_map, refl, ap, ap₂, sym, ◌∙◌, append_assoc}
+use Rattle.std.proofs.Common.{◌≡◌, ℕ, nat_eq, List, [], ◌∷◌, ◌++◌, map, flat_map, refl, ap, ap₂, sym, ◌∙◌}
 use Rattle.std.specs.List.{insert_slice}
 use Rattle.std.proofs.lemmas.List.{flat_map_more}
 use Rattle.std.proofs.lemmas.Grind.{flat_map-append}
@@ -57,11 +57,9 @@ pub inserted : (xs ys : List ℕ) → insert_slice xs 0 ys ≡ ys ++ xs
 inserted [] ys = refl
 inserted (x ∷ xs) ys = refl
 
--- two lists of lines, and a line behind them
+-- two lists of lines, and a line behind the second
 pub parts_text : (front back all : List ℕ) (ls ms : List Line) (l : Line) → front ≡ lines_text ls
-    → back ≡ lines_text ms → all ≡ (front ++ back) ++ line_text l → all ≡ lines_text (ls ++ (ms ++ l ∷ []))
+    → back ≡ lines_text ms ++ line_text l → all ≡ front ++ back → all ≡ lines_text (ls ++ (ms ++ l ∷ []))
 parts_text front back all ls ms l e f a =
-    a ∙ ap₂ (λ x y. (x ++ y) ++ line_text l) e f
-    ∙ append_assoc (lines_text ls) (lines_text ms) (line_text l)
-    ∙ ap (λ z. lines_text ls ++ z) (flat_map_more line_text [] ms l)
+    a ∙ ap₂ (λ x y. x ++ y) e (f ∙ flat_map_more line_text [] ms l)
     ∙ sym (flat_map-append line_text ls (ms ++ l ∷ []))

@@ -83,9 +83,11 @@ fn certificate(alloc: Global, core: &Core, unmet: &Unmet) -> Result<Vec<u8>, Mem
         ≡ lines_text (certificate (goals_of unmet.now) (lines_of core.now.positions unmet.now))) }
 {
     let (listed, mut text) = entries(alloc, core, unmet)?;
-    let front = front(alloc, unmet.explored, listed.as_slice())?;
-    text.insert_str(0, front.as_str())?;
     append_line(&mut text, &CertLine::End)?;
+    let front = front(alloc, unmet.explored, listed.as_slice())?;
+    // Room for the front and no more: without it the text may be held three times, as it moves to twice its room.
+    text.reserve_exact(front.len())?;
+    text.insert_str(0, front.as_str())?;
     Ok(text.into_bytes())
 }
 

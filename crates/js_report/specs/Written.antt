@@ -1,4 +1,4 @@
--- What stands in a sink after a report that was not written to its end.
+-- What is in a sink after a report that was not written to its end.
 use Rattle.std.specs.Prelude.{ℕ, ◌≤◌, List, length, take, Option}
 use Rattle.std.specs.Io.KnownBytes.{Appends}
 

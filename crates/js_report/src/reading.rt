@@ -9,7 +9,7 @@ use std::alloc::{AllocError, Global};
 /// How many bytes a file may have.
 pub const LONGEST_FILE: usize = 16_777_216;
 
-/// How many bytes a read asks for.
+/// How many bytes a read requests.
 const BUFFER_LENGTH: usize = 65_536;
 
 /// Why a file was not read.

@@ -17,9 +17,9 @@ use Rattle.search.specs.Witness.{named, by_shape, of_goal, part}
 use Rattle.search_laws.proofs.Rise.{answer_round}
 use Rattle.search_laws.proofs.Used.{Entered, entered}
 use Rattle.search_laws.proofs.Names.{IsNumbered, numbered_of, contents_room, contents_apart, text_room}
+use Rattle.expander_laws.specs.Expander.{words_by}
 use Rattle.js_explore.specs.Exploration.{Exploration, Explores, alternatives_at}
 use Rattle.js_rounds.specs.Spread.{spread}
-use Rattle.js_rounds.specs.Slots.{words_by}
 use Rattle.js_rounds.specs.State.{AreRounds, answer_to, contents_at}
 use Rattle.js_rounds.specs.declared.rounds.Rounds.{Rounds}
 use Rattle.js_rounds.specs.declared.runs.Run.{Run}

@@ -12,7 +12,7 @@ use Rattle.js_rounds.specs.Spread.{spread}
 use Rattle.js_rounds.specs.declared.runs.Run.{Run}
 use Rattle.js_rounds.proofs.SpreadLemmas.{next_left}
 use Rattle.std.proofs.Math.Bool.{or-false, or-true, or_assoc, and-false}
-use Rattle.position_laws.proofs.Lists.{some-append}
+use Rattle.list_laws.proofs.Elements.{some-append}
 
 or_same : (a : Bool) → (a || a) ≡ a
 or_same true = refl

@@ -1,17 +1,13 @@
 -- Elements and members of runs.
-use Rattle.std.proofs.Common.{◌≡◌, ℕ, zero, suc, ◌+◌, ◌≤◌, ◌<◌, List, [], ◌∷◌, ◌++◌, map, length, drop, get_or, Result, Ok, Err, IfOk, refl, ap, ap₂, sym, ◌∙◌, arith, add-zero, add-one}
-use Rattle.std.proofs.lemmas.List.{append-nil, append_assoc, map-append, drop_all}
+use Rattle.std.proofs.Common.{◌≡◌, ℕ, zero, suc, ◌+◌, ◌≤◌, ◌<◌, List, [], ◌∷◌, ◌++◌, map, length, get_or, Result, Ok, Err, IfOk, refl, ap, ap₂, sym, ◌∙◌, arith, add-zero, add-one}
+use Rattle.std.proofs.lemmas.List.{append_assoc, map-append}
 use Rattle.std.specs.Prelude.{chars}
 use Rattle.std.proofs.lemmas.Str.{chars-nil}
 use Rattle.alternatives.specs.Alternative.{Slot, Index, Name}
 use Rattle.alternatives.specs.Slots.{next_slot}
 use Rattle.search.specs.Rounds.{NumberedPlaced}
 use Rattle.search.specs.Uses.{repeated}
-use Rattle.js_expansion.specs.View.{slot_view}
-use Rattle.js_rounds.specs.Spread.{spread}
 use Rattle.js_rounds.specs.Slots.{slot_after}
-use Rattle.js_rounds.specs.declared.runs.Run.{Run}
-use Rattle.js_rounds.proofs.SpreadLemmas.{next_left}
 use Rattle.list_laws.proofs.Numbers.{suc_add-add_suc}
 
 after_next : (s : Slot) (n : ℕ) → slot_after (next_slot s) n ≡ slot_after s (suc n)
@@ -44,26 +40,6 @@ repeated_turn h s n g now first next x e k q =
     ∙ append_assoc first (map h (repeated s n g)) (h (placed (slot_after s n) g) ∷ [])
     ∙ ap (λ l. first ++ l)
     (sym (map-append h (repeated s n g) (placed (slot_after s n) g ∷ [])) ∙ ap (map h) (sym (repeated_more s n g)))
-
--- one more run
-pub spread_turn : {A : Type 0} (h : NumberedPlaced → A) (runs : List Run) (i : ℕ) (r : Run) (now next all : List A)
-    → i < length runs
-    → next ≡ now ++ map h (repeated (slot_view (get_or runs i r).slot) (get_or runs i r).count (get_or runs i r).goal)
-    → now ++ map h (spread (drop i runs)) ≡ all → next ++ map h (spread (drop (i + 1) runs)) ≡ all
-spread_turn h runs i d now next all l e k =
-    let r = get_or runs i d in
-    let rest = spread (drop (i + 1) runs) in
-    ap (λ z. z ++ map h rest) e
-    ∙ append_assoc now (map h (repeated (slot_view r.slot) r.count r.goal)) (map h rest)
-    ∙ ap (λ z. now ++ z)
-    (sym (map-append h (repeated (slot_view r.slot) r.count r.goal) rest)
-    ∙ ap (λ z. map h (spread z)) (sym (next_left runs i d l)))
-    ∙ k
-
-pub spread_end : {A : Type 0} (h : NumberedPlaced → A) (runs : List Run) (i : ℕ) (now all : List A) → length runs ≤ i
-    → now ++ map h (spread (drop i runs)) ≡ all → now ≡ all
-spread_end h runs i now all l e =
-    sym (ap (λ z. now ++ map h (spread z)) (drop_all i runs l) ∙ append-nil now) ∙ e
 
 -- an index has the empty name
 

@@ -1,11 +1,10 @@
 -- How many words of a cell are needed.
-use Rattle.std.proofs.Common.{◌≡◌, ◌≢◌, ℕ, zero, suc, ◌+◌, ◌≤◌, ◌<◌, ◌⊎◌, inl, inr, max, List, [], ◌∷◌, ◌++◌, map, Bool, true, false, cond, nat_eq, nat_le, nat_lt, length, take, drop, get_or, set, replicate, refl, ap, ap₂, sym, ◌∙◌, subst, arith, get_or-set_same, get_or-set_other, eqb-true, eq-eqb}
+use Rattle.std.proofs.Common.{◌≡◌, ◌≢◌, ℕ, zero, suc, ◌+◌, ◌≤◌, ◌<◌, ◌⊎◌, inl, inr, max, List, [], ◌∷◌, ◌++◌, map, Bool, true, false, cond, nat_eq, nat_le, nat_lt, length, take, get_or, replicate, Result, Ok, Err, IfOk, refl, ap, ap₂, sym, ◌∙◌, subst, arith, eqb-true, eq-eqb}
 use Rattle.std.proofs.lemmas.Bool.{and_parts, leb-true}
-use Rattle.std.proofs.lemmas.Bool.Decides.{eqb_tells}
-use Rattle.std.proofs.lemmas.List.{take_all, drop_all}
+use Rattle.std.proofs.lemmas.List.{take_all}
 use Rattle.documents.specs.Tests.{every}
 use Rattle.list_laws.specs.In.{IsIn}
-use Rattle.list_laws.proofs.Lists.{in_append}
+use Rattle.list_laws.proofs.Lists.{from_append}
 use Rattle.alternatives.specs.Alternative.{Slot, Index, Name}
 use Rattle.alternatives.specs.Slots.{capacity, cell_at, word_at, has_room}
 use Rattle.expansions.specs.DocumentOf.{slot_name}
@@ -16,7 +15,6 @@ use Rattle.js_expansion.specs.View.{slot_view}
 use Rattle.js_rounds.specs.Spread.{spread}
 use Rattle.js_rounds.specs.Slots.{wanted, wanted_by}
 use Rattle.js_rounds.specs.declared.runs.Run.{Run}
-use Rattle.js_rounds.proofs.SpreadLemmas.{next_left}
 use Rattle.js_rounds.proofs.Using.{get_take}
 use Rattle.list_laws.proofs.Every.{every-parts}
 
@@ -32,47 +30,6 @@ with_zeros (x ∷ xs) k (suc c) = with_zeros xs k c
 
 pub widened : (xs : List ℕ) (n k c : ℕ) → length xs ≤ n → get_or (take n xs ++ replicate k 0) c 0 ≡ get_or xs c 0
 widened xs n k c l = ap (λ z. get_or (z ++ replicate k 0) c 0) (take_all n xs l) ∙ with_zeros xs k c
-
-wanted_some : (d k n c : ℕ) → 0 < n → wanted (Name d k) n c ≡ cond (nat_eq d c) (k + n) 0
-wanted_some d k zero c l = absurd (omega (arith, l))
-wanted_some d k (suc n) c l = refl
-
-pub wanted_none : (s : Slot) (n c : ℕ) → n ≡ 0 → wanted s n c ≡ 0
-wanted_none s zero c e = refl
-wanted_none s (suc n) c e = absurd (omega (arith, e))
-
-pub wanted_index : (i n c : ℕ) → wanted (Index i) n c ≡ 0
-wanted_index i zero c = refl
-wanted_index i (suc n) c = refl
-
--- the need of a run is noted
-pub need_noted : (old wide : List ℕ) (d k n c now : ℕ) → 0 < n → d < length wide
-    → ((x : ℕ) → get_or wide x 0 ≡ get_or old x 0) → now ≡ max (get_or old d 0) (k + n)
-    → get_or (set wide d now) c 0 ≡ max (get_or old c 0) (wanted (Name d k) n c)
-need_noted old wide d k n c now l w same e = go (eqb_tells d c) where
-  go : ((nat_eq d c ≡ true) × (d ≡ c)) ⊎ ((nat_eq d c ≡ false) × (d ≢ c))
-      → get_or (set wide d now) c 0 ≡ max (get_or old c 0) (wanted (Name d k) n c)
-  go (inl (t, q)) =
-      subst (λ z. get_or (set wide d now) z 0 ≡ max (get_or old z 0) (k + n)) q (get_or-set_same wide d now 0 w ∙ e)
-      ∙ sym (ap (max (get_or old c 0)) (wanted_some d k n c l ∙ ap (λ b. cond b (k + n) 0) t))
-  go (inr (t, q)) =
-      get_or-set_other wide d c now 0 (λ z. q (sym z))
-      ∙ same c
-      ∙ zero_max (get_or old c 0)
-      ∙ sym (ap (max (get_or old c 0)) (wanted_some d k n c l ∙ ap (λ b. cond b (k + n) 0) t))
-    where
-      zero_max : (x : ℕ) → x ≡ max x 0
-      zero_max x = omega arith
-
-pub needs_turn : (runs : List Run) (i : ℕ) (r : Run) (c now next all : ℕ) → i < length runs
-    → next ≡ max now (wanted (slot_view (get_or runs i r).slot) (get_or runs i r).count c)
-    → max now (wanted_by (drop i runs) c) ≡ all → max next (wanted_by (drop (i + 1) runs) c) ≡ all
-needs_turn runs i r c now next all l e h =
-    let left = ap (λ z. wanted_by z c) (next_left runs i r l) in omega (arith, e, h, left)
-
-pub needs_end : (runs : List Run) (i c now all : ℕ) → length runs ≤ i → max now (wanted_by (drop i runs) c) ≡ all
-    → now ≡ all
-needs_end runs i c now all l h = let none = ap (λ z. wanted_by z c) (drop_all i runs l) in omega (arith, h, none)
 
 -- a name that a run has is among the words that are needed
 name_low : (n d j g c k : ℕ) (p : NumberedPlaced) → IsIn p (repeated (Name d j) n g) → p.slot ≡ Name c k
@@ -103,7 +60,7 @@ pub name_wanted : (runs : List Run) (p : NumberedPlaced) (c k : ℕ) → IsIn p 
     → k < wanted_by runs c
 name_wanted [] p c k i e = absurd i
 name_wanted (r ∷ rs) p c k i e =
-    go (in_append p (repeated (slot_view r.slot) r.count r.goal) (spread rs) i) (λ j. name_wanted rs p c k j e) where
+    go (from_append p (repeated (slot_view r.slot) r.count r.goal) (spread rs) i) (λ j. name_wanted rs p c k j e) where
       by : (s : Slot) (n : ℕ) → IsIn p (repeated s n r.goal) → k < wanted s n c
       by (Index x) n j = absurd (index_name n x r.goal c k p j e)
       by (Name d x) zero j = absurd j
@@ -153,15 +110,19 @@ module _ (cells : List (List (List ℕ))) where
             subst (λ z. k + suc n ≤ capacity (cell_at cells z)) (eqb-true d c q) (room_all n d k r.goal h)
         go false q = omega arith
 
-  -- a cell of which words are needed is one of the cells
-  pub cell_low : (c n : ℕ) → 0 < n → n ≤ capacity (cell_at cells c) → c < length cells
-  cell_low c n l m = go cells c (omega (arith, l, m)) where
-    go : (cs : List (List (List ℕ))) (c : ℕ) → 0 < capacity (cell_at cs c) → c < length cs
-    go [] c h = absurd (none h) where
-      none : 0 < capacity [] → ⊥
-      none h = omega (arith, h)
-    go (x ∷ cs) zero h = omega arith
-    go (x ∷ cs) (suc c) h = let l = go cs c h in omega (arith, l)
+  -- words by needs that are those of the runs
+  pub words_told : {A E : Type 0} (r : Result A E) (items : A → List (List (List ℕ))) (needs : List ℕ) (runs : List Run)
+      → ((c : ℕ) → get_or needs c 0 ≡ wanted_by runs c)
+      → IfOk r (λ v. (c : ℕ) → get_or (items v) c [] ≡ take (get_or needs c 0) (cell_at cells c))
+      → IfOk r (λ v. (c : ℕ) → get_or (items v) c [] ≡ take (wanted_by runs c) (cell_at cells c))
+  words_told (Ok v) items needs runs same h = λ c. h c ∙ ap (λ n. take n (cell_at cells c)) (same c)
+  words_told (Err m) items needs runs same h = tt
+
+  -- where no needs were noted no words are needed
+  pub none_needed : (needs : List ℕ) (runs : List Run) → length needs ≡ 0
+      → ((c : ℕ) → get_or needs c 0 ≡ wanted_by runs c) → (c : ℕ) → [] ≡ take (wanted_by runs c) (cell_at cells c)
+  none_needed [] runs l same c = ap (λ n. take n (cell_at cells c)) (same c)
+  none_needed (x ∷ xs) runs l same c = absurd (omega (arith, l))
 
   -- the words that are needed are as in the cells
   pub word_same : (lists : List (List (List ℕ))) (needs : ℕ → ℕ) (c k : ℕ)

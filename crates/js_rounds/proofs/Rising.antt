@@ -3,7 +3,7 @@ use Rattle.std.proofs.Common.{◌≡◌, ℕ, zero, suc, ◌+◌, ◌≤◌, ◌
 use Rattle.std.specs.List.{range_with_len}
 use Rattle.std.specs.List.Sorted.{IsNonDecreasing}
 use Rattle.list_laws.specs.In.{IsIn, Distinct}
-use Rattle.list_laws.proofs.Lists.{to_filter}
+use Rattle.list_laws.proofs.Lists.{in_filter}
 use Rattle.list_laws.proofs.Tests.{from_filter, in_range, from_range}
 
 abbrev Rises : List ℕ → Type 0
@@ -54,7 +54,7 @@ range_rises p a (suc n) = go (p a) (range_rises p (a + 1) n) where
   go true r = (above, r)
   go false r = r
 
--- where a number stands
+-- where a number is
 place_of : (y : ℕ) (xs : List ℕ) → IsIn y xs → (j : ℕ) × (j < length xs) × (get_or xs j 0 ≡ y)
 place_of y [] i = absurd i
 place_of y (x ∷ xs) (inl e) = (0, omega arith, sym e)
@@ -85,5 +85,5 @@ pub sorted_is : (n : ℕ) (p : ℕ → Bool) (xs : List ℕ) → IsNonDecreasing
     → xs ≡ filter p (range_with_len 0 n)
 sorted_is n p xs h d f g =
     same_numbers xs (filter p (range_with_len 0 n)) (sorted_rises xs h d) (range_rises p 0 n)
-    (λ z i. let (t, l) = f z i in to_filter p z (range_with_len 0 n) (in_range n z l) t)
+    (λ z i. let (t, l) = f z i in in_filter p z (range_with_len 0 n) (in_range n z l) t)
     (λ z i. let (j, t) = from_filter p z (range_with_len 0 n) i in g z t (from_range n z j))

@@ -8,7 +8,7 @@ use Rattle.goals.specs.Signed.{Signed}
 use Rattle.alternatives.specs.Expansion.{Expansion}
 use Rattle.search.specs.Explored.{Found}
 use Rattle.list_laws.specs.In.{IsIn}
-use Rattle.list_laws.proofs.Tests.{some_none}
+use Rattle.list_laws.proofs.Tests.{none_from}
 use Rattle.search.specs.Rounds.{is_met, first_place, told, alternatives_of, round, answer}
 use Rattle.search.specs.Uses.{numbers, satisfied, is_added, last_within, in_order}
 use Rattle.search_laws.proofs.Answers.{Enters, Least, answer_least, added_low}
@@ -182,7 +182,7 @@ module _ (expansion : List Signed → Expansion) (f : Found) where
 
   -- all rounds
   none_new : some (is_added expansion f (length f.goals)) (numbers expansion f) ≡ false
-  none_new = some_none (is_added expansion f (length f.goals)) (numbers expansion f) (λ n i.
+  none_new = none_from (is_added expansion f (length f.goals)) (numbers expansion f) (λ n i.
       go (round expansion f (suc (length f.goals)) n) (round expansion f (length f.goals) n)
       (settled expansion f (suc (length f.goals)) n)) where
         go : (a b : Bool) → (a ≡ true → b ≡ true) → (a && not b) ≡ false

@@ -13,7 +13,7 @@ use Rattle.js_rounds.specs.declared.rounds.Rounds.{Rounds}
 use Rattle.js_rounds.proofs.Taking.{firsts_are}
 use Rattle.js_rounds.proofs.Rounding.{HasRun, ended, started, run_out, run_down}
 
--- the goals that were taken stand before those that are put in order
+-- the goals that were taken come before those that are put in order
 pub still_taken : (e : Exploration) (from : ℕ) (s t : Rounds) → IsTaken e from s → AreSame s t
     → IsSorted from s.count s.order.items t.order.items → IsTaken e from t
 still_taken e from s t h same sorted = record {

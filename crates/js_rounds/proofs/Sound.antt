@@ -7,8 +7,7 @@ use Rattle.documents.specs.Document.{Document}
 use Rattle.positions.specs.Position.{Position}
 use Rattle.goals.specs.Signed.{Signed}
 use Rattle.goals.specs.Tree.{first}
-use Rattle.list_laws.specs.In.{IsIn}
-use Rattle.list_laws.proofs.Lists.{in_slice}
+use Rattle.list_laws.proofs.Lists.{slice_get-in}
 use Rattle.alternatives.specs.Alternative as E
 use Rattle.alternatives.specs.Alternative.{Alternative}
 use Rattle.alternatives.specs.Expansion.{Expansion}
@@ -16,21 +15,12 @@ use Rattle.search.specs.Explored.{Found, number_in}
 use Rattle.search.specs.Rounds.{is_met, alternatives_at, alternatives_of, test_or, by_number, round}
 use Rattle.search.specs.Documents.{of_number, of_alternative, of_goal, document}
 use Rattle.search.specs.Uses.{satisfied}
+use Rattle.search_laws.proofs.First.{first_met}
 use Rattle.search_laws.proofs.Numbers.{number_at, numbered_met}
 use Rattle.search_laws.proofs.Answers.{Least, answer_least}
 use Rattle.search_laws.proofs.Built.{document_stays}
-use Rattle.js_rounds.specs.Meets.{Meets, AreSound, IsMet}
-
--- the first alternative that passes
-first_passing : (p : Alternative → Bool) (bs : List Alternative) → some p bs ≡ true
-    → (a : Alternative) × (first p bs ≡ Some a) × IsIn a bs × (p a ≡ true)
-first_passing p [] e = cc
-first_passing p (b ∷ bs) e = go (p b) refl e (first_passing p bs) where
-  go : (t : Bool) → p b ≡ t → (t || some p bs) ≡ true
-      → (some p bs ≡ true → (a : Alternative) × (first p bs ≡ Some a) × IsIn a bs × (p a ≡ true))
-      → (a : Alternative) × (cond t (Some b) (first p bs) ≡ Some a) × IsIn a (b ∷ bs) × (p a ≡ true)
-  go true h e more = (b, refl, inl refl, h)
-  go false h e more = let (a, x, y, z) = more e in (a, x, inr y, z)
+use Rattle.expander_laws.specs.Sound.{Meets, AreSound}
+use Rattle.js_rounds.specs.Meets.{IsMet}
 
 module _ (T : List Position) (words : List Signed → Kind → ℕ → ℕ → ℕ → List ℕ) (X : List Signed → Expansion)
     (f : Found) (sound : AreSound T words X f.goals) where
@@ -67,12 +57,12 @@ module _ (T : List Position) (words : List Signed → Kind → ℕ → ℕ → �
       go false o at h = cc
       go true None at h = cc
       go true (Some g) at h =
-          let (a, p, i, u) = first_passing (E.is_met Can) (X g).alternatives
+          let (a, p, i, u) = first_met (E.is_met Can) (X g).alternatives
           (sym (numbered_met (round X f r) f.goals (X g).alternatives) ∙ h) in (
             g,
             at,
             subst (λ o. Meets T (suc r) g (of_alternative words X f Can Child g o)) (sym p)
-                (sound g (in_slice g f.goals n at) a i r Can Child children u),
+                (sound g (slice_get-in g f.goals n at) a i r Can Child children u),
           )
 
     next_round : (n : ℕ) → round X f (suc r) n ≡ true → Has (suc r) n (Doc (suc r) n)
@@ -89,7 +79,7 @@ module _ (T : List Position) (words : List Signed → Kind → ℕ → ℕ → �
   round_met zero n h = cc
   round_met (suc r) n h = next_round r (round_met r) n h
 
-  -- so is what its parts stand for
+  -- what the parts of a goal stand for meets it
   pub goal_met : (n : ℕ) → is_some (satisfied X f n) ≡ true → IsMet T X f n (document words X f (length f.goals) n)
   goal_met n has = go (satisfied X f n) refl has where
     go : (o : Option (ℕ × ℕ)) → satisfied X f n ≡ o → is_some o ≡ true

@@ -7,7 +7,7 @@ use Rattle.std.specs.List.{range_with_len}
 use Rattle.documents.specs.Tests.{some}
 use Rattle.goals.specs.Signed.{Signed}
 use Rattle.list_laws.specs.In.{IsIn}
-use Rattle.list_laws.proofs.Lists.{in_append, in_left, in_right}
+use Rattle.list_laws.proofs.Lists.{from_append, in_left, in_right}
 use Rattle.list_laws.proofs.Tests.{some_find, some_from}
 use Rattle.alternatives.specs.Expansion.{Expansion}
 use Rattle.search.specs.Explored.{Found}
@@ -40,7 +40,7 @@ among-append : (xs : List ℕ) (m g : ℕ) → with_goal (among xs) m g ≡ amon
 among-append xs m g =
     same_test (with_goal (among xs) m g) (among (xs ++ m ∷ []) g)
     (λ e. in_among (xs ++ m ∷ []) g (to (or_cases (nat_eq g m) (among xs g) e)))
-    (λ e. from (in_append g xs (m ∷ []) (among_in (xs ++ m ∷ []) g e)))
+    (λ e. from (from_append g xs (m ∷ []) (among_in (xs ++ m ∷ []) g e)))
   where
     to : (nat_eq g m ≡ true) ⊎ (among xs g ≡ true) → IsIn g (xs ++ m ∷ [])
     to (inl e) = in_right g xs (m ∷ []) (inl (eqb-true g m e))
@@ -61,7 +61,7 @@ none_taken e s h = record {
   mentions = h.mentions;
 }
 
--- the goal that stands at a place
+-- the goal that is at a place
 take_next : (xs : List ℕ) (i d : ℕ) → i < length xs → take (i + 1) xs ≡ take i xs ++ get_or xs i d ∷ []
 take_next [] i d l = absurd (omega (arith, l))
 take_next (x ∷ xs) zero d l = refl

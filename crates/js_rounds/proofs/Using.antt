@@ -38,7 +38,7 @@ module _ (expansion : List Signed → Expansion) (f : Found) where
   abbrev Answer : ℕ → ℕ → Option (ℕ × ℕ)
   Answer r n = answer expansion f r n
 
-  -- answers of a later round tell an earlier one
+  -- answers of a later round give an earlier one
   seen_by : (q m n : ℕ) → q ≤ m → is_by q (Answer m n) ≡ round expansion f q n
   seen_by q m n l = go (Answer m n) refl where
     differ : true ≡ false → ⊥

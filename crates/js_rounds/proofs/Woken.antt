@@ -193,15 +193,3 @@ keeps_from n m r s more x y known order has_run mentions = record {
       let b = ap length order in
       let c = length-append (take r.count r.order.items) more in
       omega (arith, a, b, c, long)
-
-pub keeps_itself : (r : Rounds) → Keeps r r
-keeps_itself r = record { known = refl; count = omega arith; order = λ k l. refl; has_run = refl; mentions = refl }
-
-pub keeps_on : (r s t : Rounds) → Keeps r s → Keeps s t → Keeps r t
-keeps_on r s t x y = record {
-  known = y.known ∙ x.known;
-  count = omega (arith, x.count, y.count);
-  order = λ k l. y.order k (omega (arith, l, x.count)) ∙ x.order k l;
-  has_run = y.has_run ∙ x.has_run;
-  mentions = y.mentions ∙ x.mentions;
-}

@@ -1,34 +1,14 @@
--- What the document of a goal means for any table, where each alternative is sound: it meets the goal, and is no deeper
--- than the goal's round.
-use Rattle.std.specs.Prelude.{◌≡◌, ◌≤◌, ℕ, suc, List, Bool, true, Some, slice_get}
-use Rattle.documents.specs.Kind.{Kind}
-use Rattle.documents.specs.Document.{Document, depth, is_document}
+-- What the document of a goal means for a table: it meets the goal, and is no deeper than the goal's round.
+use Rattle.std.specs.Prelude.{◌≡◌, ℕ, List, Some, slice_get}
+use Rattle.documents.specs.Document.{Document}
 use Rattle.positions.specs.Position.{Position}
-use Rattle.goals.specs.Signed.{Signed, meets}
-use Rattle.list_laws.specs.In.{IsIn}
-use Rattle.alternatives.specs.Alternative.{Alternative, is_met}
+use Rattle.goals.specs.Signed.{Signed}
 use Rattle.alternatives.specs.Expansion.{Expansion}
-use Rattle.expansions.specs.DocumentOf.{document_of}
 use Rattle.search.specs.Explored.{Found}
 use Rattle.search.specs.Uses.{satisfied}
+use Rattle.expander_laws.specs.Sound.{Meets}
 
 module _ (T : List Position) where
-  -- a document that meets a goal, of depth at most d
-  pub record Meets (d : ℕ) (g : List Signed) (J : Document) : Type 0 where
-    pub document : is_document J ≡ true
-    pub shallow : depth J ≤ d
-    pub meets : meets T g J ≡ true
-
-  -- each alternative of these goals is sound: where it is met by goals that have documents, what it builds of them
-  -- meets its goal, and is at most one level deeper
-  abbrev pub AreSound : (words : List Signed → Kind → ℕ → ℕ → ℕ → List ℕ) → (List Signed → Expansion)
-      → List (List Signed) → Type 0
-  AreSound words expansion gs =
-      (g : List Signed) → IsIn g gs → (a : Alternative) → IsIn a (expansion g).alternatives
-      → (d : ℕ) (can : List Signed → Bool) (child : List Signed → Document)
-      → ((h : List Signed) → can h ≡ true → Meets d h (child h))
-      → is_met can a ≡ true → Meets (suc d) g (document_of can child (words g a.kind a.branch) a)
-
   -- the document of goal n meets it, and is no deeper than the least round that has the goal
   pub record IsMet (expansion : List Signed → Expansion) (f : Found) (n : ℕ) (J : Document) : Type 0 where
     pub goal : List Signed
@@ -36,4 +16,4 @@ module _ (T : List Position) where
     pub round : ℕ
     pub alternative : ℕ
     pub answer : satisfied expansion f n ≡ Some (round, alternative)
-    pub meets : Meets round goal J
+    pub meets : Meets T round goal J

@@ -1,7 +1,4 @@
 -- Slots one after another, and how many words of a cell runs need.
-use Rattle.documents.specs.Kind.{Kind}
-use Rattle.goals.specs.Signed.{Signed}
-use Rattle.alternatives.specs.Slots.{word_at}
 use Rattle.std.specs.Prelude.{ℕ, zero, suc, ◌+◌, max, List, [], ◌∷◌, cond, nat_eq, get_or}
 use Rattle.alternatives.specs.Alternative.{Slot, Index, Name}
 use Rattle.js_expansion.specs.View.{slot_view}
@@ -25,7 +22,3 @@ wanted_by (r ∷ rs) c = max (wanted (slot_view r.slot) r.count c) (wanted_by rs
 -- the number of the part of a goal
 abbrev pub place_at : List ℕ → ℕ → ℕ
 place_at places g = get_or places g 0
-
--- word k of cell c of a branch of a goal, by the cells of branches
-abbrev pub words_by : (List Signed → Kind → ℕ → List (List (List ℕ))) → List Signed → Kind → ℕ → ℕ → ℕ → List ℕ
-words_by cells g t b c k = word_at (cells g t b) c k

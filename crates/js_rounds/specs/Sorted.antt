@@ -2,7 +2,7 @@
 use Rattle.std.specs.Prelude.{◌≡◌, ℕ, List, ◌++◌, take, drop, length}
 use Rattle.std.specs.List.Sorted.{IsPermutation, IsNonDecreasing}
 
--- from a place to another; what stands before it stays
+-- from a place to another; what comes before it stays
 pub record IsSorted (from to : ℕ) (xs ys : List ℕ) : Type 0 where
   pub same : length ys ≡ length xs
   pub before : take from ys ≡ take from xs

@@ -70,30 +70,7 @@ fn needs(alloc: Global, runs: &[Run]) -> Result<Vec<u64>, Memory>
     Ok(needs)
 }
 
-/// The first words of a cell; none are requested where none are needed.
-fn cell_words<E: Expander>(
-    alloc: Global,
-    expander: &E,
-    goal: &Goal,
-    branch: BranchId,
-    cell: usize,
-    need: u64,
-) -> Result<StrList, Memory>
-    requires taken { E.takes expander.now goal.now ≡ true }
-    requires branch { names_branch (E.expansion expander.now goal.now) (kind_view branch.kind) branch.number ≡ true }
-    requires cell { cell < 2 ^ 32 }
-    requires need { need
-        ≤ capacity (cell_at (E.cells expander.now goal.now (kind_view branch.kind) branch.number) cell) }
-    ensures { IfOk result (λ l. l
-        ≡ take need (cell_at (E.cells expander.now goal.now (kind_view branch.kind) branch.number) cell)) }
-{
-    if need == 0 {
-        return Ok(StrList::from_vec(Vec::new(alloc)));
-    }
-    expander.words(alloc, goal, branch, cell as u32, need as u32)
-}
-
-/// Of each cell the words that runs need. Each cell is requested once.
+/// Of each cell the words that runs need. All are requested at once.
 fn words_of<E: Expander>(
     alloc: Global,
     expander: &E,
@@ -109,11 +86,10 @@ fn words_of<E: Expander>(
         (cell_at (E.cells expander.now goal.now (kind_view branch.kind) branch.number) c)) }
 {
     let needs = needs(alloc, runs)?;
-    let mut lists = Vec::with_capacity(alloc, needs.len())?;
-    for cell in 0..needs.len() {
-        lists.push(cell_words(alloc, expander, goal, branch, cell, needs[cell])?)?;
+    if needs.is_empty() {
+        return Ok(Vec::new(alloc));
     }
-    Ok(lists)
+    expander.words_by_cell(alloc, goal, branch, &needs)
 }
 
 /// Word `place` of a cell, nothing where there is none.

@@ -11,15 +11,17 @@ ghost use Rattle.shared_documents.specs.Unshared.{unshared};
 ghost use Rattle.search.specs.Documents.{document};
 ghost use Rattle.search.specs.Uses as U;
 ghost use Rattle.search.specs.Witness as W;
+ghost use Rattle.expander_laws.specs.Expander.{words_by};
+ghost use Rattle.expander_laws.specs.Sound.{AreSound};
 ghost use Rattle.js_algebra.specs.View.{kind_view};
 ghost use Rattle.js_doc.specs.PartView.{part_view};
 ghost use Rattle.js_expansion.specs.View.{shape_view};
 ghost use Rattle.js_explore.specs.ExploredView.{explored_view};
 ghost use Rattle.js_explore.specs.Exploration.{Explores};
 ghost use Rattle.js_rounds.specs.Spread.{spread};
-ghost use Rattle.js_rounds.specs.Slots.{place_at, words_by};
+ghost use Rattle.js_rounds.specs.Slots.{place_at};
 ghost use Rattle.js_rounds.specs.State.{IsFor, AreRounds};
-ghost use Rattle.js_rounds.specs.Meets.{AreSound, IsMet};
+ghost use Rattle.js_rounds.specs.Meets.{IsMet};
 
 use crate::elements::elements;
 use crate::names::{members, text};
@@ -31,7 +33,7 @@ use js_expansion::{Expander, Shape};
 use js_explore::{Explored, Numbered};
 use std::alloc::Global;
 
-/// The part of an alternative and of what stands in it.
+/// The part of an alternative and of what is in it.
 fn part_of<E: Expander>(
     alloc: Global,
     expander: &E,
@@ -138,7 +140,7 @@ impl Rounds {
     }
 
     /// The document of a goal that has an answer, in parts: one for the goal and one for each goal that its document
-    /// uses, directly or through others. They stand in order of least round, then number, so the goal's own is last.
+    /// uses, directly or through others. They are in order of least round, then number, so the goal's own is last.
     ///
     /// It costs what the used goals contain, a step for each goal that has an answer, and the sorting of each object's
     /// members by name; each cell of a used goal's branch is requested once, with as many words as are needed.

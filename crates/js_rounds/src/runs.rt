@@ -1,4 +1,4 @@
-//! What the document of an alternative is made of, with what stands at neighbouring slots given at once.
+//! What the document of an alternative is made of, with what is at neighbouring slots given at once.
 
 ghost use Rattle.std.specs.Prelude.{◌≡◌, ◌++◌, ◌-◌, [], cond, map, min, IfOk, OnOk};
 ghost use Rattle.search.specs.Uses as U;

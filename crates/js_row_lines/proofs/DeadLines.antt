@@ -12,7 +12,7 @@ use Rattle.js_lines.specs.declared.lines.CertLine.{CertLine}
 use Rattle.js_lines.specs.View.{line_view}
 use Rattle.js_row_lines.specs.Dead.{AreDead}
 
--- what is added stands behind what was there
+-- what is added comes behind what was there
 pub added-are : (old : List CertLine) (now piece : List Line) → now ≡ map line_view old ++ piece
     → drop (length old) now ≡ piece
 added-are old now piece e =

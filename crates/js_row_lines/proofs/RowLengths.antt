@@ -3,7 +3,7 @@ use Rattle.std.proofs.Common.{◌≡◌, ℕ, zero, suc, ◌+◌, ◌<◌, ◌�
 use Rattle.std.proofs.lemmas.Bool.{cases_lt}
 use Rattle.std.proofs.lemmas.List.{get_or-map, get_or-take, length-map, length-take-le}
 use Rattle.std.proofs.lemmas.Grind.{get_or_default_zero}
-use Rattle.list_laws.proofs.Lists.{in_get}
+use Rattle.list_laws.proofs.Lists.{get_or-in}
 use Rattle.word_states.specs.Atom.{Atom}
 use Rattle.word_states.specs.Classes.{class_firsts}
 use Rattle.word_states.specs.Rows.{AreRows}
@@ -21,7 +21,7 @@ ordered_at : {A : Type 0} (R : A → A → Type 0) (xs : List A) (d : A) (i j : 
     → R (get_or xs i d) (get_or xs j d)
 ordered_at R [] d i j o l m = absurd (omega (arith, m))
 ordered_at R (x ∷ xs) d i zero o l m = absurd (omega (arith, l))
-ordered_at R (x ∷ xs) d zero (suc j) o l m = o.0 (get_or xs j d) (in_get xs j d (omega (arith, m)))
+ordered_at R (x ∷ xs) d zero (suc j) o l m = o.0 (get_or xs j d) (get_or-in xs j d (omega (arith, m)))
 ordered_at R (x ∷ xs) d (suc i) (suc j) o l m =
     ordered_at R xs d i j o.1 (omega (arith, l)) (omega (arith, m))
 

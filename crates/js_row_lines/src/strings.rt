@@ -13,9 +13,10 @@ use crate::least::least_line;
 use crate::rows::add_row_lines;
 use js_algebra::{Core, Signed};
 use js_asked::Asked;
-use js_automaton::{Automaton, build};
+use js_automaton::Automaton;
 use js_bounds::Bounds;
 use js_doc::Memory;
+use js_kept_automaton::KeptAutomaton;
 use js_lines::CertLine;
 use js_nfa::Atom;
 use std::alloc::Global;
@@ -24,10 +25,13 @@ use std::alloc::Global;
 ///
 /// Where the atoms of the set pass a limit it answers want of memory. None is passed where bounds don't cross and no
 /// string was found.
+///
+/// The automaton of the atoms is kept: it serves a later set with the same atoms, and changes no line.
 pub fn add_string_lines(
     alloc: Global,
     core: &Core,
     set: &[Signed],
+    kept: &mut KeptAutomaton,
     lines: &mut Vec<CertLine>,
 ) -> Result<(), Memory>
     requires { are_in_table core.now.positions (map signed_view set.now) ≡ true }
@@ -40,16 +44,21 @@ pub fn add_string_lines(
 {
     let least = Bounds::of_strings(core, set).lower;
     let asked = Asked::of(alloc, core, set, least)?;
-    add_lines_of(alloc, asked.atoms(), lines)
+    add_lines_of(alloc, asked.atoms(), kept, lines)
 }
 
 /// Adds the lines of the atoms' automaton.
-fn add_lines_of(alloc: Global, atoms: &[Atom], lines: &mut Vec<CertLine>) -> Result<(), Memory>
+fn add_lines_of(
+    alloc: Global,
+    atoms: &[Atom],
+    kept: &mut KeptAutomaton,
+    lines: &mut Vec<CertLine>,
+) -> Result<(), Memory>
     ensures { OnOk result (map line_view lines.new.items ≡ map line_view lines.old.items
         ++ length_lines (map atom_view atoms.now) (stated.rows_of (map atom_view atoms.now))) }
 {
-    match build(alloc, atoms) {
-        Ok(automaton) => add_length_lines(alloc, &automaton, lines),
+    match kept.of(alloc, atoms) {
+        Ok(automaton) => add_length_lines(alloc, automaton, lines),
         Err(_) => Err(Memory),
     }
 }

@@ -5,7 +5,7 @@ use Rattle.std.proofs.lemmas.Bool.{and_parts, or_cases, cases_eq, ltb-true, eqb-
 use Rattle.std.proofs.lemmas.Bool.Decides.{nat_tests}
 use Rattle.patterns.specs.CharSet.{is_scalar, group_of}
 use Rattle.list_laws.specs.In.{IsIn}
-use Rattle.list_laws.proofs.Lists.{in_left, in_right, in_append}
+use Rattle.list_laws.proofs.Lists.{in_left, in_right, from_append}
 use Rattle.word_states.specs.Classes.{characters}
 use Rattle.word_laws.proofs.Classes.{in_range, ordered_only}
 use Rattle.cell_laws.specs.FirstWords.{IsOrdered}
@@ -42,7 +42,7 @@ ordered_append : {A : Type 0} (R : A → A → Type 0) (xs ys : List A) → IsOr
     → ((x y : A) → IsIn x xs → IsIn y ys → R x y) → IsOrdered R (xs ++ ys)
 ordered_append R [] ys a b h = b
 ordered_append R (x ∷ xs) ys a b h = (
-  (λ y i. ⊎_elim (λ l. a.0 y l) (λ r. h x y (inl refl) r) (in_append y xs ys i)),
+  (λ y i. ⊎_elim (λ l. a.0 y l) (λ r. h x y (inl refl) r) (from_append y xs ys i)),
   ordered_append R xs ys a.1 b (λ u v i j. h u v (inr i) j),
 )
 
@@ -121,14 +121,14 @@ blocks_ordered (b ∷ bs) g o =
       behind c d i (t ∷ ts) h o j =
           let (p, q) = and_parts (is_before b t) (list_all (is_before b) ts) o in
           ⊎_elim (λ k. one c d t i h.0 p k) (λ k. behind c d i ts h.1 q k)
-          (in_append d (letters_of_block t) (flat_map letters_of_block ts) j)
+          (from_append d (letters_of_block t) (flat_map letters_of_block ts) j)
 
 blocks_scalar : (bs : List (ℕ × ℕ)) → AreGroups bs → (c : ℕ) → IsIn c (flat_map letters_of_block bs)
     → is_scalar c ≡ true
 blocks_scalar [] g c i = absurd i
 blocks_scalar (b ∷ bs) g c i =
     ⊎_elim (λ j. let (p, q) = in_range b.0 b.1 c j in g.0.scalar c p q) (λ j. blocks_scalar bs g.1 c j)
-    (in_append c (letters_of_block b) (flat_map letters_of_block bs) i)
+    (from_append c (letters_of_block b) (flat_map letters_of_block bs) i)
 
 abbrev is_inside : ℕ → ℕ × ℕ → Bool
 is_inside c b = nat_lt b.0 (c + 1) && nat_lt c (b.0 + b.1)
@@ -205,6 +205,7 @@ letters_same : (bs : List (ℕ × ℕ)) → flat_map block_letters bs ≡ flat_m
 unfolding block_letters
 letters_same bs = refl
 
+-- the letters of the ten blocks, in their order, are the characters in order
 pub blocks_are : flat_map block_letters blocks ≡ characters
 blocks_are =
     letters_same blocks

@@ -77,6 +77,7 @@ module _ (atoms : List Atom) (L : List (List ℕ)) (numbers : List ℕ) (row : �
         let p : each * run.count ≡ run.count * each = grind arith in
         (div-lt_iff_lt-mul {k = each} {x = left} {y = run.count} (some left l)).1 (omega (arith, l, p))
 
+    -- a number that falls into a run picks its letter by the quotient, and goes on with the remainder
     pub chosen : (rest : List ℕ) (left : ℕ) → left < each * run.count → (next : ℕ → ℕ → List ℕ)
         → pick counted next (letters_in run ++ rest) left
         ≡ (run.first + left / each) ∷ next (run.first + left / each) (left % each)

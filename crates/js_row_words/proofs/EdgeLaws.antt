@@ -1,8 +1,8 @@
 -- Chains of the edges that lead to a row.
-use Rattle.std.proofs.Common.{◌≡◌, ℕ, zero, suc, ◌+◌, ◌-◌, ◌*◌, ◌/◌, ◌%◌, ◌<◌, ◌≤◌, ◌⊎◌, inl, inr, List, [], ◌∷◌, ◌++◌, length, length-append, get_or, set, Bool, true, false, cond, nat_eq, refl, ap, ap₂, sym, ◌∙◌, subst, arith}
-use Rattle.std.proofs.lemmas.List.{get_or-set_same, get_or-set_other, length-set, get_or_append_left, get_or-append_right}
+use Rattle.std.proofs.Common.{◌≡◌, ℕ, zero, suc, ◌+◌, ◌-◌, ◌*◌, ◌/◌, ◌%◌, ◌<◌, ◌≤◌, ◌⊎◌, inl, inr, List, [], ◌∷◌, ◌++◌, length, get_or, set, Bool, true, false, cond, nat_eq, refl, ap, ap₂, sym, ◌∙◌, subst, arith}
+use Rattle.std.proofs.lemmas.List.{get_or-set_same, get_or-set_other}
 use Rattle.std.proofs.lemmas.Nat.{div-mul-add, mod-mul-add}
-use Rattle.std.proofs.Math.Nat.{mul-le-mul, div-lt_iff_lt-mul, mod-lt, sub_self}
+use Rattle.std.proofs.Math.Nat.{mul-le-mul, div-lt_iff_lt-mul, mod-lt}
 use Rattle.std.proofs.lemmas.Bool.{eqb-true, eqb-false, eq-eqb, cases_eq}
 use Rattle.word_states.specs.Atom.{Atom}
 use Rattle.word_states.specs.Classes.{class_count}
@@ -48,45 +48,6 @@ module _ (atoms : List Atom) (L : List (List ℕ)) where
       × (length before ≡ n)
       × ((t : ℕ) → t < length L → get_or last t 0 ≡ last_edge (edge_target atoms L) n t)
       × ((e : ℕ) → e < n → get_or before e 0 ≡ last_edge (edge_target atoms L) e (edge_target atoms L e))
-
-  -- one more edge is put before the chain of its target
-  pub chains_next : (last before : List ℕ) (n x : ℕ) → AreChains last before n → x ≡ edge_target atoms L n
-      → x < length L → AreChains (set last x (n + 1)) (before ++ get_or last x 0 ∷ []) (n + 1)
-  chains_next last before n x (s, b, h, k) q l = (
-    length-set last x (n + 1) ∙ s,
-    (let e = length-append before (get_or last x 0 ∷ []) in omega (arith, e, b)),
-    (λ t m. subst (λ z. get_or (set last x (n + 1)) t 0 ≡ last_edge (edge_target atoms L) z t) (suc-eq-add-one n)
-        (lasts t m (cases_eq t x))),
-    λ e m. befores e (cases_eq e n) m,
-  ) where
-    lasts : (t : ℕ) → t < length L → (t ≡ x) ⊎ (t ≡ x → ⊥)
-        → get_or (set last x (n + 1)) t 0
-        ≡ cond (nat_eq (edge_target atoms L n) t) (suc n) (last_edge (edge_target atoms L) n t)
-    lasts t m (inl p) =
-        subst (λ z. get_or (set last x (n + 1)) z 0
-        ≡ cond (nat_eq (edge_target atoms L n) z) (suc n) (last_edge (edge_target atoms L) n z)) (sym p)
-        (get_or-set_same last x (n + 1) 0 (omega (arith, l, s)) ∙ sym (suc-eq-add-one n)
-        ∙ ap (λ b. cond b (suc n) (last_edge (edge_target atoms L) n x))
-        (sym (eq-eqb (edge_target atoms L n) x (sym q))))
-    lasts t m (inr d) =
-        get_or-set_other last x t (n + 1) 0 d ∙ h t m
-        ∙ other (nat_eq (edge_target atoms L n) t) refl where
-          other : (b : Bool) → nat_eq (edge_target atoms L n) t ≡ b
-              → last_edge (edge_target atoms L) n t ≡ cond b (suc n) (last_edge (edge_target atoms L) n t)
-          other true e = absurd (d (sym (q ∙ eqb-true (edge_target atoms L n) t e)))
-          other false e = refl
-
-    befores : (e : ℕ) → (e ≡ n) ⊎ (e ≡ n → ⊥) → e < n + 1
-        → get_or (before ++ get_or last x 0 ∷ []) e 0 ≡ last_edge (edge_target atoms L) e (edge_target atoms L e)
-    befores e (inl p) m =
-        subst (λ z. get_or (before ++ get_or last x 0 ∷ []) z 0
-        ≡ last_edge (edge_target atoms L) z (edge_target atoms L z)) (sym p)
-        (get_or-append_right before (get_or last x 0 ∷ []) n n 0 b (omega arith)
-        ∙ ap (λ z. get_or (get_or last x 0 ∷ []) z 0) (sub_self n)
-        ∙ h x l ∙ ap (λ z. last_edge (edge_target atoms L) n z) q)
-    befores e (inr d) m =
-        let j : e < n = omega (arith, m, d) in
-        get_or_append_left before (get_or last x 0 ∷ []) 0 e (omega (arith, j, b)) ∙ k e j
 
   -- an edge's row and class
   pub edge_row : (e : ℕ) → e < edge_count atoms L

@@ -13,7 +13,7 @@ use Rattle.word_laws.proofs.ClassLaws.{classes_divide}
 use Rattle.word_laws.proofs.States.{same_laws}
 use Rattle.word_laws.proofs.RowLaws.{rows_words}
 use Rattle.list_laws.specs.In.{IsIn}
-use Rattle.list_laws.proofs.Lists.{in_get}
+use Rattle.list_laws.proofs.Lists.{get_or-in}
 use Rattle.cell_laws.specs.Leading.{Leads, HasWords, asked, IsStable, IsCapacity}
 use Rattle.cell_laws.specs.RowTables.{LeadsOn}
 use Rattle.cell_laws.proofs.Lower as Lower
@@ -49,7 +49,7 @@ first_class : (atoms : List Atom) (k : ℕ) → k < class_count atoms
     → (is_scalar (get_or (class_firsts atoms) k 0) ≡ true) × (class_of atoms (get_or (class_firsts atoms) k 0) ≡ k)
 first_class atoms k l =
     let f = get_or (class_firsts atoms) k 0 in
-    let s = firsts_scalar atoms f (in_get (class_firsts atoms) k 0 l) in (
+    let s = firsts_scalar atoms f (get_or-in (class_firsts atoms) k 0 l) in (
       s,
       sym ((classes_divide atoms f s).2 k l
           (and_from (is_scalar f) (are_alike (dividers atoms) f f) s ((alike_laws (dividers atoms)).refl f))),
@@ -68,7 +68,7 @@ module _ (atoms : List Atom) (L : List (List ℕ)) (rows : AreRows atoms L) (mar
   own_row r l =
       let w = get_or L r [] in
       one_row atoms L rows w (row_of atoms L w) r
-      (row_is atoms L rows w (rows_words atoms L rows w (in_get L r [] l))) (l, (same_laws atoms).refl w)
+      (row_is atoms L rows w (rows_words atoms L rows w (get_or-in L r [] l))) (l, (same_laws atoms).refl w)
 
   pub mark_is : (r : ℕ) → r < length L → in_marks atoms L marks r ≡ get_or marks r false
   mark_is r l = ap (λ z. get_or marks z false) (own_row r l)

@@ -1,6 +1,6 @@
 -- The first character of a class, and texts of characters.
 use Rattle.std.proofs.Common.{◌≡◌, ℕ, ◌<◌, ◌⊎◌, inl, inr, Bool, true, false, ◌&&◌, ◌||◌, cond, nat_lt, List, [], ◌∷◌, ◌++◌, length, get_or, reverse, chars, encode_utf8, encode_utf8_all, refl, ap, sym, ◌∙◌, append_assoc, append-nil, arith}
-use Rattle.list_laws.proofs.Lists.{in_get}
+use Rattle.list_laws.proofs.Lists.{get_or-in}
 use Rattle.std.specs.List.{list_all}
 use Rattle.std.specs.Str.{all_scalars}
 use Rattle.std.proofs.lemmas.Bool.{and_parts, and_from, true≢false}
@@ -37,7 +37,7 @@ module _ (atoms : List Atom) (k : ℕ) (l : k < class_count atoms) (set : List (
       let f = get_or (class_firsts atoms) k 0 in
       is f
       ∙ and_from (is_scalar f) (are_alike (dividers atoms) f f)
-      (firsts_scalar atoms f (in_get (class_firsts atoms) k 0 l)) ((alike_laws (dividers atoms)).refl f)
+      (firsts_scalar atoms f (get_or-in (class_firsts atoms) k 0 l)) ((alike_laws (dividers atoms)).refl f)
 
   pub letter_is : (c : ℕ) → has set c ≡ true → ((d : ℕ) → has set d ≡ true → comes_no_later c d ≡ true)
       → c ≡ get_or (class_firsts atoms) k 0

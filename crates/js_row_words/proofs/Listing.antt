@@ -5,7 +5,7 @@ use Rattle.std.proofs.lemmas.Bool.{cases_lt, cases_eq}
 use Rattle.std.proofs.lemmas.List.{length-take, take_all, take_min, take-append-le, get_or_append_left, get_or_push, length_push}
 use Rattle.std.proofs.lemmas.Option.{slice_get_within, get_or_from_slice_get, slice_get-get_or}
 use Rattle.list_laws.specs.In.{IsIn}
-use Rattle.list_laws.proofs.Lists.{in_get}
+use Rattle.list_laws.proofs.Lists.{get_or-in}
 use Rattle.word_states.specs.Atom.{Atom}
 use Rattle.word_states.specs.Classes.{characters}
 use Rattle.word_states.specs.WordState.{have_same_state}
@@ -55,7 +55,7 @@ module _ (atoms : List Atom) (L : List (List ℕ)) (rows : AreRows atoms L) (mar
   own_row r l =
       let w = get_or L r [] in
       one_row atoms L rows w (row_of atoms L w) r
-      (row_is atoms L rows w (rows_words atoms L rows w (in_get L r [] l))) (l, (same_laws atoms).refl w)
+      (row_is atoms L rows w (rows_words atoms L rows w (get_or-in L r [] l))) (l, (same_laws atoms).refl w)
 
   pub mark_is : (r : ℕ) → r < length L → in_rows r ≡ get_or marks r false
   mark_is r l = ap (λ z. get_or marks z false) (own_row r l)

@@ -4,7 +4,7 @@ use Rattle.std.specs.List.{list_all}
 use Rattle.std.proofs.lemmas.Bool.{true≢false}
 use Rattle.patterns.specs.CharSet.{is_scalar}
 use Rattle.list_laws.specs.In.{IsIn}
-use Rattle.list_laws.proofs.Lists.{in_get, in_at}
+use Rattle.list_laws.proofs.Lists.{get_or-in, in-get_or}
 use Rattle.word_states.specs.Atom.{Atom}
 use Rattle.word_states.specs.Classes.{characters}
 use Rattle.word_states.specs.Rows.{AreRows, row_of}
@@ -25,7 +25,7 @@ ordered_at : {A : Type 0} (R : A → A → Type 0) (xs : List A) (d : A) (i j : 
     → R (get_or xs i d) (get_or xs j d)
 ordered_at R [] d i j o l m = absurd (omega (arith, m))
 ordered_at R (x ∷ xs) d zero zero o l m = absurd (omega (arith, l))
-ordered_at R (x ∷ xs) d zero (suc j) o l m = o.0 (get_or xs j d) (in_get xs j d (omega (arith, m)))
+ordered_at R (x ∷ xs) d zero (suc j) o l m = o.0 (get_or xs j d) (get_or-in xs j d (omega (arith, m)))
 ordered_at R (x ∷ xs) d (suc i) zero o l m = absurd (omega (arith, l))
 ordered_at R (x ∷ xs) d (suc i) (suc j) o l m = ordered_at R xs d i j o.1 (omega (arith, l)) (omega (arith, m))
 
@@ -72,13 +72,14 @@ module _ (atoms : List Atom) (L : List (List ℕ)) (rows : AreRows atoms L) (mar
     no_later_than : (u : List ℕ) → list_all is_scalar u ≡ true → marked u ≡ true → NoLater (get_or L i []) u
     no_later_than u s t =
         let h = word_row atoms L rows u s in
-        let (j, l, e) = in_at L h.first [] h.is_in in
+        let (j, l, e) = in-get_or L h.first [] h.is_in in
         let c : get_or marks j false ≡ true =
         sym (mark_is atoms L rows marks j l) ∙ ap marked (sym e)
         ∙ sym (shared atoms L rows marks u h.first h.is_same) ∙ t in
         no_later (get_or L i []) (get_or L j []) u (between j l c)
         (subst (λ z. NoLater z u) e h.no_later)
 
+    -- where a row is marked, the first word that leads to one is the word of the first row that is marked
     pub first_marked : 1 ≤ length (words_from atoms L marks 0)
         → take 1 (words_from atoms L marks 0) ≡ get_or L i [] ∷ []
     first_marked some = ap (take 1) words_pass ∙ go passing refl where
@@ -97,5 +98,5 @@ module _ (atoms : List Atom) (L : List (List ℕ)) (rows : AreRows atoms L) (mar
                 ⊎_elim (λ q. sym q) (λ x. absurd x)
                 (subst (λ z. IsIn (get_or L i []) z) one
                 (down (get_or L i []) u here
-                (rows_words atoms L rows (get_or L i []) (in_get L i [] within))
+                (rows_words atoms L rows (get_or L i []) (get_or-in L i [] within))
                 (mark_is atoms L rows marks i within ∙ mark) o))

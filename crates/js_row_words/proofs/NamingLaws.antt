@@ -1,7 +1,7 @@
 -- The rows that are named by some steps are a beginning of the rows, and a target is the next row exactly where the row
 -- that it leads to wasn't named.
 use Rattle.std.proofs.Common.{◌≡◌, ℕ, suc, ◌+◌, ◌<◌, ◌⊎◌, inl, inr, Bool, true, false, ◌||◌, not, cond, if◌then◌else◌, List, [], ◌∷◌, ◌++◌, flat_map, take, drop, length, get_or, refl, ap, sym, ◌∙◌, subst, append-nil, append_assoc, length-append, arith}
-use Rattle.std.proofs.Math.Seq.{take-suc, take-length, get_or-append_seam}
+use Rattle.std.proofs.Math.Seq.{take-suc, get_or-append_seam}
 use Rattle.std.specs.List.{list_any, position_or_len}
 use Rattle.std.proofs.lemmas.Bool.{cases_lt}
 use Rattle.std.proofs.lemmas.List.{length-map, take-append-drop, get_or_append_left, get_or-map}
@@ -37,7 +37,7 @@ module _ (atoms : List Atom) where
     go true h more = refl
     go false h more = ap (λ z. 1 + z) (more h)
 
-  -- a word that the list hasn't stands behind it
+  -- a word that the list hasn't comes behind it
   place_next : (x : List ℕ) (K Z : List (List ℕ)) → list_any (same x) K ≡ false
       → position_or_len (same x) (K ++ x ∷ Z) ≡ length K
   place_next x [] Z h =
@@ -98,23 +98,6 @@ module _ (atoms : List Atom) where
               ([] ∷ flat_map (longer atoms) (take i L) ++ take k (longer atoms (get_or L i []))) X
               ∙ p,
         )
-
-    pub named_row : (i : ℕ) → i < length L → named atoms L i (class_count atoms) ≡ named atoms L (suc i) 0
-    named_row i l =
-        let A = flat_map (longer atoms) (take i L) in
-        let B = longer atoms (get_or L i []) in
-        let whole : take (class_count atoms) B ≡ B = ap (λ n. take n B) (sym (long i)) ∙ take-length B in
-        ap (λ z. mention_all same [] ([] ∷ z))
-        (ap (λ z. A ++ z) (whole ∙ sym (append-nil B))
-        ∙ sym (flat_map-append (longer atoms) (take i L) (get_or L i [] ∷ []))
-        ∙ ap (flat_map (longer atoms)) (sym (take-suc L i [] l))
-        ∙ sym (append-nil (flat_map (longer atoms) (take (suc i) L))))
-
-    pub named_all : named atoms L (length L) 0 ≡ L
-    named_all =
-        ap (λ z. mention_all same [] ([] ∷ z))
-        (append-nil (flat_map (longer atoms) (take (length L) L)) ∙ ap (flat_map (longer atoms)) (take-length L))
-        ∙ sym rows
 
     abbrev pub target : ℕ → ℕ → ℕ
     target i k = get_or (targets_of atoms L (get_or L i [])) k 0

@@ -1,9 +1,9 @@
 -- Labels that are raised: widths, what is required of a label, a label more, a row more, a pass more.
 use Rattle.std.proofs.Common.{◌≡◌, ℕ, ◌+◌, ◌-◌, ◌*◌, ◌≤◌, ◌<◌, ◌⊎◌, inl, inr, min, List, [], ◌∷◌, ◌++◌, length, get_or, set, Bool, true, false, cond, refl, ap, ap₂, sym, ◌∙◌, subst, arith}
 use Rattle.std.specs.List.{sum}
-use Rattle.std.proofs.Math.Nat.{mul-le-mul, sub_self}
-use Rattle.std.proofs.lemmas.List.{get_or-set_same, get_or-set_other, get_or_append_left, get_or-append_right}
-use Rattle.std.proofs.lemmas.List.Sums.{sum_by-set, sum_by-le}
+use Rattle.std.proofs.Math.Nat.{sub_self}
+use Rattle.std.proofs.lemmas.List.{get_or_append_left, get_or-append_right}
+use Rattle.std.proofs.lemmas.List.Sums.{sum_by-le}
 use Rattle.std.proofs.lemmas.List.Elements.{All-from_get_or}
 use Rattle.std.proofs.lemmas.Bool.{cases_eq}
 use Rattle.patterns.specs.CharSet.{has, count_below}
@@ -29,15 +29,8 @@ width_next atoms widths k w set l is e n all j m = elim (cases_eq j k) [
       get_or_append_left widths (w ∷ []) 0 j (omega (arith, i, n)) ∙ all j i
 ]
 
--- a product of two numbers of 32 bits, and as little as a label more, is a number of 64 bits
-pub product_fits : (a w l : ℕ) → a ≤ 65537 → w < 4294967296 → l < 4294967296 → a + w * l < 18446744073709551616
-product_fits a w l p q r =
-    let h : w * l ≤ 4294967295 * 4294967295 =
-    mul-le-mul (let x : w ≤ 4294967295 = omega (arith, q) in x) (let y : l ≤ 4294967295 = omega (arith, r) in y) in
-    omega (arith, p, h)
-
 module _ (atoms : List Atom) (L : List (List ℕ)) (marks : List Bool) where
-  -- what the first n classes ask
+  -- what the first n classes require
   abbrev pub asked_by_first : List ℕ → ℕ → ℕ → ℕ
   asked_by_first labels row n =
       cond (in_marks atoms L marks row) 1 0
@@ -60,21 +53,6 @@ module _ (atoms : List Atom) (L : List (List ℕ)) (marks : List Bool) where
       (width_of atoms n * label_of labels (target_in atoms L row n)) e (ap₂ (λ a b. a * b) w l)) where
         cut : (m s a x y : ℕ) → a ≡ min 65537 (m + s) → x ≡ y → min (a + x) 65537 ≡ min 65537 (m + (y + s))
         cut m s a x y e f = grind (arith, e, f)
-
-  pub cut_set : (labels : List ℕ) (row label : ℕ) → row < length labels → label ≤ 65537 → AreCut labels
-      → AreCut (set labels row label)
-  cut_set labels row label l m cut r = elim (cases_eq r row) [
-    | inl q ↦ subst (λ z. get_or (set labels row label) z 0 ≤ 65537) (sym q)
-        (subst (λ z. z ≤ 65537) (sym (get_or-set_same labels row label 0 l)) m)
-    | inr d ↦ subst (λ z. z ≤ 65537) (sym (get_or-set_other labels row r label 0 d)) (cut r)
-  ]
-
-  pub sum_set : (labels : List ℕ) (row label : ℕ) → row < length labels → get_or labels row 0 < label
-      → sum labels < sum (set labels row label)
-  sum_set labels row label l m =
-      let s : sum (set labels row label) + get_or labels row 0 ≡ sum labels + label =
-      sum_by-set (λ x. x) labels row label 0 l in
-      omega (arith, s, m)
 
   -- the first n rows of the list were looked at
   pub record AreRaised (list first labels : List ℕ) (rose : Bool) (n : ℕ) : Type 0 where

@@ -1,6 +1,6 @@
 -- Rows as flags and as a list: a row more, and when no more are found.
 use Rattle.std.proofs.Common.{◌≡◌, ℕ, suc, ◌+◌, ◌-◌, ◌/◌, ◌%◌, ◌<◌, ◌≤◌, ◌⊎◌, inl, inr, List, [], ◌∷◌, ◌++◌, length, length-append, replicate, get_or, set, Bool, true, false, cond, refl, ap, sym, ◌∙◌, subst, arith}
-use Rattle.std.proofs.lemmas.List.{get_or-set_same, get_or-set_other, length-set, set-get_or, get_or_append_left, get_or-append_right, get_or-replicate, get_or_past, length-replicate}
+use Rattle.std.proofs.lemmas.List.{get_or-set_same, get_or-set_other, length-set, get_or_append_left, get_or-append_right, get_or-replicate, get_or_past, length-replicate}
 use Rattle.std.proofs.lemmas.List.Folds.{sum_by-replicate}
 use Rattle.std.proofs.lemmas.List.Sums.{sum_by-set, count_by-le-length}
 use Rattle.std.proofs.lemmas.Bool.{cases_eq, cases_lt}
@@ -42,12 +42,6 @@ goes_same list = (omega arith, λ i l. refl)
 pub goes_further : (a b c : List ℕ) → GoesOn a b → GoesOn b c → GoesOn a c
 goes_further a b c (l, h) (m, k) = (omega (arith, l, m), λ i j. k i (omega (arith, j, l)) ∙ h i j)
 
-pub goes_append : (list : List ℕ) (row : ℕ) → GoesOn list (list ++ row ∷ [])
-goes_append list row = (
-  (let e = length-append list (row ∷ []) in omega (arith, e)),
-  λ i l. get_or_append_left list (row ∷ []) 0 i l,
-)
-
 -- a row more
 pub listed_more : (seen : List Bool) (list : List ℕ) (row : ℕ) → AreListed seen list → row < length seen
     → get_or seen row false ≡ false → AreListed (set seen row true) (list ++ row ∷ [])
@@ -83,10 +77,6 @@ listed_more seen list row a l e = record {
       let (i, m, q) = a.listed r h in
       let s = length-append list (row ∷ []) in
       (i, omega (arith, s, m), get_or_append_left list (row ∷ []) 0 i m ∙ q)
-
--- a row that was there
-pub listed_same : (seen : List Bool) (row : ℕ) → get_or seen row false ≡ true → set seen row true ≡ seen
-listed_same seen row e = subst (λ b. set seen row b ≡ seen) e (set-get_or seen row false)
 
 -- there are no more than rows
 pub list_within : (seen : List Bool) (list : List ℕ) → AreListed seen list → length list ≤ length seen

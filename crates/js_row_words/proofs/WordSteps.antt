@@ -5,15 +5,10 @@ use Rattle.std.proofs.lemmas.List.{map-append, take_more}
 use Rattle.list_laws.specs.In.{IsIn}
 use Rattle.word_states.specs.Atom.{Atom}
 use Rattle.word_states.specs.Classes.{characters}
-use Rattle.word_states.specs.Rows.{AreRows}
 use Rattle.cell_laws.specs.FirstWords.{pick, word_at}
-use Rattle.cell_laws.proofs.Rows.{first_row}
 use Rattle.js_row_words.specs.declared.choose.Choice.{Choice}
 use Rattle.js_row_words.specs.Counts.{to_row, numbers_by, Chooses}
 use Rattle.js_row_words.proofs.RunLaws.{range_more}
-
-pub some_row : (atoms : List Atom) (L : List (List ℕ)) → AreRows atoms L → 0 < length L
-some_row atoms L rows = (first_row atoms L rows).0
 
 module _ (atoms : List Atom) (L : List (List ℕ)) (table : List (List ℕ)) where
   abbrev pub rest : ℕ → ℕ → ℕ → List ℕ
@@ -38,10 +33,6 @@ module _ (atoms : List Atom) (L : List (List ℕ)) (table : List (List ℕ)) whe
       ∙ ap (λ z. letters ++ z) (sym (h (λ c k. rest m (to_row atoms L row c) k)))
       ∙ ap (λ z. letters ++ rest z row k) (sym l)
       ∙ e
-
-  pub word_all : (letters w : List ℕ) (left row k : ℕ) → left ≡ 0 → letters ++ rest left row k ≡ w → letters ≡ w
-  word_all letters w left row k l e =
-      sym (append-nil letters) ∙ ap (λ z. letters ++ rest z row k) (sym l) ∙ e
 
 -- one more word
 pub map_range : {A : Type 0} (f : ℕ → A) (n : ℕ)

@@ -37,7 +37,7 @@ abbrev pub words_of_length : List Atom → List (List ℕ) → List Bool → ℕ
 words_of_length atoms rows marks m r =
     count_of characters (to_row atoms rows) (λ r. is_marked atoms rows marks (get_or rows r [])) m r
 
--- of each length
+-- a table has the numbers of words of each length
 abbrev pub AreLengths : List Atom → List (List ℕ) → List Bool → ℕ → List (List ℕ) → Type 0
 AreLengths atoms rows marks bound table = (m : ℕ) → m < length table
     → AreNumbers (length rows) bound (words_of_length atoms rows marks m) (get_or table m [])

@@ -32,7 +32,7 @@ in_marks atoms L marks r = is_marked atoms L marks (get_or L r [])
 abbrev pub label_of : List ℕ → ℕ → ℕ
 label_of labels r = get_or labels r 0
 
--- what a row's targets and its mark ask of its label
+-- what a row's targets and its mark require of its label
 abbrev pub asked_of : List Atom → List (List ℕ) → List Bool → List ℕ → ℕ → ℕ
 asked_of atoms L marks labels r =
     asked_by (class_count atoms) (width_of atoms) (target_in atoms L) (in_marks atoms L marks) (label_of labels) r

@@ -6,7 +6,7 @@ use Rattle.word_states.specs.Classes.{class_count}
 use Rattle.cell_laws.proofs.Rows.{target_in}
 use Rattle.js_row_words.specs.Labels.{in_marks, LeadsToMark}
 
--- the row stands in the list
+-- the row is in the list
 abbrev pub IsListed : List ℕ → ℕ → Type 0
 IsListed list r = (i : ℕ) × (i < length list) × (get_or list i 0 ≡ r)
 
@@ -16,7 +16,7 @@ pub record AreListed (seen : List Bool) (list : List ℕ) : Type 0 where
   pub listed : (r : ℕ) → get_or seen r false ≡ true → IsListed list r
   pub members : (i : ℕ) → i < length list → get_or seen (get_or list i 0) false ≡ true
 
--- the list stands at the beginning of the later one
+-- the list is at the beginning of the later one
 abbrev pub GoesOn : List ℕ → List ℕ → Type 0
 GoesOn old new =
     (length old ≤ length new) × ((i : ℕ) → i < length old → get_or new i 0 ≡ get_or old i 0)

@@ -11,7 +11,7 @@ pub record IsBlock (block : ℕ × ℕ) : Type 0 where
   pub small : block.0 + block.1 ≤ 0x110000
   pub scalars : (c : ℕ) → block.0 ≤ c → c < block.0 + block.1 → is_scalar c ≡ true
 
--- its characters
+-- the characters of a block
 unfoldable pub block_letters : ℕ × ℕ → List ℕ
 block_letters block = range_with_len block.0 block.1
 

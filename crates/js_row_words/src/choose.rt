@@ -18,7 +18,7 @@ pub(crate) struct Choice {
     pub number: u32,
 }
 
-/// The first letter of word `number` from a row, where `numbers` tells how many words go on from each row. It looks at
+/// The first letter of word `number` from a row, where `numbers` says how many words go on from each row. It looks at
 /// each run once.
 pub(crate) fn choose(
     automaton: &Automaton,

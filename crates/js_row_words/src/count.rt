@@ -1,6 +1,6 @@
 //! How many words lead from each row to rows that are marked.
 //!
-//! Labels of rows are raised from below, to what the labels of their targets ask, until a pass writes nothing. Only
+//! Labels of rows are raised from below, to what the labels of their targets require, until a pass writes nothing. Only
 //! rows from which a marked row is reached are looked at, and those from which words go on for ever among them have the
 //! most at once. So the count for one listed word costs the rows of its beginnings, and not all rows.
 
@@ -181,9 +181,10 @@ fn widths_of(alloc: Global, automaton: &Automaton) -> Result<Vec<u32>, Memory>
 fn first_labels(alloc: Global, endless: &[bool]) -> Result<Vec<u32>, Memory>
     ensures { IfOk result (λ labels. labels.items ≡ map (λ b. cond b 65537 0) endless.now) }
 {
-    let mut labels = Vec::with_capacity(alloc, endless.len())?;
-    for is_endless in endless {
-        labels.push(if *is_endless { MOST_WORDS } else { 0 })?;
-    }
-    Ok(labels)
+    Ok(
+        endless
+            .iter()
+            .map(|is_endless| if *is_endless { MOST_WORDS } else { 0 })
+            .collect(alloc)?,
+    )
 }

@@ -1,7 +1,7 @@
 //! The first words that lead to rows that are marked.
 //!
 //! One word, by far the commonest, is that of the first row that is marked, spelled backwards by the steps that first
-//! named rows. More are listed length by length: of each length the numbers of words from each row tell the letters of
+//! named rows. More are listed length by length: of each length the numbers of words from each row give the letters of
 //! each word, one after another. So the rows times the length of the longest word have a number each, beside the words.
 
 ghost use Rattle.std.specs.Prelude.{◌≡◌, ◌≤◌, ◌<◌, ℕ, [], length, take, get_or, true, false, IfOk};

@@ -84,8 +84,7 @@ impl Reached {
             seen,
             list: Vec::new(alloc),
         };
-        for later in 0..rows {
-            let row = rows - 1 - later;
+        for row in (0..rows).rev() {
             if marks[row as usize] {
                 reached.add(row)?;
             }

@@ -17,7 +17,7 @@ pub struct Step {
     pub class: u32,
 }
 
-/// For each row but row 0 the step that first names it; row 0 has no step, and something stands there.
+/// For each row but row 0 the step that first names it; row 0 has no step, and something is there.
 pub fn steps(alloc: Global, automaton: &Automaton) -> Result<Vec<Step>, Memory>
     ensures length { IfOk result (λ steps. length steps.items ≡ length (rows_of automaton.now)) }
     ensures steps { IfOk result (λ steps. AreSteps (atoms_of automaton.now) (rows_of automaton.now) steps.items

@@ -13,7 +13,7 @@ pub enum Rule {
     TooLong,
     /// The bytes end before the line `end`.
     NoEnd,
-    /// The line can't stand here, or stands behind `end`.
+    /// The line isn't allowed here, or comes behind `end`.
     OutOfPlace,
     /// A position isn't in the table, or a goal isn't the one that is formed from its list.
     NoGoal,

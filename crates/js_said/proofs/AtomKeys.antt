@@ -16,6 +16,7 @@ any_views : (a : Atom) (ks : List Atom)
 any_views a [] = refl
 any_views a (k ∷ ks) = ap (λ y. same_atom (atom_view a) (atom_view k) || y) (any_views a ks)
 
+-- to insert a key among atoms is to mention its atom
 pub keys_views : (a : Atom) (ks : List Atom)
     → map atom_view (insert_key same_key ks a) ≡ mention same_atom (map atom_view ks) (atom_view a)
 keys_views a ks =

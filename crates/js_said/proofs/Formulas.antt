@@ -37,7 +37,7 @@ use Rattle.js_said.specs.declared.said.Said.TheVariants as S
 use Rattle.js_said.specs.AtomNumbers.{atom_at, is_true_at, are_below, AreNumbers, Takes}
 use Rattle.js_said.specs.Saying.{tells, IsPlanned, IsSaid}
 use Rattle.js_said.proofs.Taking.{taken_all, numbers_more, below_more, at_more}
-use Rattle.position_laws.proofs.Lists.{some-map, some-append}
+use Rattle.list_laws.proofs.Elements.{some-map, some-append}
 use Rattle.list_laws.proofs.Tests.{some-alike, same_word_comm}
 use Rattle.std.proofs.Math.Bool.{or-false}
 

@@ -1,9 +1,9 @@
--- The vectors of rows: each is that of a row, what it tells of a literal stands at the literal's number, and the rows
--- of a cell are those with its vector.
+-- The vectors of rows: each is that of a row, what it says of a literal is at the literal's number, and the rows of a
+-- cell are those with its vector.
 use Rattle.std.proofs.Common.{◌≡◌, ℕ, zero, suc, ◌<◌, ◌≤◌, inl, inr, Bool, true, false, cond, nat_eq, List, [], ◌∷◌, map, length, get_or, refl, ap, sym, ◌∙◌, subst, arith}
 use Rattle.std.proofs.lemmas.List.{get_or-map, length-map}
 use Rattle.list_laws.specs.In.{IsIn}
-use Rattle.list_laws.proofs.Lists.{in_get, from_map}
+use Rattle.list_laws.proofs.Lists.{get_or-in, from_map}
 use Rattle.word_laws.proofs.Mentions as M
 use Rattle.positions.specs.Position.{Position}
 use Rattle.goals.specs.Signed as G
@@ -35,7 +35,7 @@ told_in T (y ∷ xs) w x i = go (same_signed x y) refl i (told_in T xs w x) wher
 pub told_at : (T : List Position) (xs : List Signed) (w : List ℕ) (i : ℕ) → i < length xs
     → told xs (vector T xs w) (get_or xs i (G.Plus 0)) ≡ get_or (vector T xs w) i false
 told_at T xs w i l =
-    told_in T xs w (get_or xs i (G.Plus 0)) (in_get xs i (G.Plus 0) l)
+    told_in T xs w (get_or xs i (G.Plus 0)) (get_or-in xs i (G.Plus 0) l)
     ∙ sym (get_or-map (λ x. says T x w) xs i (G.Plus 0) false l)
 
 -- each vector is that of a row

@@ -8,7 +8,7 @@ use Rattle.std.proofs.lemmas.Grind.{flat_map-append}
 use Rattle.std.proofs.lemmas.Option.{get_or_from_slice_get, slice_get_within}
 use Rattle.indexmap.specs.IndexSet.{insert_key}
 use Rattle.documents.specs.Tests.{every}
-use Rattle.list_laws.proofs.Every.{every-append}
+use Rattle.list_laws.proofs.Every.{every_joined}
 use Rattle.word_states.specs.Atom as W
 use Rattle.word_states.specs.Mention.{mention, mention_all}
 use Rattle.word_states.specs.SameAtom.{same_atom}
@@ -55,7 +55,7 @@ numbers_more A X ks xs n = record {
 numbers_push : (B : List W.Atom) (ks : List ℕ) (ys : List W.Atom) (i : ℕ) (a : W.Atom) → AreNumbers B ks ys
     → i < length B → atom_at B i ≡ a → AreNumbers B (ks ++ i ∷ []) (ys ++ a ∷ [])
 numbers_push B ks ys i a n l e = record {
-  below = every-append (λ k. nat_lt k (length B)) ks (i ∷ []) n.below
+  below = every_joined (λ k. nat_lt k (length B)) ks (i ∷ []) n.below
       (and_from (nat_lt i (length B)) true (lt-ltb i (length B) l) refl);
   atoms = map-append (atom_at B) ks (i ∷ []) ∙ ap₂ (λ zs z. zs ++ z ∷ []) n.atoms e;
 }

@@ -5,9 +5,9 @@ use js_tableau::NamePlan;
 /// What a literal says of a name.
 #[derive(Drop)]
 pub enum Said {
-    /// One of these atoms is true.
+    /// One of the atoms with these numbers is true.
     AnyOf(Vec<usize>),
-    /// None of these atoms is true.
+    /// None of the atoms with these numbers is true.
     NoneOf(Vec<usize>),
     /// The root of a plan holds, by the truths of the atoms of its leaves.
     Planned(NamePlan, Vec<usize>),

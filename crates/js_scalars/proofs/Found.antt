@@ -25,6 +25,7 @@ use Rattle.js_expansion.specs.declared.expansion.Leaf.{Leaf}
 use Rattle.js_scalars.specs.declared.fault.NumberFault.{NumberFault}
 use Rattle.js_scalars.specs.Answers.{Answers, IsFoundAt, IsNoneAt}
 
+-- what is found for a set at numbers meets it, and where nothing is found no number meets it
 pub found_numbers : (T : List Position) (ranks : List ℕ) → is_table T ranks ≡ true → IsTable T
     → (words : List Signed → ℕ → ℕ → List ℕ) → IsFinder T K.Number words Number (numbers_of T)
 found_numbers T ranks e ok words =
@@ -65,7 +66,7 @@ module _ (T : List Position) (ranks : List ℕ) (e : is_table T ranks ≡ true) 
       let ok = table x (and_parts (is_in_table T x) (are_in_table T S) i).0 in
       let (good, deep, m) = (found_numbers T ranks e ok no_words).found (x ∷ S) full n h in m
 
-  -- a whole number meets the group that asks nothing
+  -- a whole number meets the group that requires nothing
   none_at_all : numbers_of T [] ≡ Ok None → ⊥
   none_at_all h =
       go (outcome most_candidates any_number)

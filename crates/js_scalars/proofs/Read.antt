@@ -12,6 +12,7 @@ asked-ask_at : (T : List Position) (b : Bool) (p : ℕ) → asked b (position_at
 asked-ask_at T true p = refl
 asked-ask_at T false p = refl
 
+-- a set's group is the same, whether its first literal is joined before or with the others
 pub read_one : (T : List Position) (old new : Group) (b : Bool) (p : ℕ) (P : Position) (S : List Signed)
     → P ≡ position_at T p → new ≡ both old (group_of (asked b P))
     → both new (number_group T S) ≡ both old (number_group T (with_sign b p ∷ S))

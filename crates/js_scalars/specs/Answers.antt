@@ -24,6 +24,6 @@ abbrev pub IsFoundAt : List Position → List Signed → ℕ → List Alternativ
 IsFoundAt T S k more =
     IsSaturated T K.Number S → (n : ℤ) → more ≡ scalar K.Number k (Number n) ∷ [] → meets T S (number n) ≡ true
 
--- and without an alternative no number does
+-- where there is no alternative, no number meets the set
 abbrev pub IsNoneAt : List Position → List Signed → List Alternative → Type 0
 IsNoneAt T S more = IsSaturated T K.Number S → more ≡ [] → (n : ℤ) → meets T S (number n) ≡ false

@@ -16,7 +16,7 @@ group_so_far a = record {
   not_sets = lists_of a.not_sets.items;
 }
 
--- what a position with that sign asks
+-- what a position with that sign requires
 abbrev pub asked : Bool → Position → Ask
 asked true P = plus_ask P
 asked false P = minus_ask P

@@ -1,4 +1,4 @@
-//! What a set of signed positions asks of whole numbers.
+//! What a set of signed positions requires of whole numbers.
 
 ghost use Rattle.std.specs.Prelude.{◌≡◌, true, OnOk};
 ghost use Rattle.positions.specs.Position.{in_range};
@@ -38,7 +38,7 @@ impl<'a> Asked<'a> {
         }
     }
 
-    /// Adds what the position with that sign asks.
+    /// Adds what the position with that sign requires.
     pub fn add(&mut self, node: &'a Node, plus: bool) -> Result<(), Memory>
         requires { in_range (node_view node.now) ≡ true }
         ensures { OnOk result (group_so_far self.new

@@ -56,7 +56,7 @@ fn decided(alloc: Global, core: &Core, branch: &Branch) -> Result<Leaf, NumberFa
     }
 }
 
-/// What the set asks of whole numbers.
+/// What the set requires of whole numbers.
 fn read_set<'a>(alloc: Global, core: &'a Core, set: &[Signed]) -> Result<Asked<'a>, Memory>
     requires { are_in_table core.now.positions (map signed_view set.now) ≡ true }
     ensures { IfOk result (λ a. group_so_far a ≡ number_group core.now.positions (map signed_view set.now)) }

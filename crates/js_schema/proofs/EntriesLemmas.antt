@@ -9,6 +9,7 @@ use Rattle.js_schema.specs.declared.entry.Entry.{Entry}
 use Rattle.js_schema.specs.View.{are_placed, entry_view, form_view}
 
 module _ (ps : List Pointer) where
+  -- the form of an entry in the program is that of the entry for which it stands
   pub form_at : (es : List Entry) (i : ℕ) (e : Entry) → e ≡ get_or es i e
       → form_view e.form ≡ get_or (map (λ x. x.form) (map (entry_view ps) es)) i (form_view e.form)
   form_at es i e h =

@@ -1,9 +1,2 @@
 pub mod TreeTestsLemmas
 pub mod EntriesLemmas
-pub mod Soundness
-pub mod ValuesLemmas
-pub mod FieldsLemmas
-pub mod KeywordPlaceLemmas
-pub mod FaultlessLemmas
-pub mod FormsLemmas
-pub mod ReadLemmas

@@ -11,6 +11,7 @@ read_as : (r : Result Tree PatternFault) (t : Tree) → is_read_as r t ≡ true 
 read_as (Ok u) t h = ap Ok (same_tree-eq u t h)
 read_as (Err f) t h = absurd (true≢false (sym h))
 
+-- a tree that passes the test is the tree of the text
 pub HasTree-from_test : (w : List ℕ) (t : Tree) → is_tree_of w t ≡ true → HasTree w t
 HasTree-from_test w t h = read_as (pattern w) t h
 

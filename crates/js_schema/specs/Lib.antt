@@ -1,14 +1,8 @@
--- What a reader must believe: the entries that the program's values stand for, and what reading answers.
+-- What a reader must believe: the entries that the program's values stand for.
 pub mod View
 pub mod SchemaView
 pub mod Patterns
-pub mod Answering
--- Internal: trees as a test, groups without keywords, objects in which nothing is wrong, and schemas by their numbers.
-pub mod TreeTests
+-- Groups without keywords.
 pub mod NoKeywords
-pub mod NumbersView
-pub mod ObjectView
-pub mod KeywordPlaceView
-pub mod LeadsProp
-pub mod Faultless
-pub mod Links
+-- Internal: trees as a test.
+pub mod TreeTests

@@ -1,6 +1,6 @@
 //! The keywords of an object, each where it is there.
 //!
-//! They stand in groups, by the kind of document that they speak of. A group of which an object has no keyword is one
+//! They are in groups, by the kind of document that they speak of. A group of which an object has no keyword is one
 //! that all such objects share, so an object takes memory for the groups of which it has some.
 
 use crate::lists::{DependencyList, EntryList, PatternPropertyList, PropertyList, TypeList};
@@ -9,7 +9,7 @@ use crate::pattern::PatternText;
 use js_doc::{Doc, DocList, StrList};
 use std::rc::Rc;
 
-/// What an object asks for. A field of a group is None exactly where the object hasn't that keyword, and
+/// What an object requires. A field of a group is None exactly where the object hasn't that keyword, and
 /// `additional_items` also where `items` is no list. Schemas are numbers of entries.
 #[derive(Drop)]
 pub struct Keywords {
@@ -83,7 +83,8 @@ impl AnyKeywords {
     ghost use Rattle.std.specs.Prelude.{◌≡◌, ◌↔◌, IsTrue};
     ghost use Rattle.js_schema.specs.NoKeywords.{no_any};
 
-    pub(crate) fn none() -> AnyKeywords
+    /// The group of an object without such a keyword.
+    pub fn none() -> AnyKeywords
         ensures { result ≡ no_any }
     {
         AnyKeywords {
@@ -93,7 +94,8 @@ impl AnyKeywords {
         }
     }
 
-    pub(crate) fn is_empty(&self) -> bool
+    /// Whether the object has no such keyword.
+    pub fn is_empty(&self) -> bool
         ensures { IsTrue result ↔ (self.now ≡ no_any) }
     {
         self.types.is_none() && self.enumeration.is_none() && self.constant.is_none()
@@ -104,7 +106,8 @@ impl NumberKeywords {
     ghost use Rattle.std.specs.Prelude.{◌≡◌, ◌↔◌, IsTrue};
     ghost use Rattle.js_schema.specs.NoKeywords.{no_numbers};
 
-    pub(crate) fn none() -> NumberKeywords
+    /// The group of an object without such a keyword.
+    pub fn none() -> NumberKeywords
         ensures { result ≡ no_numbers }
     {
         NumberKeywords {
@@ -116,7 +119,8 @@ impl NumberKeywords {
         }
     }
 
-    pub(crate) fn is_empty(&self) -> bool
+    /// Whether the object has no such keyword.
+    pub fn is_empty(&self) -> bool
         ensures { IsTrue result ↔ (self.now ≡ no_numbers) }
     {
         self.multiple_of.is_none()
@@ -131,7 +135,8 @@ impl StringKeywords {
     ghost use Rattle.std.specs.Prelude.{◌≡◌, ◌↔◌, IsTrue};
     ghost use Rattle.js_schema.specs.NoKeywords.{no_strings};
 
-    pub(crate) fn none() -> StringKeywords
+    /// The group of an object without such a keyword.
+    pub fn none() -> StringKeywords
         ensures { result ≡ no_strings }
     {
         StringKeywords {
@@ -141,7 +146,8 @@ impl StringKeywords {
         }
     }
 
-    pub(crate) fn is_empty(&self) -> bool
+    /// Whether the object has no such keyword.
+    pub fn is_empty(&self) -> bool
         ensures { IsTrue result ↔ (self.now ≡ no_strings) }
     {
         self.min_length.is_none() && self.max_length.is_none() && self.pattern.is_none()
@@ -152,7 +158,8 @@ impl ArrayKeywords {
     ghost use Rattle.std.specs.Prelude.{◌≡◌, ◌↔◌, IsTrue};
     ghost use Rattle.js_schema.specs.NoKeywords.{no_arrays};
 
-    pub(crate) fn none() -> ArrayKeywords
+    /// The group of an object without such a keyword.
+    pub fn none() -> ArrayKeywords
         ensures { result ≡ no_arrays }
     {
         ArrayKeywords {
@@ -164,7 +171,8 @@ impl ArrayKeywords {
         }
     }
 
-    pub(crate) fn is_empty(&self) -> bool
+    /// Whether the object has no such keyword.
+    pub fn is_empty(&self) -> bool
         ensures { IsTrue result ↔ (self.now ≡ no_arrays) }
     {
         self.items.is_none()
@@ -179,7 +187,8 @@ impl ObjectKeywords {
     ghost use Rattle.std.specs.Prelude.{◌≡◌, ◌↔◌, IsTrue};
     ghost use Rattle.js_schema.specs.NoKeywords.{no_objects};
 
-    pub(crate) fn none() -> ObjectKeywords
+    /// The group of an object without such a keyword.
+    pub fn none() -> ObjectKeywords
         ensures { result ≡ no_objects }
     {
         ObjectKeywords {
@@ -194,7 +203,8 @@ impl ObjectKeywords {
         }
     }
 
-    pub(crate) fn is_empty(&self) -> bool
+    /// Whether the object has no such keyword.
+    pub fn is_empty(&self) -> bool
         ensures { IsTrue result ↔ (self.now ≡ no_objects) }
     {
         self.required.is_none()
@@ -212,7 +222,8 @@ impl InPlaceKeywords {
     ghost use Rattle.std.specs.Prelude.{◌≡◌, ◌↔◌, IsTrue};
     ghost use Rattle.js_schema.specs.NoKeywords.{no_in_place};
 
-    pub(crate) fn none() -> InPlaceKeywords
+    /// The group of an object without such a keyword.
+    pub fn none() -> InPlaceKeywords
         ensures { result ≡ no_in_place }
     {
         InPlaceKeywords {
@@ -223,7 +234,8 @@ impl InPlaceKeywords {
         }
     }
 
-    pub(crate) fn is_empty(&self) -> bool
+    /// Whether the object has no such keyword.
+    pub fn is_empty(&self) -> bool
         ensures { IsTrue result ↔ (self.now ≡ no_in_place) }
     {
         self.all_of.is_none()

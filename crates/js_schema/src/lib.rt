@@ -1,34 +1,24 @@
 //! Schemas of draft-06 as tables of entries: one entry for each place of a schema that its walk comes to.
 //!
 //! An entry names others by their numbers, so that references may lead in circles. `specs/View.antt` says which entry
-//! of the definitions a value of the program stands for. The validator, the guard against circles and the normal form
-//! stand on this crate.
+//! of the definitions a value of the program stands for. The reader of schemas, `js_reader`, makes these tables; the
+//! validator, the guard against circles and the normal form stand on this crate.
 #![tactic(auto)]
 
 mod constraints;
 mod entry;
-mod fields;
-mod forms;
-mod keyword_place;
-mod keywords;
-mod links;
 mod lists;
-mod numbers;
-mod object;
 mod part;
 mod pattern;
-mod read;
 mod table;
-mod values;
 
 pub use constraints::{
     AnyKeywords, ArrayKeywords, InPlaceKeywords, Keywords, NumberKeywords, ObjectKeywords,
     StringKeywords,
 };
-pub use entry::Form;
-pub use js_keywords::{Keyword, SchemaFault, TypeName};
+pub use entry::{Entry, Form};
+pub use js_keywords::TypeName;
 pub use lists::{DependencyList, EntryList, PatternPropertyList, PropertyList, TypeList};
 pub use part::{Dependency, ItemsPart, Needs, PatternProperty, Property};
 pub use pattern::PatternText;
-pub use read::read_schema;
 pub use table::Schema;

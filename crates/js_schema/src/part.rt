@@ -25,7 +25,7 @@ pub struct PatternProperty {
     pub entry: u32,
 }
 
-/// What the presence of a name asks for: that other names are there, or a schema of the whole object.
+/// What the presence of a name requires: that other names are there, or a schema of the whole object.
 #[derive(Drop)]
 pub enum Needs {
     Names(StrList),

@@ -28,7 +28,7 @@ impl PatternText {
         PatternText { source, re }
     }
 
-    /// The text as it stands in the schema, a regular expression without slashes around it.
+    /// The text as it is in the schema, a regular expression without slashes around it.
     pub fn source(&self) -> &Str
         ensures { result.now ≡ source_of self.now }
     {

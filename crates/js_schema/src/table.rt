@@ -29,7 +29,8 @@ impl Schema {
     ghost use Rattle.js_schema.specs.View.{are_placed, entry_view, form_view};
     ghost use Rattle.js_schema.specs.SchemaView.{schema_view};
 
-    pub(crate) fn new(pointers: Pointers, entries: Vec<Entry>) -> Schema
+    /// Takes both over, without a copy.
+    pub fn new(pointers: Pointers, entries: Vec<Entry>) -> Schema
         requires placed { are_placed (pointers_of pointers) entries.items ≡ true }
         requires table { is_table (map (entry_view (pointers_of pointers)) entries.items) ≡ true }
         ensures { schema_view result ≡ map (entry_view (pointers_of pointers)) entries.items }

@@ -1,22 +1,21 @@
 -- What is found by the automaton of a set is the word of the set.
-use Rattle.std.proofs.Common.{◌≡◌, ℕ, suc, ◌<◌, ◌≤◌, Bool, true, false, cond, List, [], length, get_or, Option, Some, None, Result, Ok, Err, IfErr, refl, ap, ap₂, sym, ◌∙◌, subst}
+use Rattle.std.proofs.Common.{◌≡◌, ℕ, ◌<◌, ◌≤◌, Bool, true, false, cond, List, [], length, get_or, Option, Some, None, Result, Ok, Err, IfErr, ap, ap₂, sym, ◌∙◌, subst}
 use Rattle.std.specs.Result.{IsErrAnd}
 use Rattle.word_states.specs.Atom.{Atom}
-use Rattle.word_states.specs.AtomPositions.{positions_of}
-use Rattle.word_states.specs.Classes.{class_count, characters}
-use Rattle.word_states.specs.Rows.{AreRows, HaveStates}
+use Rattle.word_states.specs.Classes.{characters}
+use Rattle.word_states.specs.Rows.{AreRows}
 use Rattle.positions.specs.Position.{Position}
 use Rattle.goals.specs.Signed.{Signed}
 use Rattle.frames.specs.Frame.{is_at_end}
-use Rattle.alternatives.specs.Limit.{LimitKind, Positions, Classes, States, most_positions, most_classes, most_states}
+use Rattle.alternatives.specs.Limit.{LimitKind, Positions, Classes, States, most_states}
 use Rattle.finders.specs.Limits.{limit_passed, unless_passed}
 use Rattle.finders.specs.WordsFound.{first_of}
 use Rattle.finders.specs.Strings.{lower, below, string_atoms, is_wanted, if_below, strings_of}
-use Rattle.finder_laws.proofs.RowsFound.{passes_positions, passes_classes, passes_states, passes_none}
 use Rattle.finder_laws.proofs.Strings.{wanted_words}
 use Rattle.finder_laws.proofs.FirstRow.{none_first, row_first}
 use Rattle.js_automaton.specs.declared.fault.AutoFault.{AutoFault}
 use Rattle.js_automaton.specs.declared.fault.AutoFault.TheVariants as F
+use Rattle.js_kept_automaton.specs.Outcomes.{passed, Passes}
 use Rattle.js_strings.specs.Answers.{FaultSays}
 
 module _ (T : List Position) (S : List Signed) where
@@ -36,52 +35,37 @@ module _ (T : List Position) (S : List Signed) where
         ∙ ap (λ l. unless_passed l (if_below (below T S) (first_of (wanted_words T S)))) e
 
     -- the faults of the automaton
-    pub fault_says : (atoms : List Atom) → atoms ≡ string_atoms T S → (fault : AutoFault)
-        → (fault ≡ F.LimitPositions → most_positions < positions_of atoms)
-        → (fault ≡ F.LimitClasses → (positions_of atoms ≤ most_positions) × (most_classes < class_count atoms))
-        → (fault ≡ F.LimitStates → (positions_of atoms ≤ most_positions) × (class_count atoms ≤ most_classes)
-        × HaveStates atoms (suc most_states))
+    pub fault_says : (atoms : List Atom) → atoms ≡ string_atoms T S → (fault : AutoFault) → Passes atoms fault
         → FaultSays (strings_of T S) fault
-    fault_says atoms is F.LimitPositions p c s =
-        answer_is (Some Positions) (passes_positions (string_atoms T S) most_states
-        (subst (λ z. most_positions < positions_of z) is (p refl)))
-    fault_says atoms is F.LimitClasses p c s =
-        answer_is (Some Classes) (passes_classes (string_atoms T S) most_states
-        (subst (λ z. positions_of z ≤ most_positions) is (c refl).0)
-        (subst (λ z. most_classes < class_count z) is (c refl).1))
-    fault_says atoms is F.LimitStates p c s =
-        answer_is (Some States) (passes_states (string_atoms T S) most_states
-        (subst (λ z. positions_of z ≤ most_positions) is (s refl).0)
-        (subst (λ z. class_count z ≤ most_classes) is (s refl).1)
-        (subst (λ z. HaveStates z (suc most_states)) is (s refl).2))
-    fault_says atoms is F.Memory p c s = tt
+    fault_says atoms is F.LimitPositions p =
+        answer_is (Some Positions) (subst (λ z. passed z ≡ Some Positions) is p)
+    fault_says atoms is F.LimitClasses p = answer_is (Some Classes) (subst (λ z. passed z ≡ Some Classes) is p)
+    fault_says atoms is F.LimitStates p = answer_is (Some States) (subst (λ z. passed z ≡ Some States) is p)
+    fault_says atoms is F.Memory p = tt
 
     module _ (atoms : List Atom) (is : atoms ≡ string_atoms T S) (L : List (List ℕ)) (rows : AreRows atoms L)
-        (few : length L ≤ most_states) (positions : positions_of atoms ≤ most_positions)
-        (classes : class_count atoms ≤ most_classes) (asks : List ℕ → Bool)
+        (few : length L ≤ most_states) (none : passed atoms ≡ None) (asks : List ℕ → Bool)
         (asked : (w : List ℕ) → asks w ≡ is_wanted T S w) where
       own_rows : AreRows (string_atoms T S) L
       own_rows = subst (λ z. AreRows z L) is rows
 
-      not_passed : limit_passed characters most_states (string_atoms T S) ≡ None
-      not_passed =
-          passes_none (string_atoms T S) most_states (subst (λ z. positions_of z ≤ most_positions) is positions)
-          (subst (λ z. class_count z ≤ most_classes) is classes) L own_rows few
+      not_passed : passed (string_atoms T S) ≡ None
+      not_passed = subst (λ z. passed z ≡ None) is none
 
       pub none_answer : ((j : ℕ) → j < length L → asks (get_or L j []) ≡ false) → strings_of T S ≡ Ok None
-      none_answer none =
+      none_answer each =
           answer_is None not_passed
           ∙ ap (λ o. Ok (if_below (below T S) o))
-          (none_first T S L own_rows few (λ j l. sym (asked (get_or L j [])) ∙ none j l))
+          (none_first T S L own_rows few (λ j l. sym (asked (get_or L j [])) ∙ each j l))
 
       pub row_answer : (row : ℕ) → row < length L → asks (get_or L row []) ≡ true
           → ((j : ℕ) → j < row → asks (get_or L j []) ≡ false)
           → strings_of T S ≡ Ok (if_below (below T S) (Some (get_or L row [])))
-      row_answer row l t none =
+      row_answer row l t before =
           answer_is None not_passed
           ∙ ap (λ o. Ok (if_below (below T S) o))
           (row_first T S L own_rows few row l (sym (asked (get_or L row [])) ∙ t)
-          (λ j m. sym (asked (get_or L j [])) ∙ none j m))
+          (λ j m. sym (asked (get_or L j [])) ∙ before j m))
 
 pub end_of : (T : List Position) (S : List Signed) (least : ℕ) (end : Option ℕ) (r b : Bool) → least ≡ lower T S
     → end ≡ below T S → r ≡ is_at_end least end → r ≡ b

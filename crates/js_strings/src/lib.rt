@@ -1,8 +1,8 @@
 //! Strings: the word of a branch, found by the automaton of its patterns and lists.
 //!
-//! The literals of a set ask for truths of atoms, and for a least and a greatest length. The rows of the automaton of
-//! these atoms stand in the order of their words, so the word is that of the first row with the required truths. It is
-//! spelled backwards by the steps that first named each row.
+//! The literals of a set require truths of atoms, and a least and a greatest length. The rows of the automaton of these
+//! atoms are in the order of their words, so the word is that of the first row with the required truths. It is spelled
+//! backwards by the steps that first named each row.
 #![tactic(auto)]
 
 mod rows;

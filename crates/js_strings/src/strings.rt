@@ -18,16 +18,22 @@ ghost use Rattle.js_strings.specs.Answers.{FaultSays};
 use crate::rows::first_row;
 use js_algebra::{BranchId, Core, JsonKind, Signed};
 use js_asked::Asked;
-use js_automaton::{AutoFault, Automaton, build};
+use js_automaton::{AutoFault, Automaton};
 use js_bounds::{Bounds, is_at_end};
 use js_doc::{Memory, Str, StrList};
 use js_expansion::{Alternative, AlternativeList, FillerList, Leaf, PlacedList, Shape};
+use js_kept_automaton::KeptAutomaton;
 use js_row_words::{letters_of, spell, steps};
 use js_tableau::Branch;
 use std::alloc::Global;
 
 /// The letters of the word that is found for a set, from the last to the first.
-fn find(alloc: Global, core: &Core, set: &[Signed]) -> Result<Option<Vec<char>>, AutoFault>
+fn find(
+    alloc: Global,
+    core: &Core,
+    set: &[Signed],
+    kept: &mut KeptAutomaton,
+) -> Result<Option<Vec<char>>, AutoFault>
     requires { are_in_table core.now.positions (map signed_view set.now) ≡ true }
     ensures found { IfOk result (λ letters. strings_of core.now.positions (map signed_view set.now)
         ≡ Ok (option_map (λ v. reverse v.items) letters)) }
@@ -38,9 +44,9 @@ fn find(alloc: Global, core: &Core, set: &[Signed]) -> Result<Option<Vec<char>>,
         return Ok(None);
     }
     let asked = Asked::of(alloc, core, set, bounds.lower)?;
-    let automaton = build(alloc, asked.atoms())?;
-    match first_row(&asked, &automaton) {
-        Some(row) => Ok(if_below(reached(alloc, &automaton, row)?, bounds.below)),
+    let automaton = kept.of(alloc, asked.atoms())?;
+    match first_row(&asked, automaton) {
+        Some(row) => Ok(if_below(reached(alloc, automaton, row)?, bounds.below)),
         None => Ok(None),
     }
 }
@@ -67,7 +73,15 @@ fn if_below(letters: Vec<char>, end: Option<u128>) -> Option<Vec<char>>
 
 /// The alternatives of a branch: one, where a string meets its set. Its word is the first in the order of words that
 /// the literals want and that is long enough, where it isn't too long.
-pub fn string_alternatives(alloc: Global, core: &Core, branch: &Branch) -> Result<Leaf, AutoFault>
+///
+/// The automaton of the literals' atoms is kept, or its limit: it serves a later branch with the same atoms, and
+/// changes no answer.
+pub fn string_alternatives(
+    alloc: Global,
+    core: &Core,
+    branch: &Branch,
+    kept: &mut KeptAutomaton,
+) -> Result<Leaf, AutoFault>
     requires kind { branch.now.id.kind ≡ JsonKind.Text }
     requires in_table { are_in_table core.now.positions branch.now.set ≡ true }
     ensures leaf { IfOk result (λ leaf. scalar_leaf K.Text (λ w. A.Text) branch.now.id.number
@@ -82,7 +96,7 @@ pub fn string_alternatives(alloc: Global, core: &Core, branch: &Branch) -> Resul
         × (meets core.now.positions branch.now.set (string w) ≡ true)) }
 {
     let _length = core.len();
-    let found = find(alloc, core, branch.set.as_slice())?.is_some();
+    let found = find(alloc, core, branch.set.as_slice(), kept)?.is_some();
     Ok(leaf_of(alloc, branch.id, found)?)
 }
 
@@ -159,7 +173,7 @@ fn first_word(alloc: Global, core: &Core, set: &[Signed]) -> Result<Str, Memory>
     requires found { (w : List ℕ) × (strings_of core.now.positions (map signed_view set.now) ≡ Ok (Some w)) }
     ensures { IfOk result (λ word. strings_of core.now.positions (map signed_view set.now) ≡ Ok (Some word)) }
 {
-    match find(alloc, core, set) {
+    match find(alloc, core, set, &mut KeptAutomaton::new()) {
         Ok(Some(letters)) => spell(alloc, letters),
         Ok(None) | Err(_) => Err(Memory),
     }

@@ -7,7 +7,7 @@ use Rattle.documents.specs.Kind.{Kind}
 use Rattle.documents.specs.Document.{Document, kind_of}
 use Rattle.positions.specs.Position.{Position, is_table}
 use Rattle.positions.specs.Holds.{IsTable}
-use Rattle.position_laws.proofs.Lists.{all-weaker, all-flat_map}
+use Rattle.list_laws.proofs.Elements.{all-weaker, all-flat_map}
 use Rattle.position_laws.proofs.Tables.{is_table-IsTable}
 use Rattle.goals.specs.Signed.{Signed, add_all, is_rising, meets}
 use Rattle.goals.specs.Goal.{contains}

@@ -1,4 +1,4 @@
--- A chain of positions, each of which asks the one before it twice, is a table.
+-- A chain of positions, each of which names the one before it twice, is a table.
 use Rattle.std.proofs.Common.{◌≡◌, ℕ, [], ◌∷◌, true, ◌&&◌, refl, ap}
 use Rattle.std.proofs.lemmas.Bool.{lt-ltb}
 use Rattle.positions.specs.Position.{Position, All, is_table}
@@ -15,5 +15,6 @@ twice-IsLink n = record {
   falls = λ ranks p l. ap (λ b. b && (b && true)) (lt-ltb _ _ l);
 }
 
+-- a chain of such positions is a table, whose ranks are the numbers from 0 on
 pub twice-is_table : (n : ℕ) → is_table (chain twice n) (numbers n) ≡ true
 twice-is_table n = chain-is_table twice twice-IsLink n

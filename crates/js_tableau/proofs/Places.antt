@@ -24,7 +24,7 @@ none-left w v n e f z =
 
 -- at an index
 
--- what a function makes of the element at a place stands at that place of the mapped list
+-- what a function makes of the element at a place is at that place of the mapped list
 pub at-map : {A : Type 0} (f : A → ℕ) (xs : List A) (i : ℕ) (d : A) → i < length xs
     → f (get_or xs i d) ≡ get_or (map f xs) i 0
 at-map f [] i d l = absurd (omega (arith, l))

@@ -1,8 +1,10 @@
 -- The leaves of what was found, and the others by rank, are a plan.
-use Rattle.std.proofs.Common.{◌≡◌, ℕ, suc, ◌≤◌, ◌<◌, List, [], ◌∷◌, filter, length, get_or, true, not, nat_eq, nat_le, eqb-true, refl, ap, sym, ◌∙◌, subst, arith}
+use Rattle.std.proofs.Common.{◌≡◌, ℕ, suc, ◌≤◌, ◌<◌, List, [], ◌∷◌, ◌++◌, filter, length, get_or, Bool, true, not, nat_eq, nat_le, eqb-true, refl, ap, sym, ◌∙◌, subst, arith}
+use Rattle.std.specs.List.{IsDistinct}
 use Rattle.std.specs.List.Sorted.{IsPermutation, IsNonDecreasingBy}
 use Rattle.std.proofs.lemmas.Bool.{and_parts, and_from, le-leb}
-use Rattle.std.proofs.lemmas.List.Sorted.{IsPermutation-map}
+use Rattle.std.proofs.lemmas.List.Sorted.{IsPermutation-map, IsPermutation-trans, IsPermutation-append_right, IsPermutation-filter_both}
+use Rattle.std.proofs.lemmas.Map.Keys.{IsDistinct-IsPermutation}
 use Rattle.documents.specs.Tests.{every}
 use Rattle.positions.specs.Position.{Position, position_at, is_table}
 use Rattle.name_truths.specs.NameTruth.{atoms}
@@ -10,6 +12,7 @@ use Rattle.name_laws.specs.Plans.{IsPlan, is_leaf, rises, atoms_of, SameMentions
 use Rattle.name_laws.specs.Searches.{AreReached}
 use Rattle.name_laws.proofs.Tests.{every-permuted}
 use Rattle.name_laws.proofs.Ordering.{plan-made, leaves-atoms}
+use Rattle.list_laws.proofs.Numbers.{nat_eq_comm}
 use Rattle.js_tableau.specs.NamePlans.{places_of, have_ranks}
 use Rattle.js_tableau.specs.declared.name_plan.Ranked.{Ranked}
 
@@ -55,3 +58,18 @@ pub plan-atoms : (T : List Position) (p : ℕ) (found leaves : List ℕ) → Are
     → leaves ≡ filter (λ q. is_leaf (position_at T q)) found → SameMentions (atoms_of T leaves) (atoms T p)
 plan-atoms T p found leaves r f =
     subst (λ xs. SameMentions xs (atoms T p)) (sym (ap (atoms_of T) f ∙ leaves-atoms T found)) r.atoms
+
+-- a plan has what was found in another order, so no position twice
+pub plan-distinct : (T : List Position) (found leaves : List ℕ) (rs ss : List Ranked) → IsDistinct nat_eq found
+    → leaves ≡ filter (λ q. is_leaf (position_at T q)) found
+    → places_of rs ≡ filter (λ q. not (is_leaf (position_at T q))) found → IsPermutation rs ss
+    → IsDistinct nat_eq (leaves ++ places_of ss)
+plan-distinct T found leaves rs ss d f g m =
+    let leaf : ℕ → Bool = (λ q. is_leaf (position_at T q)) in
+    let other : ℕ → Bool = (λ q. not (is_leaf (position_at T q))) in
+    let sorted : IsPermutation (filter other found) (places_of ss) =
+    subst (λ qs. IsPermutation qs (places_of ss)) g (IsPermutation-map (λ (r : Ranked). r.pos.0) rs ss m) in
+    subst (λ ls. IsDistinct nat_eq (ls ++ places_of ss)) (sym f)
+    (IsDistinct-IsPermutation nat_eq nat_eq_comm found (filter leaf found ++ places_of ss)
+    (IsPermutation-trans _ _ _ (IsPermutation-filter_both leaf other (λ q. refl) found)
+    (IsPermutation-append_right (filter leaf found) (filter other found) (places_of ss) sorted)) d)

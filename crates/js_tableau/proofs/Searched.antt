@@ -14,7 +14,7 @@ use Rattle.goal_laws.proofs.Signs.{same_signed-true, same_signed-itself}
 abbrev pub number : Signed → ℕ
 number y = order_of (signed_view y)
 
--- where a member stands
+-- where a member is
 pub stands : (z : G.Signed) (xs : List Signed) → has z (map signed_view xs) ≡ true
     → (j : ℕ) × (w : Signed) × (j < length xs) × (w ≡ get_or xs j w) × (same_signed z (signed_view w) ≡ true)
 stands z [] e = absurd (true≢false (sym e))

@@ -4,7 +4,7 @@ use Rattle.std.proofs.lemmas.Bool.{true≢false, or_cases, or_left, or_right, an
 use Rattle.documents.specs.Tests.{every}
 use Rattle.documents.specs.Kind.{Kind}
 use Rattle.positions.specs.Position.{Position}
-use Rattle.position_laws.proofs.Lists.{every-append}
+use Rattle.list_laws.proofs.Elements.{every-append}
 use Rattle.goal_laws.proofs.Signs.{every-has, same_signed-itself}
 use Rattle.goals.specs.Signed as G
 use Rattle.goals.specs.Signed.{has, same_signed, comes_before}

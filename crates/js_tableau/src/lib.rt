@@ -1,12 +1,12 @@
 //! Trees of goals at a kind of document, and positions at names.
 //!
-//! A goal's tree is an analytic tableau (R. M. Smullyan, 1968) of signed positions: what a position asks in place is
-//! added to the set, a choice splits it, and a set that asks for both signs is closed.
+//! A goal's tree is an analytic tableau (R. M. Smullyan, 1968) of signed positions: what a position requires in place
+//! is added to the set, a choice splits it, and a set that has both signs of a position is closed.
 //!
 //! [`Tree`] gives the steps of a goal's tree one after another, [`branches`] lists its saturated ends, and
 //! [`next_step`] is the step at any set. A walk keeps one set, which grows along a path and goes back, and an ordered
 //! set of its members that may still need a choice; so a step costs the members that it adds, each with a look-up in
-//! order, and not the set. Sets still to be visited stand in a list and share what they have in common.
+//! order, and not the set. Sets still to be visited are in a list and share what they have in common.
 //!
 //! [`name_truth`] says whether a position holds of a member's name, from the truths of the atoms of which it is made.
 //! It takes no memory.

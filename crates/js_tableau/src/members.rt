@@ -1,4 +1,4 @@
-//! Whether a choice of a signed position is in a set, by asking the set for signed positions.
+//! Whether a choice of a signed position is in a set, by looking up signed positions in the set.
 
 ghost use Rattle.std.specs.Prelude.{◌≡◌, [], ◌∷◌, List, Bool, map, true};
 ghost use Rattle.documents.specs.Tests.{every, some};
@@ -59,12 +59,7 @@ fn has_all<S: Members>(set: &S, positions: &[Pos], plus: bool) -> bool
     requires { S.is_ready set.now ≡ true }
     ensures { result ≡ every (λ x. has x (S.members set.now)) (map (with_sign plus) (places positions.now)) }
 {
-    for p in positions {
-        if !set.has(Signed { pos: *p, plus }) {
-            return false;
-        }
-    }
-    true
+    positions.iter().all(|p| set.has(Signed { pos: *p, plus }))
 }
 
 fn has_any<S: Members>(set: &S, positions: &[Pos], plus: bool) -> bool
@@ -72,12 +67,7 @@ fn has_any<S: Members>(set: &S, positions: &[Pos], plus: bool) -> bool
     ensures { result ≡ some (λ C. every (λ x. has x (S.members set.now)) C)
         (map (λ q. with_sign plus q ∷ []) (places positions.now)) }
 {
-    for p in positions {
-        if set.has(Signed { pos: *p, plus }) {
-            return true;
-        }
-    }
-    false
+    positions.iter().any(|p| set.has(Signed { pos: *p, plus }))
 }
 
 /// Whether one of the positions is in the set with plus and each other one with minus.

@@ -1,11 +1,13 @@
 //! Positions at many names, by a plan that is made once.
 //!
 //! A plan has the positions to which steps in place lead, each once: first those that are an atom, in the order in
-//! which they are first come to, then the others by rank, so that each asks only those before it. They are found by a
-//! stack of its own. The truth at a name is then one look at each of them, in a room that the caller keeps, without
-//! recursion and without memory. Cells of names, the leaves of objects and the checker ask many words with one plan.
+//! which they are first come to, then the others by rank, so that each depends only on those before it. They are found
+//! by a stack of its own. The truth at a name is then one look at each of them, in a room that the caller keeps,
+//! without recursion and without memory. Cells of names, the leaves of objects and the checker judge many names with
+//! one plan.
 
-ghost use Rattle.std.specs.Prelude.{◌≡◌, ◌<◌, ◌≤◌, ℕ, List, Bool, map, filter, length, nat_lt, not, true, IfOk};
+ghost use Rattle.std.specs.Prelude.{◌≡◌, ◌<◌, ◌≤◌, ◌++◌, ℕ, List, Bool, map, filter, length, nat_eq, nat_lt, not, true, IfOk};
+ghost use Rattle.std.specs.List.{IsDistinct};
 ghost use Rattle.std.specs.List.Sorted.{IsPermutation, IsNonDecreasingBy};
 ghost use Rattle.documents.specs.Tests.{every};
 ghost use Rattle.documents.specs.Document.{string};
@@ -50,13 +52,14 @@ impl Model for NamePlan {
 }
 
 impl NamePlan {
-    /// The plan of a position. It costs what the positions to which steps lead ask together, and a sort by rank of
+    /// The plan of a position. It costs what the positions to which steps lead name together, and a sort by rank of
     /// those that are no atom; it takes memory for them alone, and not for the table.
     pub fn new(alloc: Global, core: &Core, p: Pos) -> Result<NamePlan, Memory>
         requires { p.0 < length core.now.positions }
         ensures root { IfOk result (λ plan. plan.root ≡ p.0) }
         ensures plan { IfOk result (λ plan. IsPlan core.now.positions plan) }
         ensures rising { IfOk result (λ plan. rises core.now.ranks plan.inner ≡ true) }
+        ensures distinct { IfOk result (λ plan. IsDistinct nat_eq (plan.leaves ++ plan.inner)) }
 
         // The atoms of its leaves are those of the position, in the order in which these are first mentioned.
         ensures atoms { IfOk result (λ plan.
@@ -91,8 +94,8 @@ impl NamePlan {
     }
 
     /// Whether the position holds of a name, by the truths of the atoms of the leaves in order. The room has a place
-    /// for each position of the table, and what stands in it doesn't matter. It takes no memory, and a look at each
-    /// position of the plan and at those that it asks.
+    /// for each position of the table, and what is in it doesn't matter. It takes no memory, and a look at each
+    /// position of the plan and at those that it depends on.
     pub fn truth(&self, core: &Core, truths: &[bool], room: &mut [bool]) -> bool
         requires plan { IsPlan core.now.positions self.now }
         requires truths { length truths.now ≡ length self.now.leaves }
@@ -103,7 +106,7 @@ impl NamePlan {
             → truths.now ≡ map (λ a. is_true a w) (atoms_of core.now.positions self.now.leaves)
             → result ≡ holds core.now.positions self.now.root (string w) }
     {
-        // The length comes with the fact that ranks fall, so that a position holds as it asks.
+        // The length comes with the fact that ranks fall, so that a position holds where what it requires is met.
         let _length = core.len();
         fill(core, self.leaves.as_slice(), truths, room);
         sweep(core, self.inner.as_slice(), room);
@@ -111,7 +114,7 @@ impl NamePlan {
     }
 }
 
-/// Those that are an atom, in their order.
+/// The positions that are an atom, in their order.
 fn leaves_of(alloc: Global, core: &Core, found: &[u32]) -> Result<Vec<Pos>, Memory>
     requires { every (λ q. nat_lt q (length core.now.positions)) found.now ≡ true }
     ensures { IfOk result (λ v. places v.items ≡ filter (λ q. is_leaf (position_at core.now.positions q)) found.now) }

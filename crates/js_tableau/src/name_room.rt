@@ -30,7 +30,7 @@ pub fn fill(core: &Core, leaves: &[Pos], truths: &[bool], room: &mut [bool])
     }
 }
 
-/// Writes whether each of the others holds. Each asks only such as were seen before it.
+/// Writes whether each of the others holds. Each depends only on such as were seen before it.
 pub fn sweep(core: &Core, inner: &[Ranked], room: &mut [bool])
     requires within { every (λ q. nat_lt q (length core.now.positions)) (places_of inner.now) ≡ true }
     requires inner { every (λ q. not (is_leaf (position_at core.now.positions q))) (places_of inner.now) ≡ true }
@@ -57,7 +57,7 @@ fn is_leaf_held(node: &Node, truth: bool) -> bool
     }
 }
 
-/// What another position asks of the name, by what stands in the room.
+/// What another position requires of the name, by what is in the room.
 fn is_met(node: &Node, room: &[bool]) -> bool
     requires inner { is_leaf (node_view node.now) ≡ false }
     requires places { every (λ q. nat_lt q (length room.now)) (asked_of_string (node_view node.now)) ≡ true }
@@ -81,12 +81,7 @@ fn are_held(list: &PosList, room: &[bool]) -> bool
     requires { every (λ q. nat_lt q (length room.now)) (places list.now) ≡ true }
     ensures { result ≡ every (truth_at room.now) (places list.now) }
 {
-    for q in list.as_slice() {
-        if !room[q.0 as usize] {
-            return false;
-        }
-    }
-    true
+    list.as_slice().iter().all(|q| room[q.0 as usize])
 }
 
 /// Whether at least one of them holds.
@@ -94,12 +89,7 @@ fn is_one_held(list: &PosList, room: &[bool]) -> bool
     requires { every (λ q. nat_lt q (length room.now)) (places list.now) ≡ true }
     ensures { result ≡ some (truth_at room.now) (places list.now) }
 {
-    for q in list.as_slice() {
-        if room[q.0 as usize] {
-            return true;
-        }
-    }
-    false
+    list.as_slice().iter().any(|q| room[q.0 as usize])
 }
 
 /// Whether exactly one of them holds.

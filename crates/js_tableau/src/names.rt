@@ -42,7 +42,7 @@ fn is_held<S: Truths>(core: &Core, steps: u32, p: Pos, truths: &S) -> bool
     is_met(core, steps - 1, core.node(p), truths)
 }
 
-/// What the position asks of the name, with so many steps from those that it names.
+/// What the position requires of the name, with so many steps from those that it names.
 #[cycle(names)]
 fn is_met<S: Truths>(core: &Core, steps: u32, node: &Node, truths: &S) -> bool
     requires places { every (λ q. nat_lt q (length core.now.positions)) (asked_of_string (node_view node.now)) ≡ true }
@@ -122,10 +122,5 @@ fn is_just_one_held<S: Truths>(core: &Core, steps: u32, list: &PosList, truths: 
 pub fn has_text(kinds: &KindList) -> bool
     ensures { result ≡ some (K.same_kind K.Text) (map kind_view kinds.now) }
 {
-    for kind in kinds.as_slice() {
-        if *kind == JsonKind::Text {
-            return true;
-        }
-    }
-    false
+    kinds.as_slice().contains(&JsonKind::Text)
 }

@@ -27,7 +27,7 @@ pub fn reached(alloc: Global, core: &Core, p: Pos) -> Result<IndexSet<u32>, Memo
     Ok(found)
 }
 
-/// Those that the position asks of a string are added, the first one next.
+/// Those that the position depends on at a string are added, the first one next.
 fn add_asked(node: &Node, waiting: &mut Vec<Pos>) -> Result<(), Memory>
     ensures { OnOk result (reverse (places waiting.new.items)
         ≡ asked_of_string (node_view node.now) ++ reverse (places waiting.old.items)) }

@@ -1,8 +1,8 @@
 //! The steps of a tree, one after another in pre-order.
 //!
-//! Sets still to be visited stand in a list, the next one last, each as a choice to add to the first members of the
-//! walk: so the choices of a rule share its set. Each has at least one end, so the tree has too many as soon as the
-//! ends that were given and the sets that are left are too many; this bounds the list too.
+//! Sets still to be visited are in a list, the next one last, each as a choice to add to the first members of the walk:
+//! so the choices of a rule share its set. Each has at least one end, so the tree has too many as soon as the ends that
+//! were given and the sets that are left are too many; this bounds the list too.
 
 ghost use Rattle.std.specs.Prelude.{◌≡◌, ◌<◌, ◌≤◌, ◌+◌, ◌++◌, ℕ, List, [], ◌∷◌, map, take, length, reverse, IfOk, IfErr, OnOk, MatchOption, IsNone, true};
 ghost use Rattle.documents.specs.Kind.{Kind};

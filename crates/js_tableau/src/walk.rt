@@ -23,7 +23,7 @@ use std::alloc::Global;
 /// What the tree has at a set; `step_view` is the step that it stands for. A rule comes with the number of its choices.
 #[derive(Clone, Copy)]
 pub enum Step {
-    /// Its position has both signs.
+    /// The position of the signed position has both signs in the set.
     Clash(Signed),
     Wrong(Signed),
     Rule(Signed, u128),

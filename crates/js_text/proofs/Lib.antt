@@ -10,3 +10,4 @@ pub mod NumberReading
 pub mod PartReading
 pub mod TableReading
 pub mod ToldLemmas
+pub mod RisingLemmas

@@ -52,9 +52,6 @@ pub record IsBegun {A : Type 0} (write : A → List ℕ) (old : List ℕ) (xs : 
   pub text : out ≡ old ++ begun write xs i
   pub first : none ≡ is_start i
 
-pub begun-none : {A : Type 0} (write : A → List ℕ) (out : List ℕ) (xs : List A) → IsBegun write out xs out true 0
-begun-none write out xs = record { text = sym (append-nil out); first = refl }
-
 pub begun-next : {A : Type 0} (write : A → List ℕ) (old : List ℕ) (xs : List A) (i : ℕ) (x : A)
     (out comma new : List ℕ) (first : Bool) → i < length xs → x ≡ get_or xs i x
     → comma ≡ out ++ comma_unless first → new ≡ comma ++ write x → IsBegun write old xs out first i
@@ -78,7 +75,7 @@ begun-end write old xs i out new first from to l end is =
     ∙ append_assoc old (from ∷ []) (joined (map write xs)))
     ∙ append_assoc old (from ∷ joined (map write xs)) (to ∷ [])
 
--- a name with its colon, and then what stands under it
+-- a name with its colon, and then what is under it
 pub member-written : (old name named value new : List ℕ) → named ≡ old ++ name ++ 58 ∷ [] → new ≡ named ++ value
     → new ≡ old ++ (name ++ 58 ∷ value)
 member-written old name named value new first second =

@@ -22,10 +22,6 @@ Listing {A} write good close done text left =
     (xs : List A) (rest : List ℕ) → every good xs ≡ true → text ≡ joined (map write xs) ++ close ∷ rest
     → Left write good close done xs rest left
 
-pub listing-none : {A : Type 0} (write : A → List ℕ) (good : A → Bool) (close : ℕ) (text : List ℕ)
-    → Listing write good close [] text text
-listing-none write good close text xs rest h e = record { others = xs; is = refl; fine = h; text = inl e }
-
 module _ {A : Type 0} (write : A → List ℕ) (good : A → Bool) (first close : ℕ) (w : Writes write good first)
     (c : Closes first close) (mark : first ≡ 44 → ⊥) where
   behind-first-comma : (zs : List ℕ) → behind_comma (first ∷ zs) ≡ first ∷ zs
@@ -57,6 +53,7 @@ module _ {A : Type 0} (write : A → List ℕ) (good : A → Bool) (first close 
   open_list x xs rest left (inr e) =
       ap (ends_list close) (e ∙ more-next write good first close w c x xs rest) ∙ ne_eqb 44 close c.comma
 
+  -- one more element that is read is the next one of each list that has the text
   pub listing-step : (done : List A) (x : A) (text left behind after : List ℕ)
       → Listing write good close done text left → ends_list close left ≡ false → behind ≡ behind_comma left
       → Reads write good behind (Some (x, after)) → Listing write good close (done ++ x ∷ []) text after
@@ -99,6 +96,7 @@ module _ {A : Type 0} (write : A → List ℕ) (good : A → Bool) (first close 
           (cut ∙ comes y ys rest left t) in
           none-some (y, tail) some
 
+  -- where what is left closes the list, the elements that were read are all of it
   pub listing-end : (done : List A) (text left : List ℕ) → Listing write good close done text left
       → ends_list close left ≡ true → (xs : List A) (rest : List ℕ) → every good xs ≡ true
       → text ≡ joined (map write xs) ++ close ∷ rest → done ≡ xs

@@ -114,6 +114,7 @@ items-shorts : (ds : List Document) → items_are_short (items_of ds) ≡ shorts
 items-shorts [] = refl
 items-shorts (d ∷ ds) = ap (λ p. has_short_numbers d && p) (items-shorts ds)
 
+-- the measure of an array is computed from those of its elements
 pub array-measured : (ds : List Document)
     → container_measure (map entry (map plain ds)) ≡ measured (D.array (items_of ds))
 array-measured ds =
@@ -144,6 +145,7 @@ members-shorts : (ms : List (List ℕ × Document)) → members_are_short (membe
 members-shorts [] = refl
 members-shorts (m ∷ ms) = ap (λ p. has_short_numbers m.1 && p) (members-shorts ms)
 
+-- the measure of an object is computed from those of its members and the lengths of their names
 pub object-measured : (ms : List (List ℕ × Document))
     → container_measure (map entry (map under ms)) ≡ measured (D.object (members_of ms))
 object-measured ms =

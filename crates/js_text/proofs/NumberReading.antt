@@ -25,6 +25,7 @@ ascii-signed (negsuc n) h =
 pub signed-text : (z : ℤ) (bytes : List ℕ) → is_told (number z) ≡ true → bytes ≡ signed_decimal z → IsUtf8 bytes
 signed-text z bytes h is = subst IsUtf8 (sym is) (IsUtf8-from_ascii (signed_decimal z) (ascii-signed z h))
 
+-- a number that fits 128 bits is what is parsed of its text
 pub signed-parsed : {E : Type 0} (w : Width) (z : ℤ) (bytes : List ℕ) (r : Result ℤ E) → hbits w ≡ 127
     → is_told (number z) ≡ true → bytes ≡ signed_decimal z → ParsesSigned w 10 bytes r → r ≡ Ok z
 signed-parsed w (pos n) bytes r size h is p =

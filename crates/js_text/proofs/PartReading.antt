@@ -1,7 +1,7 @@
--- The first byte of a part's text tells its kind.
-use Rattle.std.proofs.Common.{◌≡◌, ℕ, ◌<◌, ◌≤◌, ℤ, pos, negsuc, List, [], ◌∷◌, ◌++◌, map, true, false, cond, nat_eq, Option, Some, refl, sym, ap, ◌∙◌, arith, append_assoc}
+-- The first byte of a part's text determines its kind.
+use Rattle.std.proofs.Common.{◌≡◌, ℕ, ◌<◌, ◌≤◌, pos, negsuc, List, [], ◌∷◌, ◌++◌, map, true, false, cond, nat_eq, Option, Some, refl, sym, ap, ◌∙◌, arith, append_assoc}
 use Rattle.std.specs.Char.{is_ascii_digit}
-use Rattle.std.specs.Fmt.{decimal, signed_decimal}
+use Rattle.std.specs.Fmt.{decimal}
 use Rattle.std.proofs.lemmas.Bool.{ne_eqb, ltb-true}
 use Rattle.documents.specs.Tests.{every, is_scalar}
 use Rattle.shared_documents.specs.Part.{Part, null, boolean, number, string, array, object, members_rise, names_rise}
@@ -49,6 +49,7 @@ digit-kind n x rest behind b e =
     digit : (d : ℕ) → is_ascii_digit d ≡ true → kind_at d ≡ 6
     digit d h = low-kind d (grind (arith, h)) (grind (arith, h))
 
+-- the first byte of a part's line says of which kind the part is
 pub first-kind : (p : Part) (x : ℕ) (rest : List ℕ) → is_told p ≡ true → x ∷ rest ≡ part_text p ++ 10 ∷ []
     → kind_at x ≡ kind p
 first-kind null x rest h e = ap kind_at (ap head e)
@@ -91,13 +92,6 @@ module _ (text : List ℕ) (r : Option Part) where
   reads-string f (boolean true) k h e = absurd (omega (arith, k))
   reads-string f (boolean false) k h e = absurd (omega (arith, k))
   reads-string f p k h e = absurd (omega (arith, k))
-
-  pub reads-number : ((z : ℤ) → is_told (number z) ≡ true → text ≡ signed_decimal z ++ 10 ∷ []
-      → r ≡ Some (number z)) → (p : Part) → 6 ≡ kind p → is_told p ≡ true → text ≡ part_text p ++ 10 ∷ [] → r ≡ Some p
-  reads-number f (number z) k h e = f z h e
-  reads-number f (boolean true) k h e = absurd (omega (arith, k))
-  reads-number f (boolean false) k h e = absurd (omega (arith, k))
-  reads-number f p k h e = absurd (omega (arith, k))
 
   pub reads-array : (rest : List ℕ) → text ≡ 91 ∷ rest
       → ((is behind : List ℕ) → every is_named is ≡ true → rest ≡ joined (map reference_text is) ++ 93 ∷ behind

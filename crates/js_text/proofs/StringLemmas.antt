@@ -14,7 +14,7 @@ use Rattle.serde_json.specs.declared.value.Value.{the_lemmas}
 use Rattle.serde_json.specs.declared.value.Value.TheVariants as V
 use Rattle.document_texts.specs.Scalars.{character_text, string_text}
 
--- ---- bytes that are not ASCII stand as they are
+-- ---- bytes that are not ASCII are kept as they are
 
 high_bytes : (c : ℕ) → 128 ≤ c → (k : ℕ) → k < length (encode_utf8 c) → 128 ≤ get_or (encode_utf8 c) k 0
 high_bytes c big k below = elim (cases_lt (get_or (encode_utf8 c) k 0) 128) [
@@ -91,6 +91,7 @@ escape-all (c ∷ s) =
     ∙ ap (λ ys. ys ++ escape (encode_utf8_all s)) (escape-character c)
     ∙ ap (λ ys. character_text c ++ ys) (escape-all s)
 
+-- the quoted bytes of a string are its text by the definition
 pub string-quoted : (s : List ℕ) → quoted (encode_utf8_all s) ≡ string_text s
 string-quoted s = ap (λ ys. 34 ∷ ys ++ 34 ∷ []) (escape-all s)
 

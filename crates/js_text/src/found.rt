@@ -17,8 +17,8 @@ use crate::told::is_told;
 use js_doc::{Doc, Memory, PartId, Parts, unshare};
 use std::alloc::Global;
 
-/// The depth up to which a document is printed plain: readers of JSON commonly refuse arrays and objects that stand
-/// more than 128 deep.
+/// The depth up to which a document is printed plain: readers of JSON commonly refuse arrays and objects that are
+/// nested more than 128 deep.
 const DEEPEST_PLAIN: u32 = 120;
 
 /// The bytes up to which a document is printed plain: a file that is read is no longer.

@@ -21,7 +21,7 @@ use std::marker::Model;
 pub struct Measure {
     /// The bytes of its text.
     pub length: u64,
-    /// How many arrays and objects stand one in another.
+    /// How many arrays and objects are nested.
     pub depth: u32,
     /// Whether each number lies from -2^63 to 2^64 - 1.
     pub short_numbers: bool,
@@ -39,7 +39,7 @@ impl Measure {
         }
     }
 
-    /// Adds one more element, before which `before` bytes stand: a member's name and colon.
+    /// Adds one more element, before which `before` bytes come: a member's name and colon.
     fn with(self, before: u64, value: Measure) -> Measure
         ensures { S.measure_view result ≡ S.added (S.measure_view self) before (S.measure_view value) }
     {

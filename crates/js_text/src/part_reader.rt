@@ -3,7 +3,7 @@
 ghost use Rattle.std.specs.Prelude.{◌≡◌, ℕ, ℤ, ◌≤◌, ◌∷◌, ◌++◌, [], List, true, length, map, option_map, IfOk, IfSome, Some};
 ghost use Rattle.std.specs.Fmt.{signed_decimal};
 ghost use Rattle.documents.specs.Tests.{comes_before, every, is_scalar};
-ghost use Rattle.shared_documents.specs.Part.{members_rise, is_before};
+ghost use Rattle.shared_documents.specs.Part.{members_rise};
 ghost use Rattle.shared_documents.specs.Part as P;
 ghost use Rattle.document_texts.specs.Scalars.{string_text, joined};
 ghost use Rattle.document_texts.specs.PartsRead.{is_named, is_member, is_told};
@@ -18,7 +18,7 @@ use js_doc::{Memory, Part, PartIds, PartMap, PartMember, Str};
 use std::alloc::Global;
 use std::cmp::Ordering;
 
-/// A part whose text stands there, with a line feed behind it.
+/// A part whose text is there, with a line feed behind it.
 pub(crate) fn read_part(alloc: Global, text: &[u8]) -> Result<Option<Part>, Memory>
     ensures reads { IfOk result (λ r. ReadsPart text.now (option_map part_view r)) }
     ensures gives { IfOk result (λ r. Gives is_fine (option_map part_view r)) }
@@ -97,23 +97,7 @@ fn rising_part(members: Vec<PartMember>) -> Option<Part>
 fn are_rising(members: &[PartMember]) -> bool
     ensures { result ≡ members_rise (map member_view members.now) }
 {
-    let mut left = members;
-    while let [first, rest @ ..] = left {
-        if !is_before(first, rest) {
-            return false;
-        }
-        left = rest;
-    }
-    true
-}
-
-fn is_before(member: &PartMember, rest: &[PartMember]) -> bool
-    ensures { result ≡ is_before member.now.name (map member_view rest.now) }
-{
-    match rest {
-        [] => true,
-        [next, ..] => comes_before(&member.name, &next.name),
-    }
+    members.is_sorted_by(|member, next| comes_before(&member.name, &next.name))
 }
 
 fn comes_before(name: &Str, other: &Str) -> bool
@@ -157,7 +141,7 @@ fn ends_list(text: &[u8], close: u8) -> bool
     }
 }
 
-/// What stands behind a comma, or all where none comes first.
+/// What comes behind a comma, or all where none comes first.
 fn behind_comma(text: &[u8]) -> &[u8]
     ensures value { result.now ≡ behind_comma text.now }
     ensures shorter { length result.now ≤ length text.now }

@@ -17,12 +17,10 @@ use std::alloc::Global;
 pub(crate) fn first_line(bytes: &[u8]) -> (&[u8], &[u8])
     ensures { FirstLine result.0.now result.1.now bytes.now }
 {
-    for (i, byte) in bytes.iter().enumerate() {
-        if *byte == b'\n' {
-            return bytes.split_at(i + 1);
-        }
+    match bytes.iter().position(|byte| *byte == b'\n') {
+        Some(i) => bytes.split_at(i + 1),
+        None => bytes.split_at(bytes.len()),
     }
-    bytes.split_at(bytes.len())
 }
 
 /// The number that the digits say, and what comes behind them. None where it doesn't fit.
@@ -57,7 +55,7 @@ pub(crate) fn reference(text: &[u8]) -> Option<(PartId, &[u8])>
     Some((PartId(id), left))
 }
 
-/// Where a reader stands in a string: among its bytes, behind a backslash, or before so many further digits of a byte.
+/// Where a reader is in a string: among its bytes, behind a backslash, or before so many further digits of a byte.
 #[derive(Clone, Copy)]
 enum Place {
     Plain,

@@ -35,7 +35,7 @@ impl From<Memory> for PartsLineFault {
 }
 
 /// The table whose text the bytes are, and its last part. Every table's text is read, and the text of what is read is
-/// again these bytes; parts that no part names may stand in it. Time and memory in proportion to the bytes.
+/// again these bytes; parts that no part names may be in it. Time and memory in proportion to the bytes.
 pub fn parts_read(alloc: Global, bytes: &[u8]) -> Result<(Parts, PartId), PartsLineFault>
     ensures table { IfOk result (λ r. IsRead r.0 bytes.now) }
     ensures last { IfOk result (λ r. r.1.0 + 1 ≡ length r.0) }

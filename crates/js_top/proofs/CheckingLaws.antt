@@ -102,7 +102,7 @@ module _ (told : Option Files) (words : List (List ℕ)) (old new : Option (List
         means = tt;
       }
 
--- a report with the status of an accepted certificate tells that, and what it means
+-- a report with the status of an accepted certificate says that, and what it means
 pub means-acceptance : (told : Option Files) (words : List (List ℕ)) (old new : Option (List ℕ)) (text : List ℕ)
     → IsReport told words (record { text = text; status = S.Done }) → IsCheck words → Appends old new text
     → IsVerdictWritten told words old new V.Accepted
@@ -129,7 +129,7 @@ means-rejection told words old new text is check appends =
           (subst (Appends old new) word appends),
     )
 
--- where files are told, the line and the status are those of the verdict on their bytes
+-- where files are known, the line and the status are those of the verdict on their bytes
 
 told-included : (files : Files) (first second certificate : List ℕ) (a b : Json) (bytes : List ℕ)
     → AreChecked (Some files) first second certificate a b bytes → IsAccepted (Some files) first second certificate

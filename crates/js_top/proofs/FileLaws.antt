@@ -18,7 +18,7 @@ use Rattle.js_commands.specs.ValidOutcome.{Outcome}
 use Rattle.js_report.specs.Lines.{line}
 use Rattle.js_top.specs.Names.{of_sat, of_include, of_compared, of_check, of_gen, sat_name, compared_names, IsSat, IsInclude, IsCompared, IsCheckBySeveral, IsGen}
 use Rattle.js_top.specs.Report.{Report, printed, finding_of, finding_status, answer_report, compared_report, IsReadBack, IsOutcomeReadBack, IsComparedReport, IsReportOf, outcome_report, checked_report, listed_report, IsReport}
-use Rattle.js_top.specs.Meaning.{AreNamed, WhereTold, PassLimit, IsCounterexample, IsLimit, IsCountedLimit, IsAsked, IsWitness, IsRefutation, IsRefusal}
+use Rattle.js_top.specs.Meaning.{AreNamed, WhereTold, PassLimit, IsCounterexample, IsLimit, IsAsked, IsWitness, IsRefutation, IsRefusal}
 use Rattle.js_top.specs.Correct.{IsCorrect}
 use Rattle.js_top.specs.Preparing.{report_of, PreparedSays}
 use Rattle.js_top.specs.declared.finding.Finding.{Finding}
@@ -27,7 +27,7 @@ use Rattle.js_top.specs.declared.prepare.Prepared.{Prepared}
 use Rattle.js_top.specs.declared.prepare.Prepared.TheVariants.{Usage, ReadFault, Made}
 use Rattle.js_top.specs.declared.status.Status.{Status}
 use Rattle.js_top.specs.declared.status.Status.TheVariants as S
-use Rattle.js_top.proofs.MeaningLaws.{finding_in, Shows, status-shows, passes-report, answer-one, answer-limited, counterexample-witness, certificate-refutation}
+use Rattle.js_top.proofs.MeaningLaws.{finding_in, Shows, status-shows, passes-report, answer-one, answer-limited, answer-counted, counterexample-witness, certificate-refutation}
 use Rattle.js_top.proofs.CheckingLaws.{told-verdict}
 use Rattle.js_top.proofs.Includes.{counts-made}
 
@@ -284,20 +284,12 @@ module _ (told : Option Files) (words : List (List ℕ)) (before after : ℕ) (p
       (x, asked, certificate-refutation x text shows)
 
   -- no other command but `gen` has a limit
-  limit-shown : (report_of p).status ≡ S.Limit → (IsGen words → ⊥)
-      → Named told words (λ a b. IsLimit a b text × IsCountedLimit a b text)
-  limit-shown e other =
+  pub prepared-limit : (report_of p).status ≡ S.Limit → (IsGen words → ⊥)
+      → Named told words (λ a b. IsLimit a b text)
+  prepared-limit e other =
       let is = prepared-report told words before after p text S.Limit says t e (λ h. cc) in
       let (a, second, named) = compared_of words (limit-compared told words text is other) in
       named_of told words a second named S.Limit text (means told words text S.Limit a second named is refl)
-
-  pub prepared-limit : (report_of p).status ≡ S.Limit → (IsGen words → ⊥)
-      → Named told words (λ a b. IsLimit a b text)
-  prepared-limit e other = let (a, b, are, shows) = limit-shown e other in (a, b, are, shows.0)
-
-  pub prepared-counted : (report_of p).status ≡ S.Limit → (IsGen words → ⊥)
-      → Named told words (λ a b. IsCountedLimit a b text)
-  prepared-counted e other = let (a, b, are, shows) = limit-shown e other in (a, b, are, shows.1)
 
 -- the report that was begun to be written: that of a failed read, or that of files
 pub prepared-part : (told : Option Files) (words : List (List ℕ)) (before after : ℕ) (p : Prepared)
@@ -322,7 +314,7 @@ prepared-part told words before after (Made bytes s) says =
 
 -- the report is correct
 
--- where files are told, this is what is found of the schemas that the words name, and its report is written
+-- where files are known, this is what is found of the schemas that the words name, and its report is written
 record IsToldAnswer (a b : Json) (second : Option (List ℕ)) (r : Report) : Type 0 where
   x : Answer
   is : answer_of a b ≡ x
@@ -372,6 +364,7 @@ prepared-correct (Some files) words before after Usage old new text plain says t
       written = appends;
       answered = λ a b s. let wrong = sym s.named ∙ ap of_compared says.1 in cc;
       limited = λ a b s passes. let wrong = sym s.named ∙ ap of_compared says.1 in cc;
+      counted = λ a b s passes. let wrong = sym s.named ∙ ap of_compared says.1 in cc;
       plain = plain;
       checked = λ a b bytes s. let wrong = sym s.named ∙ ap of_check says.1 in cc;
     }
@@ -387,6 +380,9 @@ prepared-correct (Some files) words before after (Made made status) old new text
       limited = λ a b s.
           let of = told-report files words (record { text = made.items; status = status }) says.2 a b s in
           answer-limited a b of.x of.is of.tells made.items (ap (λ r. r.text) of.report) of.back;
+      counted = λ a b s.
+          let of = told-report files words (record { text = made.items; status = status }) says.2 a b s in
+          answer-counted a b of.x of.is of.tells;
       plain = plain;
       checked = told-verdict files words old new made.items status says.2 (subst (Appends old new) t appends);
     }

@@ -48,7 +48,7 @@ ReportSays-answer is before mid after ReadFault r m n e i h = let wrong = ap (λ
 ReportSays-answer is before mid after (Made bytes status) r m n e i h =
     (n ∙ m, ap (λ x. is_answer x.status) e ∙ i, subst is (sym e) h)
 
--- the same of `check`, where a count may have risen
+-- what is prepared for `check` says that its answer holds, where a count may have risen
 pub ReportSays-checked : (is : Report → Type 0) (workers before after : ℕ) (p : Prepared) (r : Report)
     → AsJudged workers r.status before after → report_of p ≡ r → is_answer r.status ≡ true → is r
     → ReportSaysBy (AsJudged workers) is before after p
@@ -102,7 +102,7 @@ PreparedSays-command told words c before after (Made bytes status) e (n, a, is) 
   subst IsSome (sym e) refl,
 )
 
--- where no file is told as one that couldn't be read, the status isn't that
+-- where no file is reported as one that couldn't be read, the status isn't that
 pub no_read_fault : (told : Option Files) (words : List (List ℕ)) (before after : ℕ) (p : Prepared)
     → PreparedSays told words before after p → IsNoReadFault p → (report_of p).status ≡ S.ReadFault → ⊥
 no_read_fault told words before after Usage says made e = cc
@@ -145,7 +145,7 @@ counts-made (Some (Check a b c w)) S.ReadFault before after same = inl same
 counts-made (Some (Check a b c w)) S.WriteFault before after same = inl same
 counts-made (Some (Check a b c w)) S.Memory before after same = inl same
 
--- a count that rose is told
+-- a count that rose is reported
 
 pub refused-noticed : (words : List (List ℕ)) (before after : ℕ) → CountsRefused (command words) before after
     → before < after → IsReadNoticed words S.Memory
@@ -171,7 +171,7 @@ prepared-noticed told words before after (Made bytes status) says less =
       go (inl same) = absurd (omega (arith, same, less))
       go (inr (rose, several, other)) = inr (several, inl other)
 
--- with one worker, and for other words, it is told as a fault of reading
+-- with one worker, and for other words, it is reported as a fault of reading
 pub noticed-alone : (words : List (List ℕ)) (status : Status) → IsReadNoticed words status
     → (IsCheckBySeveral words → ⊥) → status ≡ S.ReadFault
 noticed-alone words status (inl e) alone = e
@@ -191,7 +191,7 @@ pub read-other : (told : Option Files) (certificate : List ℕ) (workers : ℕ) 
     → IsReadToReport told certificate workers left (report_of p)
 read-other told certificate workers left p s e n = λ other. absurd (n (sym e ∙ other))
 
--- of the words
+-- what holds of a command holds of the words that mean it
 pub read-command : (told : Option Files) (words : List (List ℕ)) (c : Command) (left : Option (List ℕ)) (r : Report)
     → command words ≡ Some c → IsReadOf told (Some c) left r → IsReadOf told (command words) left r
 read-command told words c left r e read = subst (λ o. IsReadOf told o left r) (sym e) read

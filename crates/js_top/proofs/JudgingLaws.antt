@@ -85,7 +85,7 @@ means-judgement told words old new text b is valid appends =
       ),
     )
 
--- where files are told, the word and the status are those of validity
+-- where files are known, the word and the status are those of validity
 told-decision : (files : Files) (words : List (List ℕ)) (text : List ℕ) (status : Status) (j : Json) (d : Document)
     → IsReport (Some files) words (record { text = text; status = status }) → AreJudged (Some files) words j d
     → (text ≡ line (word_of (valid rules j d))) × (status ≡ status_of (valid rules j d))

@@ -127,7 +127,7 @@ means-norm_refusal told words text is norm =
     let (o, comes, e) = report-norm told words (record { text = text; status = S.Refused }) a named is in
     refusal_of told words a named o text comes e
 
--- where files are told, a schema that the words name is listed
+-- where files are known, a schema that the words name is listed
 told_listed : (files : Files) (a : List ℕ) (o : N.Outcome) (j : Json) → IsListing (Some files) a o → (fs : Files)
     → AreFiles (Some files) fs fs → IsSchemaFile fs a j → (text : List ℕ) × (o ≡ N.Listed text) × IsListed j text
 told_listed files a o j is fs ok schema =

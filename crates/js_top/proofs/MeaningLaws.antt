@@ -5,14 +5,15 @@ use Rattle.shared_documents.specs.Unshared.{unshared}
 use Rattle.draft06.specs.Validity.{valid, Included}
 use Rattle.js_keywords.specs.Reading.{rules}
 use Rattle.js_commands.specs.Comparison.{certificate_text}
+use Rattle.js_commands.specs.Meaning.{PassesCount}
 use Rattle.js_commands.proofs.MeaningLaws.{comparison-stopped}
 use Rattle.js_commands.proofs.NothingLaws.{valid-false}
 use Rattle.js_commands.specs.ReadEntries.{entries_read}
 use Rattle.js_commands.specs.IncludeOutcome as A
 use Rattle.js_commands.specs.IncludeOutcome.{Answer, of_decision}
-use Rattle.js_commands.specs.IncludeMeaning.{answer_of, IsCertificate, ValuesTell}
+use Rattle.js_commands.specs.IncludeMeaning.{answer_of, IsCertificate, IsPassed, ValuesTell}
 use Rattle.js_top.specs.Report.{answer_text, finding_of, finding_status, IsReadBack}
-use Rattle.js_top.specs.Meaning.{IsCounterexample, IsLimit, IsCountedLimit, PassLimit, IsWitness, IsUnsatisfiable, IsRefutation}
+use Rattle.js_top.specs.Meaning.{IsCounterexample, IsLimit, PassLimit, IsWitness, IsUnsatisfiable, IsRefutation}
 use Rattle.js_top.specs.Preparing.{IsPrintable}
 use Rattle.js_top.specs.declared.finding.Finding.{Finding}
 use Rattle.js_top.specs.declared.finding.Finding.TheVariants as F
@@ -44,7 +45,7 @@ limited-status false f e = ap (finding_status false) e
 abbrev pub Shows : Json → Json → Finding → List ℕ → Type 0
 Shows a b F.Document text = IsCounterexample a b text
 Shows a b F.Nothing text = IsCertificate a b text
-Shows a b F.Limit text = IsLimit a b text × IsCountedLimit a b text
+Shows a b F.Limit text = IsLimit a b text
 
 -- a document that was found can be printed
 pub printable : (a b : Json) (x : Answer) → ValuesTell a b x → IsPrintable x
@@ -58,10 +59,7 @@ module _ (a b : Json) where
   answer-shows (A.Document ps i) tells text e back =
       record { document = unshared ps i; is = back; separates = tells.separates }
   answer-shows (A.Certificate bytes) tells text e back = subst (IsCertificate a b) e tells
-  answer-shows (A.Limit k o) tells text e back = (
-    record { kind = k; goal = o; passed = tells.stops; written = e },
-    record { kind = k; goal = o; counted = tells.counted; written = e },
-  )
+  answer-shows (A.Limit k o) tells text e back = record { kind = k; goal = o; passed = tells; written = e }
 
   -- by the status of its report
   pub status-shows : (is_sat : Bool) (status : Status) (x : Answer) → finding_status is_sat (finding_of x) ≡ status
@@ -73,12 +71,13 @@ module _ (a b : Json) where
 
   -- where a limit is passed, it is found
 
+  passes-stopped : (x : Answer) → answer_of a b ≡ x → (p : PassLimit a b) → x ≡ A.Limit p.0 p.1
+  passes-stopped x is p =
+      sym is ∙ ap (of_decision (certificate_text (entries_read a) (entries_read b)))
+      (comparison-stopped (entries_read a) (entries_read b) p.0 p.1 p.2)
+
   passes-limited : (x : Answer) → answer_of a b ≡ x → PassLimit a b → finding_of x ≡ F.Limit
-  passes-limited x is (k, o, passes) =
-      let stopped : answer_of a b ≡ A.Limit k o =
-      ap (of_decision (certificate_text (entries_read a) (entries_read b)))
-      (comparison-stopped (entries_read a) (entries_read b) k o passes) in
-      ap finding_of (sym is ∙ stopped)
+  passes-limited x is p = ap finding_of (passes-stopped x is p)
 
   pub passes-report : (is_sat : Bool) (x : Answer) → answer_of a b ≡ x → PassLimit a b
       → finding_status is_sat (finding_of x) ≡ S.Limit
@@ -90,7 +89,7 @@ module _ (a b : Json) where
       → IsCounterexample a b text ⊎ IsCertificate a b text ⊎ IsLimit a b text
   one-shown F.Document text shows = inl shows
   one-shown F.Nothing text shows = inr (inl shows)
-  one-shown F.Limit text shows = inr (inr shows.0)
+  one-shown F.Limit text shows = inr (inr shows)
 
   pub answer-one : (x : Answer) → ValuesTell a b x → (text : List ℕ) → answer_text x ≡ text → IsReadBack x text
       → IsCounterexample a b text ⊎ IsCertificate a b text ⊎ IsLimit a b text
@@ -99,9 +98,14 @@ module _ (a b : Json) where
   pub answer-limited : (x : Answer) → answer_of a b ≡ x → ValuesTell a b x → (text : List ℕ) → answer_text x ≡ text
       → IsReadBack x text → PassLimit a b → IsLimit a b text
   answer-limited x is tells text e back passes =
-      let shows : Shows a b F.Limit text =
-      subst (λ f. Shows a b f text) (passes-limited x is passes) (answer-shows x tells text e back) in
-      shows.0
+      subst (λ f. Shows a b f text) (passes-limited x is passes) (answer-shows x tells text e back)
+
+  -- what it counts is over its number
+  pub answer-counted : (x : Answer) → answer_of a b ≡ x → ValuesTell a b x → (p : PassLimit a b)
+      → PassesCount (entries_read a) (entries_read b) p.0 p.1
+  answer-counted x is tells p =
+      let passed : IsPassed a b p.0 p.1 = subst (ValuesTell a b) (passes-stopped x is p) tells in
+      passed.counted
 
 -- ---- of one schema, against the value `false`
 

@@ -1,4 +1,4 @@
--- Where files are told: a read fault is told where a file isn't there and each before it is a schema.
+-- Where files are known: a read fault is reported where a file isn't there and each before it is a schema.
 use Rattle.std.proofs.Common.{◌≡◌, inl, inr, ℕ, ◌<◌, List, [], ◌∷◌, true, false, Option, Some, None, encode_utf8_all, refl, ap, sym, ◌∙◌, subst}
 use Rattle.documents.specs.Json.{Json}
 use Rattle.js_outside.specs.Counts.{last_count}
@@ -121,7 +121,7 @@ report-missing files (Some (Norm a)) r (o, comes, e) misses =
     ap (λ x. x.status) (sym e) ∙ ap (λ x. (listed_report x).status) (listing-missing files a o comes misses)
 report-missing files (Some (Gen f n w)) r is misses = absurd misses
 
--- a file that isn't there is told as a read fault
+-- a file that isn't there is reported as a read fault
 pub prepared-missing : (told : Option Files) (words : List (List ℕ)) (before after : ℕ) (p : Prepared)
     → PreparedSays told words before after p → MissesFile told words → (report_of p).status ≡ S.ReadFault
 prepared-missing None words before after p says misses = absurd misses
@@ -134,7 +134,7 @@ prepared-missing (Some files) words before after (Made bytes status) says misses
 answer-read_fault : (s : Status) → s ≡ S.ReadFault → is_answer s ≡ true → ⊥
 answer-read_fault s e is = let wrong : is_answer S.ReadFault ≡ true = ap is_answer (sym e) ∙ is in cc
 
--- and where the count of faults is that of names that aren't there, nothing else is told as one
+-- and where the count of faults is that of names that aren't there, nothing else is reported as one
 pub prepared-only_missing : (told : Option Files) (words : List (List ℕ)) (before after : ℕ) (p : Prepared)
     (names later : List (List ℕ)) → PreparedSays told words before after p → (report_of p).status ≡ S.ReadFault
     → BeginsInOrder told (file_names words) names later → CountsMisses told names before

@@ -32,5 +32,6 @@ module _ (ps : List Part) (i : ℕ) (last : suc i ≡ length ps) (document : is_
       })
   read-test false e = inr (record { parts = ps; read = read; number = i; last = last; is = refl })
 
+  -- what is printed of the document of part i is a text of that document
   pub IsDocumentText-found : IsDocumentText (found_text ps i) (unshared ps i)
   IsDocumentText-found = read-test (is_plain_text (measured (unshared ps i))) refl

@@ -52,7 +52,7 @@ pub record IsVerdictWritten (told : Option Files) (words : List (List ℕ)) (old
   pub verdict : judgement_of a b bytes ≡ v
   pub means : MeansVerdict a b v
 
--- where files are told: the line and the status are those of the verdict on the bytes, and it means what it says
+-- where files are known: the line and the status are those of the verdict on the bytes, and it means what it says
 pub record IsToldVerdict (a b : Json) (v : Verdict) (old new : Option (List ℕ)) (status : Status) : Type 0 where
   pub written : Appends old new (line (verdict_words v))
   pub is_status : status ≡ verdict_status v
@@ -70,8 +70,8 @@ WritesRejection told words old new =
     (k : ℕ) × (r : ℕ) × IsVerdictWritten told words old new (Rejected k r)
 
 -- The line of a rejection, and how far the certificate's file is read then, of which so much is left: where files are
--- told, what was read before the last piece has fewer whole lines than its number, and at most a batch more for several
--- workers (`IsReadTo` of `js_certificate`).
+-- known, what was read before the last piece has fewer whole lines than its number, and at most a batch more for
+-- several workers (`IsReadTo` of `js_certificate`).
 pub record IsReadToRejection (told : Option Files) (certificate : List ℕ) (workers : ℕ) (left old new : Option (List ℕ))
     : Type 0 where
   pub number : ℕ

@@ -36,7 +36,8 @@ WritesJudgement told words old new b =
     Appends old new (line (word_of b))
     × ((j : Json) × (d : Document) × AreJudged told words j d × (valid rules j d ≡ b))
 
--- where files are told: for the schema and the document that the words name the word and the status are those of validity
+-- where files are known: for the schema and the document that the words name the word and the status are those of
+-- validity
 abbrev pub WritesDecision : Option Files → List (List ℕ) → Option (List ℕ) → Option (List ℕ) → Status → Type 0
 WritesDecision None words old new status = Unit {0}
 WritesDecision (Some files) words old new status =

@@ -23,11 +23,11 @@ pub record IsNamedSchema (told : Option Files) (words : List (List ℕ)) (j : Js
 abbrev pub WritesTable : Json → Option (List ℕ) → Option (List ℕ) → Type 0
 WritesTable j old new = (text : List ℕ) × Appends old new text × IsListed j text
 
--- of the schema that the words name
+-- the table of the schema that the words name is written
 abbrev pub WritesNamedTable : Option Files → List (List ℕ) → Option (List ℕ) → Option (List ℕ) → Type 0
 WritesNamedTable told words old new = (j : Json) × IsNamedSchema told words j × WritesTable j old new
 
--- where files are told: of every schema that the words name
+-- where files are known: of every schema that the words name
 abbrev pub WritesListing : Option Files → List (List ℕ) → Option (List ℕ) → Option (List ℕ) → Status → Type 0
 WritesListing None words old new status = Unit {0}
 WritesListing (Some files) words old new status =

@@ -10,16 +10,16 @@ use Rattle.js_outside.specs.Told.{Files}
 use Rattle.js_keywords.specs.Reading.{rules}
 use Rattle.js_input.specs.FileReading.{IsSchemaFile}
 use Rattle.js_input.specs.ToldTwice.{AreFiles}
-use Rattle.js_commands.specs.Meaning.{StopsSearch, PassesCount}
+use Rattle.js_commands.specs.Meaning.{StopsSearch}
 use Rattle.js_commands.specs.ReadEntries.{entries_read}
 use Rattle.js_commands.specs.CheckOutcome.{judgement_of}
-use Rattle.js_commands.specs.IncludeMeaning.{AreSchemas, IsFirstRefusal, IsSecondRefusal}
+use Rattle.js_commands.specs.IncludeMeaning.{AreSchemas, IsPassed, IsFirstRefusal, IsSecondRefusal}
 use Rattle.js_top.specs.Names.{compared_names, sat_name}
 use Rattle.js_top.specs.Printed.{IsDocumentText}
 use Rattle.js_top.specs.Report.{limit_line}
 use Rattle.js_report.specs.Lines.{line}
 
--- ---- of two schemas
+-- ---- what is written of two schemas
 
 -- a document that is valid for the first schema and not for the second, as text
 pub record IsCounterexample (a b : Json) (text : List ℕ) : Type 0 where
@@ -31,19 +31,12 @@ pub record IsCounterexample (a b : Json) (text : List ℕ) : Type 0 where
 abbrev pub Passes : Json → Json → LimitKind → Option (List Signed) → Type 0
 Passes a b k o = StopsSearch (entries_read a) (entries_read b) k o
 
--- the line of a limit that is passed
+-- the line of a limit that is passed, and what this counts is over its number, in the table of both schemas: at the
+-- goal that is reported, or where none is reported of all goals that were explored
 pub record IsLimit (a b : Json) (text : List ℕ) : Type 0 where
   pub kind : LimitKind
   pub goal : Option (List Signed)
-  pub passed : Passes a b kind goal
-  pub written : limit_line kind goal ≡ text
-
--- the line of a limit whose count is over its number, in the table of both schemas: at the goal that is told, or where
--- none is told of all goals that were explored
-pub record IsCountedLimit (a b : Json) (text : List ℕ) : Type 0 where
-  pub kind : LimitKind
-  pub goal : Option (List Signed)
-  pub counted : PassesCount (entries_read a) (entries_read b) kind goal
+  pub passed : IsPassed a b kind goal
   pub written : limit_line kind goal ≡ text
 
 -- the words name schemas, with these values; of `sat` the second value is `false`
@@ -53,7 +46,7 @@ pub record AreNamed (told : Option Files) (words : List (List ℕ)) (a b : Json)
   pub named : compared_names words ≡ Some (first, second)
   pub are : AreSchemas told first second a b
 
--- a fact of the schemas that the words name, where the files are told
+-- a fact of the schemas that the words name, where the files are known
 abbrev pub WhereTold : Option Files → List (List ℕ) → (Json → Json → Type 0) → Type 0
 WhereTold None words P = Unit {0}
 WhereTold (Some files) words P = (a b : Json) → AreNamed (Some files) words a b → P a b
@@ -62,7 +55,7 @@ WhereTold (Some files) words P = (a b : Json) → AreNamed (Some files) words a 
 abbrev pub PassLimit : Json → Json → Type 0
 PassLimit a b = (k : LimitKind) × (o : Option (List Signed)) × Passes a b k o
 
--- ---- of a schema that `sat` names
+-- ---- what is written of a schema that `sat` names
 
 -- the words name a schema, with this value
 pub record IsAsked (told : Option Files) (words : List (List ℕ)) (a : Json) : Type 0 where

@@ -151,7 +151,7 @@ files_of None = []
 abbrev pub file_names : List (List ℕ) → List (List ℕ)
 file_names words = files_of (command words)
 
--- files are told, one that the words name isn't there, and each before it is a schema
+-- files are known, one that the words name isn't there, and each before it is a schema
 abbrev pub MissesFile : Option Files → List (List ℕ) → Type 0
 MissesFile None words = ⊥
 MissesFile (Some files) words = Misses files (file_names words)

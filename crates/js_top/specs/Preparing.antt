@@ -73,18 +73,18 @@ PreparedSays told words before after (P.Made bytes status) =
     × IsReport told words (record { text = bytes.items; status = status })
     × IsSome (command words)
 
--- the same of a report and of counts of which facts hold
+-- what is prepared says of a report and of counts that these facts hold
 abbrev pub ReportSaysBy : (Status → ℕ → ℕ → Type 0) → (Report → Type 0) → ℕ → ℕ → Prepared → Type 0
 ReportSaysBy counts is before after P.Usage = ⊥
 ReportSaysBy counts is before after P.ReadFault = Rose before after
 ReportSaysBy counts is before after (P.Made bytes status) =
     counts status before after × (is_answer status ≡ true) × is (record { text = bytes.items; status = status })
 
--- of counts that are the same
+-- what is prepared says of a report that this fact holds, and the counts are as before
 abbrev pub ReportSays : (Report → Type 0) → ℕ → ℕ → Prepared → Type 0
 ReportSays = ReportSaysBy AsBefore
 
--- where a report tells of a rejected line of a certificate, so far is its file read
+-- where a report names a rejected line of a certificate, so far is its file read
 abbrev pub IsReadToReport : Option Files → (certificate : List ℕ) → (workers : ℕ) → (left : Option (List ℕ)) → Report
     → Type 0
 IsReadToReport told certificate workers left r =
@@ -100,28 +100,29 @@ IsReadOf told (Some (Check a b c w)) left r = IsReadToReport told c w left r
 IsReadOf told (Some (Norm a)) left r = Unit {0}
 IsReadOf told (Some (Gen f n w)) left r = Unit {0}
 
--- Where a report tells of a failed read and all three files were begun, from those before to those after, or of a
--- certificate with too many bytes, no whole line that was read before is rejected.
-abbrev pub IsUnrejectedReport : Option Files → (first second certificate : List ℕ) → (left : Option (List ℕ))
-    → (before after : List (List ℕ)) → Report → Type 0
-IsUnrejectedReport told first second certificate left before after r =
+-- Where a report tells of a failed read, all three files were begun, from those before to those after, and the last one
+-- still is, or of a certificate with too many bytes, no whole line that was read before is rejected.
+abbrev pub IsUnrejectedReport : Option Files → (first second certificate : List ℕ) → (is_begun : Bool)
+    → (left : Option (List ℕ)) → (before after : List (List ℕ)) → Report → Type 0
+IsUnrejectedReport told first second certificate is_begun left before after r =
     (r.status ≡ S.ReadFault
     → after ≡ before ++ (encode_utf8_all first ∷ encode_utf8_all second ∷ encode_utf8_all certificate ∷ [])
-    → IsFaultUnrejected told first second certificate left)
+    → is_begun ≡ true → IsFaultUnrejected told first second certificate left)
     × (r.status ≡ S.Refused → r.text ≡ line (codes "refused certificate toolong")
     → IsTooLongUnrejected told first second certificate left)
 
-abbrev pub IsUnrejectedOf : Option Files → Option Command → (left : Option (List ℕ)) → (before after : List (List ℕ))
-    → Report → Type 0
-IsUnrejectedOf told None left before after r = Unit {0}
-IsUnrejectedOf told (Some (Sat a w)) left before after r = Unit {0}
-IsUnrejectedOf told (Some (Include a b w)) left before after r = Unit {0}
-IsUnrejectedOf told (Some (Valid a d)) left before after r = Unit {0}
-IsUnrejectedOf told (Some (Check a b c w)) left before after r = IsUnrejectedReport told a b c left before after r
-IsUnrejectedOf told (Some (Norm a)) left before after r = Unit {0}
-IsUnrejectedOf told (Some (Gen f n w)) left before after r = Unit {0}
+abbrev pub IsUnrejectedOf : Option Files → Option Command → (is_begun : Bool) → (left : Option (List ℕ))
+    → (before after : List (List ℕ)) → Report → Type 0
+IsUnrejectedOf told None is_begun left before after r = Unit {0}
+IsUnrejectedOf told (Some (Sat a w)) is_begun left before after r = Unit {0}
+IsUnrejectedOf told (Some (Include a b w)) is_begun left before after r = Unit {0}
+IsUnrejectedOf told (Some (Valid a d)) is_begun left before after r = Unit {0}
+IsUnrejectedOf told (Some (Check a b c w)) is_begun left before after r =
+    IsUnrejectedReport told a b c is_begun left before after r
+IsUnrejectedOf told (Some (Norm a)) is_begun left before after r = Unit {0}
+IsUnrejectedOf told (Some (Gen f n w)) is_begun left before after r = Unit {0}
 
--- no file that couldn't be read is told
+-- no file that couldn't be read is reported
 abbrev pub IsNoReadFault : Prepared → Type 0
 IsNoReadFault P.ReadFault = ⊥
 IsNoReadFault _ = Unit {0}

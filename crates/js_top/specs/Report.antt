@@ -60,7 +60,7 @@ abbrev pub goal_text : Option (List Signed) → List ℕ
 goal_text None = []
 goal_text (Some g) = list_text signed_text g
 
--- the line of a limit, with the goal that passes it; a limit on all goals stands alone
+-- the line of a limit, with the goal that passes it; a limit on all goals comes alone
 abbrev pub limit_line : LimitKind → Option (List Signed) → List ℕ
 limit_line k o = line (codes "limit " ++ limit_word k ++ goal_text o)
 
@@ -103,7 +103,7 @@ abbrev pub IsOutcomeReadBack : C.Outcome → List ℕ → Type 0
 IsOutcomeReadBack (C.Decided x) text = IsReadBack x text
 IsOutcomeReadBack _ text = Unit {0}
 
--- with what the files come to stands what that means; `sat` has no second file
+-- with what the files come to is what that means; `sat` has no second file
 abbrev pub IsComparedReport : Option Files → List ℕ → Option (List ℕ) → Report → Type 0
 IsComparedReport told a second r =
     (o : C.Outcome) × IsComparison told a second o × MeansFor told a second o × IsOutcomeReadBack o r.text
@@ -131,7 +131,7 @@ checked_report (K.SecondRefused words) = printed (codes "refused " ++ codes "sec
 checked_report K.TooLong = printed (codes "refused certificate toolong") S.Refused
 checked_report K.ReadFault = printed (codes "readfault") S.ReadFault
 
--- with what the files come to stands what that means
+-- with what the files come to is what that means
 abbrev pub IsCheckReport : Option Files → (first second certificate : List ℕ) → Report → Type 0
 IsCheckReport told a b c r =
     (o : K.Outcome) × IsChecking told a b c o × KM.MeansFor told a b c o × (checked_report o ≡ r)
@@ -147,7 +147,7 @@ IsNormReport told a r = (o : N.Outcome) × IsListing told a o × (listed_report 
 
 -- ---- `gen`
 
--- how many goals a certificate lists: what stands behind the line `certificate 1` and the word `goals` up to the line's
+-- how many goals a certificate lists: what comes behind the line `certificate 1` and the word `goals` up to the line's
 -- end
 abbrev pub listed_goals : List ℕ → List ℕ
 listed_goals bytes = before_first (nat_eq 10) (drop (length (codes "certificate 1\ngoals ")) bytes)
@@ -167,7 +167,7 @@ generated_line f n = line (codes "generated " ++ family_word f ++ 32 ∷ decimal
 abbrev pub counts_text : (goals rounds : ℕ) → List ℕ
 counts_text goals rounds = line (codes "goals " ++ decimal goals) ++ line (codes "rounds " ++ decimal rounds)
 
--- with what `include` would print; the line of a limit stands alone
+-- with what `include` would print; the line of a limit comes alone
 abbrev pub findings_text : Answer → (goals rounds : ℕ) → List ℕ
 findings_text (C.Document ps i) goals rounds = counts_text goals rounds ++ line (document_words ps i)
 findings_text (C.Certificate bytes) goals rounds = counts_text goals rounds ++ line (certificate_words bytes)
@@ -180,7 +180,7 @@ generated_report f n (G.Decided x goals rounds) =
 generated_report f n (G.FirstRefused words) = printed (codes "refused " ++ codes "first" ++ 32 ∷ words) S.Refused
 generated_report f n (G.SecondRefused words) = printed (codes "refused " ++ codes "second" ++ 32 ∷ words) S.Refused
 
--- with what the family's schemas come to stands what that means
+-- with what the family's schemas come to is what that means
 abbrev pub IsGenReport : Family → ℕ → Report → Type 0
 IsGenReport f n r = (o : G.Outcome) × IsFamilyInclusion f n o × GM.MeansFor f n o × (generated_report f n o ≡ r)
 

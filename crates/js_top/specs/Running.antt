@@ -11,8 +11,8 @@ use Rattle.js_top.specs.Meaning.{AreNamed, IsAsked, IsRefusal}
 use Rattle.js_top.specs.declared.status.Status.{Status}
 use Rattle.js_top.specs.declared.status.Status.TheVariants.{Other, ReadFault, Memory}
 
--- a fault of reading is told. But `check` by several workers judges the lines that wait before it, so a rejection may
--- be told, or that memory was refused
+-- a fault of reading is reported. But `check` by several workers judges the lines that wait before it, so a rejection
+-- may be reported, or that memory was refused
 abbrev pub IsReadNoticed : List (List ℕ) → Status → Type 0
 IsReadNoticed words status = (status ≡ ReadFault) ⊎ (IsCheckBySeveral words × ((status ≡ Other) ⊎ (status ≡ Memory)))
 

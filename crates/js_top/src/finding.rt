@@ -18,10 +18,10 @@ pub(crate) enum Finding {
     /// A document that is valid for the first schema and not for the second.
     Document,
 
-    /// That there is none.
+    /// There is no such document.
     Nothing,
 
-    /// Neither, since a limit was passed.
+    /// Whether there is one isn't known, since a limit was passed.
     Limit,
 }
 

@@ -18,9 +18,9 @@ use js_par::OpenGate;
 use std::alloc::Global;
 use std::thread::Threads;
 
-/// As [`run`], over these files: with every status but those of faults, what is written and the status are the report of
-/// the files. A read fault is told exactly where a file that the words name isn't there and each before it is a schema,
-/// unless memory is refused or the report can't be written.
+/// As [`run`], over these files: with every status but those of faults, what is written and the status are the report
+/// of the files. A read fault is reported exactly where a file that the words name isn't there and each before it is a
+/// schema, unless memory is refused or the report can't be written.
 pub fn run_in_memory<R: Threads + Sync, K: Sink>(
     rt: &R,
     alloc: Global,

@@ -82,7 +82,7 @@ pub(crate) enum Prepared {
     /// A file couldn't be read.
     ReadFault,
 
-    /// Any other report.
+    /// The bytes of a report, and its status.
     Made(Vec<u8>, Status),
 }
 
@@ -121,8 +121,8 @@ pub(crate) fn prepare<R: Threads + Sync, G: Gate + Sync, H: Shelf>(
     ensures memory { OnErr result (CountsRefused (command words.now) (H.faults shelf.old) (H.faults shelf.new)) }
     ensures read { IfOk result (λ p. IsReadOf (H.told shelf.old) (command words.now) (H.left shelf.new)
         (report_of p)) }
-    ensures unrejected { IfOk result (λ p. IsUnrejectedOf (H.told shelf.old) (command words.now) (H.left shelf.new)
-        (H.begun shelf.old) (H.begun shelf.new) (report_of p)) }
+    ensures unrejected { IfOk result (λ p. IsUnrejectedOf (H.told shelf.old) (command words.now)
+        (H.is_begun shelf.new) (H.left shelf.new) (H.begun shelf.old) (H.begun shelf.new) (report_of p)) }
     ensures plain { IfOk result (λ x. (p : Plain) → is_plain p ≡ true → words.now ≡ words_of p
         → command words.now ≡ Some (meant p)) }
     ensures fileless { file_names words.now ≡ [] → H.faults shelf.new ≡ H.faults shelf.old }
@@ -154,7 +154,7 @@ fn prepare_command<R: Threads + Sync, G: Gate + Sync, H: Shelf>(
     ensures read { IfOk result (λ p. IsReadOf (H.told shelf.old) (Some (command_view command.now)) (H.left shelf.new)
         (report_of p)) }
     ensures unrejected { IfOk result (λ p. IsUnrejectedOf (H.told shelf.old) (Some (command_view command.now))
-        (H.left shelf.new) (H.begun shelf.old) (H.begun shelf.new) (report_of p)) }
+        (H.is_begun shelf.new) (H.left shelf.new) (H.begun shelf.old) (H.begun shelf.new) (report_of p)) }
     ensures fileless { files_of (Some (command_view command.now)) ≡ [] → H.faults shelf.new ≡ H.faults shelf.old }
     ensures made { files_of (Some (command_view command.now)) ≡ [] → IfOk result IsNoReadFault }
     ensures begun { BeginsInOrder (H.told shelf.old) (files_of (Some (command_view command.now)))
@@ -247,7 +247,7 @@ fn prepare_check<R: Threads + Sync, G: Gate + Sync, H: Shelf>(
     ensures read { IfOk result (λ p. IsReadToReport (H.told shelf.old) certificate.now workers.now.count
         (H.left shelf.new) (report_of p)) }
     ensures unrejected { IfOk result (λ p. IsUnrejectedReport (H.told shelf.old) first.now second.now certificate.now
-        (H.left shelf.new) (H.begun shelf.old) (H.begun shelf.new) (report_of p)) }
+        (H.is_begun shelf.new) (H.left shelf.new) (H.begun shelf.old) (H.begun shelf.new) (report_of p)) }
     ensures begun { BeginsInOrder (H.told shelf.old)
         (encode_utf8_all first.now ∷ encode_utf8_all second.now ∷ encode_utf8_all certificate.now ∷ [])
         (H.begun shelf.old) (H.begun shelf.new) }
@@ -323,7 +323,7 @@ fn refused(alloc: Global, role: &str, words: String) -> Result<Prepared, Memory>
     Ok(Prepared::Made(text.into_bytes(), Status::Refused))
 }
 
-/// Without a second file a document is asked for.
+/// Without a second file a document is looked for.
 fn is_sat(second: Option<&Str>) -> bool
     ensures { result ≡ is_none (option_map (λ s. s.now) second.entry) }
 {

@@ -17,7 +17,7 @@ use js_gen::GenKind;
 use js_text::Measures;
 use std::alloc::Global;
 
-/// What stands before the number of listed goals in a certificate.
+/// What comes before the number of listed goals in a certificate.
 const HEAD: &str = "certificate 1\ngoals ";
 
 /// The summary of what a family's schemas come to, and what it shows.
@@ -109,7 +109,7 @@ fn listed_goals(certificate: &[u8]) -> &[u8]
     }
 }
 
-/// What stands before the end of the first line.
+/// What comes before the end of the first line.
 fn line_of(text: &[u8]) -> &[u8]
     ensures { result.now ≡ before_first (nat_eq 10) text.now }
 {

@@ -18,7 +18,7 @@ ghost use Rattle.js_top.specs.Generating.{WritesSummary};
 ghost use Rattle.js_top.specs.Listing.{WritesNamedTable, WritesListing, WritesNormRefusal};
 ghost use Rattle.js_report.specs.Lines.{line};
 ghost use Rattle.js_top.specs.Running.{IsReadNoticed, WritesPart, WritesReport, WritesMeaning, WritesAsked, WritesRefusal};
-ghost use Rattle.js_top.specs.Meaning.{IsCounterexample, IsWitness, IsRefutation, IsLimit, IsCountedLimit, PassLimit, WhereTold};
+ghost use Rattle.js_top.specs.Meaning.{IsCounterexample, IsWitness, IsRefutation, IsLimit, PassLimit, WhereTold};
 
 use crate::prepare::prepare;
 use crate::status::Status;
@@ -43,17 +43,17 @@ pub fn run<R: Threads + Sync, G: Gate + Sync, H: Shelf, K: Sink>(
     shelf: &mut H,
     sink: &mut K,
 ) -> Status
-    // The headline, where files are told, no fault is counted and memory suffices.
+    // The headline, where files are known, no fault is counted and memory suffices.
     ensures headline { Stays (H.faults shelf.old) (H.faults shelf.new) → Stays (K.faults sink.old) (K.faults sink.new)
         → result ≢ Status.Memory
         → IsCorrect (H.told shelf.old) words.now (K.written sink.old) (K.written sink.new) result }
 
-    // A status tells of a fault only where its count rose, and of other words only for them.
+    // A status reports a fault only where its count rose, and of other words only for them.
     ensures read_fault { result ≡ Status.ReadFault → Rose (H.faults shelf.old) (H.faults shelf.new) }
     ensures write_fault { result ≡ Status.WriteFault → Rose (K.faults sink.old) (K.faults sink.new) }
     ensures usage { result ≡ Status.Usage → command words.now ≡ None }
 
-    // Other words are told to be other words, unless memory is refused or the writing failed; plain words are the
+    // Other words are reported to be other words, unless memory is refused or the writing failed; plain words are the
     // command that they mean. No fault of reading is counted where the words name no file.
     ensures other_words { command words.now ≡ None → result ≢ Status.WriteFault → result ≢ Status.Memory
         → result ≡ Status.Usage }
@@ -61,7 +61,7 @@ pub fn run<R: Threads + Sync, G: Gate + Sync, H: Shelf, K: Sink>(
         → command words.now ≡ Some (meant p) }
     ensures no_read_fault { file_names words.now ≡ [] → H.faults shelf.new ≡ H.faults shelf.old }
 
-    // A count that rose is told. Only `check` by several workers judges lines that came before a failed read first:
+    // A count that rose is reported. Only `check` by several workers judges lines that came before a failed read first:
     // with one no line waits.
     ensures write_noticed { K.faults sink.old < K.faults sink.new → result ≡ Status.WriteFault }
     ensures read_noticed { H.faults shelf.old < H.faults shelf.new → Stays (K.faults sink.old) (K.faults sink.new)
@@ -85,18 +85,14 @@ pub fn run<R: Threads + Sync, G: Gate + Sync, H: Shelf, K: Sink>(
     ensures refusal { result ≡ Status.Refused → IsCompared words.now
         → WritesRefusal (H.told shelf.old) words.now (K.written sink.old) (K.written sink.new) }
 
-    // And for two schemas that are read this means:
+    // And for two schemas that are read this means, of a limit also that what the kind that is reported counts is over
+    // its number: at the goal that is reported with it, or else of all goals that were explored.
     ensures document { result ≡ Status.Other → IsInclude words.now
         → WritesMeaning (H.told shelf.old) words.now (K.written sink.old) (K.written sink.new) IsCounterexample }
     ensures inclusion { result ≡ Status.Done → IsInclude words.now
         → WritesMeaning (H.told shelf.old) words.now (K.written sink.old) (K.written sink.new) IsCertificate }
     ensures limit { result ≡ Status.Limit → (IsGen words.now → ⊥)
         → WritesMeaning (H.told shelf.old) words.now (K.written sink.old) (K.written sink.new) IsLimit }
-
-    // The kind that is told is one whose count is over its number: at the goal that is told with it, or else of all
-    // goals that were explored.
-    ensures counted { result ≡ Status.Limit → (IsGen words.now → ⊥)
-        → WritesMeaning (H.told shelf.old) words.now (K.written sink.old) (K.written sink.new) IsCountedLimit }
 
     // For the schema of `sat` it means: a document that is valid for it, or that no document with
     // whole numbers is.
@@ -109,13 +105,13 @@ pub fn run<R: Threads + Sync, G: Gate + Sync, H: Shelf, K: Sink>(
     ensures limited { result ≢ Status.ReadFault → result ≢ Status.WriteFault → result ≢ Status.Memory
         → WhereTold (H.told shelf.old) words.now (λ a b. PassLimit a b → result ≡ Status.Limit) }
 
-    // The headline of `valid`: where files are told, no fault is counted and memory suffices, the word is `valid` exactly
-    // where the document is valid for the schema, and else `invalid`.
+    // The headline of `valid`: where files are known, no fault is counted and memory suffices, the word is `valid`
+    // exactly where the document is valid for the schema, and else `invalid`.
     ensures decided { Stays (H.faults shelf.old) (H.faults shelf.new) → Stays (K.faults sink.old) (K.faults sink.new)
         → result ≢ Status.Memory
         → WritesDecision (H.told shelf.old) words.now (K.written sink.old) (K.written sink.new) result }
 
-    // The same status by status, whatever the shelf tells.
+    // The same status by status, whatever is known of the shelf.
     ensures valid { result ≡ Status.Done → IsValid words.now
         → WritesJudgement (H.told shelf.old) words.now (K.written sink.old) (K.written sink.new) true }
     ensures invalid { result ≡ Status.Other → IsValid words.now
@@ -123,7 +119,7 @@ pub fn run<R: Threads + Sync, G: Gate + Sync, H: Shelf, K: Sink>(
     ensures valid_refusal { result ≡ Status.Refused → IsValid words.now
         → WritesJudgedRefusal (H.told shelf.old) words.now (K.written sink.old) (K.written sink.new) }
 
-    // What `check` writes, status by status, whatever the shelf tells.
+    // What `check` writes, status by status, whatever is known of the shelf.
     ensures check_accepted { result ≡ Status.Done → IsCheck words.now
         → IsVerdictWritten (H.told shelf.old) words.now (K.written sink.old) (K.written sink.new) Accepted }
     ensures check_rejected { result ≡ Status.Other → IsCheck words.now
@@ -138,21 +134,21 @@ pub fn run<R: Threads + Sync, G: Gate + Sync, H: Shelf, K: Sink>(
 
     // Where `check` ends with a failed read of the certificate, or as the certificate has too many bytes, no whole line
     // that was read before is rejected, for every number of workers. A read fault is the certificate's where all three
-    // files were begun.
+    // files were begun, and a read of it failed where it is begun still.
     ensures fault_unrejected { result ≡ Status.ReadFault
-        → H.begun shelf.new ≡ H.begun shelf.old ++ file_names words.now
+        → H.begun shelf.new ≡ H.begun shelf.old ++ file_names words.now → H.is_begun shelf.new ≡ true
         → IsReadFaultUnrejected (H.told shelf.old) words.now (H.left shelf.new) }
     ensures refusal_unrejected { result ≡ Status.Refused
         → IsRefusalUnrejected (H.told shelf.old) words.now (H.left shelf.new) (K.written sink.old)
         (K.written sink.new) }
 
-    // The headline of `norm`: where files are told, no fault is counted and memory suffices, a schema gets the text of
+    // The headline of `norm`: where files are known, no fault is counted and memory suffices, a schema gets the text of
     // its core table, of which position 0 holds exactly of the documents that are valid for it.
     ensures listed { Stays (H.faults shelf.old) (H.faults shelf.new) → Stays (K.faults sink.old) (K.faults sink.new)
         → result ≢ Status.Memory
         → WritesListing (H.told shelf.old) words.now (K.written sink.old) (K.written sink.new) result }
 
-    // The same status by status, whatever the shelf tells.
+    // The same status by status, whatever is known of the shelf.
     ensures table { result ≡ Status.Done → IsNorm words.now
         → WritesNamedTable (H.told shelf.old) words.now (K.written sink.old) (K.written sink.new) }
     ensures norm_refusal { result ≡ Status.Refused → IsNorm words.now
@@ -166,8 +162,8 @@ pub fn run<R: Threads + Sync, G: Gate + Sync, H: Shelf, K: Sink>(
     // other is begun.
     ensures begun { BeginsInOrder (H.told shelf.old) (file_names words.now) (H.begun shelf.old) (H.begun shelf.new) }
 
-    // Where files are told, one that isn't there is told as a read fault, if each before it is a schema. Where the count
-    // of faults is that of the names begun that aren't there, as over files in memory, nothing else is.
+    // Where files are known, one that isn't there is reported as a read fault, if each before it is a schema. Where the
+    // count of faults is that of the names begun that aren't there, as over files in memory, nothing else is.
     ensures missing { result ≢ Status.WriteFault → result ≢ Status.Memory → MissesFile (H.told shelf.old) words.now
         → result ≡ Status.ReadFault }
     ensures only_missing { result ≡ Status.ReadFault
@@ -175,7 +171,7 @@ pub fn run<R: Threads + Sync, G: Gate + Sync, H: Shelf, K: Sink>(
         → CountsMisses (H.told shelf.old) (H.begun shelf.new) (H.faults shelf.new)
         → H.faults shelf.old < last_count → MissesFile (H.told shelf.old) words.now }
 
-    // The files that the shelf tells are the same after the call.
+    // The files of the shelf that are known are the same after the call.
     ensures told { H.told shelf.new ≡ H.told shelf.old }
 {
     match prepare(rt, alloc, words, gate, shelf) {

@@ -1,4 +1,4 @@
--- The entries that are asked: what is pending has lesser places as it goes, and what an entry names in place comes to
+-- The entries that are applied: what is pending has lesser places as it goes, and what an entry names in place comes to
 -- one of the lists. So verdicts that are taken from the end of the list are right.
 use Rattle.std.proofs.Common.{◌≡◌, ℕ, zero, suc, max, ◌-◌, ◌<◌, ◌≤◌, ◌⊎◌, inl, inr, List, [], ◌∷◌, ◌++◌, map, drop, length, get_or, Bool, true, false, ◌||◌, ◌&&◌, nat_eq, nat_lt, if◌then◌else◌, refl, sym, ap, subst, ◌∙◌, arith, true≢false}
 use Rattle.std.proofs.lemmas.Bool.{and_parts, and_from, or_cases, eqb-true, eq-eqb, cases_lt, lt-ltb, le-ltb, ltb-true}
@@ -157,7 +157,7 @@ module _ (es : List Entry) (p : Plan) (planned : IsPlanned es p) (J : Document) 
         (h (get_or p.places.items q 0) ∙ placed-at p.places.items wanted q w));
   }
 
-  -- nothing stands beyond the order
+  -- nothing is beyond the order
   pub ahead-past : (wanted mid : List ℕ) (k : ℕ) (a : Asked) → length p.order.items ≤ k
       → Ahead es J p wanted (mid ++ k ∷ []) a → Ahead es J p wanted mid a
   ahead-past wanted mid k a far h = record {
@@ -188,7 +188,7 @@ module _ (es : List Entry) (p : Plan) (planned : IsPlanned es p) (J : Document) 
     | inr same ↦ inr (ap (λ x. get_or p.order.items x 0) same ∙ (planned.places q l).1)
   ]
 
-  -- an entry that stands
+  -- an entry that stands by itself
   pub ahead-stands : (wanted mid after : List ℕ) (k : ℕ) (a b : Asked) → k < length p.order.items
       → stands matches (form_at es (get_or p.order.items k 0)) J ≡ true
       → Takes true (get_or p.order.items k 0) (placed p.places.items (in_place (form_at es (get_or p.order.items k 0))))
@@ -234,7 +234,7 @@ module _ (es : List Entry) (p : Plan) (planned : IsPlanned es p) (J : Document) 
         ]
       ]
 
-  -- one that doesn't
+  -- one that doesn't stand by itself falls, and leads to no other
   pub ahead-falls : (wanted mid after : List ℕ) (k : ℕ) (a b : Asked)
       → stands matches (form_at es (get_or p.order.items k 0)) J ≡ false
       → Takes false (get_or p.order.items k 0)
@@ -267,7 +267,7 @@ module _ (es : List Entry) (p : Plan) (planned : IsPlanned es p) (J : Document) 
         ]
       ]
 
-  -- by whether it stands
+  -- by whether it stands by itself
   pub ahead-more : (st : Bool) (wanted mid after : List ℕ) (k : ℕ) (a b : Asked) → k < length p.order.items
       → stands matches (form_at es (get_or p.order.items k 0)) J ≡ st
       → Takes st (get_or p.order.items k 0) (placed p.places.items (in_place (form_at es (get_or p.order.items k 0))))
@@ -276,7 +276,7 @@ module _ (es : List Entry) (p : Plan) (planned : IsPlanned es p) (J : Document) 
   ahead-more true wanted mid after k a b less st takes h = ahead-stands wanted mid after k a b less st takes h
   ahead-more false wanted mid after k a b less st takes h = ahead-falls wanted mid after k a b st takes h
 
-  -- what is named in place stands before
+  -- what is named in place comes before
   place-falls : (k q : ℕ) → k < length p.order.items
       → is_at q (in_place (form_at es (get_or p.order.items k 0))) ≡ true → get_or p.places.items q 0 < k
   place-falls k q less t =

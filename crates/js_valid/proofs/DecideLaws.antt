@@ -1,18 +1,22 @@
 -- What is known of all parts is what the form asks of them.
-use Rattle.std.proofs.Common.{◌≡◌, ℕ, zero, suc, ◌+◌, ◌<◌, ◌≤◌, List, [], ◌∷◌, ◌++◌, map, take, drop, drop-cons, add-one, length, get_or, Bool, true, false, ◌||◌, ◌&&◌, not, cond, nat_eq, Option, Some, None, refl, sym, ap, ◌∙◌, arith, true≢false}
+use Rattle.std.proofs.Common.{◌≡◌, ℕ, zero, suc, ◌+◌, ◌<◌, ◌≤◌, List, [], ◌∷◌, ◌++◌, map, take, drop, drop-cons, add-one, length, get_or, Bool, true, false, ◌||◌, ◌&&◌, not, cond, Option, Some, None, refl, sym, ap, ◌∙◌, arith, true≢false}
+use Rattle.std.proofs.lemmas.List.{length-append, length-drop, length-map, length-take, map-append}
 use Rattle.documents.specs.Tests.{every, some, same_word}
 use Rattle.documents.specs.Document.{Document, null, boolean, number, string, array, object, Items, Members, elements, entries}
 use Rattle.documents.specs.Measures.{meets_in_order, every_in}
 use Rattle.schemas.specs.Entry.{Form, Always, Never, Ref, Asks, ItemsPart, Each, Listed, Keywords}
 use Rattle.schemas.specs.Schema.{lists, meets, one}
+use Rattle.list_laws.proofs.Tests.{same_word_comm}
 use Rattle.draft06.specs.Names.{keys, is_additional}
 use Rattle.draft06.specs.EntryValidity.{items_ask, rest_asks}
 use Rattle.js_valid.specs.Parts.{parts, parts_array, parts_object, asked_by, answered, of_listed, of_items_part, of_element, of_contains, of_named, of_names, or_else, of_member, of_name}
 use Rattle.js_match.specs.Matching.{matches}
-use Rattle.js_valid.specs.Requests.{each_at, contained, parts_list, parts_members}
+use Rattle.js_valid.specs.Requests.{each_at, contained, entries_in, parts_list, parts_members}
+use Rattle.js_valid.specs.declared.request.Request.{Request}
 use Rattle.js_valid.proofs.PartsLaws.{both, every-append, every-named}
 use Rattle.js_valid.specs.Plain.{is_scalar}
-use Rattle.js_valid.proofs.RequestLaws.{answered-asked}
+use Rattle.js_valid.proofs.RequestLaws.{answered-asked, entries-long}
+use Rattle.js_valid.proofs.TestLaws.{every-alike}
 
 and_true : (a : Bool) → (a && true) ≡ a
 and_true true = refl
@@ -29,10 +33,6 @@ and_assoc false b c = refl
 every-always : {A : Type 0} (xs : List A) → every (λ (x : A). true) xs ≡ true
 every-always [] = refl
 every-always (x ∷ xs) = every-always xs
-
-every-alike : {A : Type 0} (p q : A → Bool) (xs : List A) → ((x : A) → p x ≡ q x) → every p xs ≡ every q xs
-every-alike p q [] h = refl
-every-alike p q (x ∷ xs) h = both (h x) (every-alike p q xs h)
 
 every-two : {A : Type 0} (p q : A → Bool) (xs : List A) → every (λ x. p x && q x) xs ≡ (every p xs && every q xs)
 every-two p q [] = refl
@@ -103,15 +103,6 @@ module _ (below : ℕ → Document → Bool) where
   no_entries [] = true
   no_entries (q ∷ qs) = false
 
-  word-turned : (v w : List ℕ) → same_word v w ≡ same_word w v
-  word-turned [] [] = refl
-  word-turned [] (y ∷ ys) = refl
-  word-turned (x ∷ xs) [] = refl
-  word-turned (x ∷ xs) (y ∷ ys) = both (turned x y) (word-turned xs ys)
-    where
-      turned : (x y : ℕ) → nat_eq x y ≡ nat_eq y x
-      turned x y = grind arith
-
   no-append : (xs ys : List ℕ) → no_entries (xs ++ ys) ≡ (no_entries xs && no_entries ys)
   no-append [] ys = refl
   no-append (x ∷ xs) ys = refl
@@ -140,7 +131,7 @@ module _ (below : ℕ → Document → Bool) where
   additional-ask k w d = go (of_names matches k w) (is_additional matches (keys k.properties)
       (keys k.pattern_properties) w)
       k.additional_properties
-      (both (no-named-in (λ n. same_word n w) (same_word w) (λ n. word-turned w n) k.properties)
+      (both (no-named-in (λ n. same_word n w) (same_word w) (λ n. same_word_comm w n) k.properties)
       (no-named-in (λ t. matches t w) (λ t. matches t w) (λ t. refl) k.pattern_properties)
       ∙ sym (no-append (lists (of_named (λ n. same_word n w)) k.properties)
       (lists (of_named (λ t. matches t w)) k.pattern_properties)))
@@ -279,10 +270,6 @@ pub end_every : {A B : Type 0} (see : A → B) (test : B → Bool) (items : List
 end_every see test items i a whole le h =
     sym (and_true a) ∙ ap (λ xs. a && every test (map see xs)) (sym (nothing_left items i le)) ∙ h
 
-pub map-append : {A B : Type 0} (f : A → B) (xs ys : List A) → map f (xs ++ ys) ≡ map f xs ++ map f ys
-map-append f [] ys = refl
-map-append f (x ∷ xs) ys = ap (λ zs. f x ∷ zs) (map-append f xs ys)
-
 pub map-twice : {A B C : Type 0} (g : B → C) (f : A → B) (xs : List A) → map g (map f xs) ≡ map (λ x. g (f x)) xs
 map-twice g f [] = refl
 map-twice g f (x ∷ xs) = ap (λ zs. g (f x) ∷ zs) (map-twice g f xs)
@@ -322,6 +309,32 @@ back-asked e p os qs rs all answers second ea eb ec =
 pub answers-asked : (e : ℕ) (p : ℕ → Bool) (os qs : List ℕ) (answers : List Bool) → answers ≡ map p qs
     → answered e os answers ≡ asked_by e p os qs
 answers-asked e p os qs answers h = ap (answered e os) h ∙ answered-asked e p os qs
+
+-- an answer for each request
+pub answers-long : (rs : List Request) (p : ℕ → Bool) (answers : List Bool) → answers ≡ map p (entries_in rs)
+    → length rs ≡ length answers
+answers-long rs p answers h = sym (ap length h ∙ length-map (entries_in rs) p ∙ entries-long rs)
+
+pub front-long : (rs cs : List Request) (p : ℕ → Bool) (all : List ℕ) (answers first : List Bool)
+    → all ≡ entries_in rs ++ entries_in cs → answers ≡ map p all → first ≡ take (length rs) answers
+    → length rs ≡ length first
+front-long rs cs p all answers first ea eb ec =
+    let a = ap length ea ∙ length-append (entries_in rs) (entries_in cs) in
+    let b = ap length eb ∙ length-map all p in
+    let c = ap length ec ∙ length-take (length rs) answers in
+    let d = entries-long rs in
+    omega (arith, a, b, c, d)
+
+pub back-long : (rs cs : List Request) (p : ℕ → Bool) (all : List ℕ) (answers second : List Bool)
+    → all ≡ entries_in rs ++ entries_in cs → answers ≡ map p all → second ≡ drop (length rs) answers
+    → length cs ≡ length second
+back-long rs cs p all answers second ea eb ec =
+    let a = ap length ea ∙ length-append (entries_in rs) (entries_in cs) in
+    let b = ap length eb ∙ length-map all p in
+    let c = ap length ec ∙ length-drop (length rs) answers in
+    let d = entries-long rs in
+    let e = entries-long cs in
+    omega (arith, a, b, c, d, e)
 
 pub all-first : (a x : Bool) → a ≡ true → (a && x) ≡ x
 all-first a x h = ap (λ b. b && x) h

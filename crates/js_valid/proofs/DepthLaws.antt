@@ -1,6 +1,6 @@
 -- Elements and members are no deeper than what holds them.
-use Rattle.std.proofs.Common.{◌≡◌, ℕ, zero, suc, ◌<◌, ◌≤◌, List, [], ◌∷◌, map, length, get_or, Bool, true, false, rules, ap, subst, arith}
-use Rattle.documents.specs.Document.{Document, null, boolean, number, string, array, object, depth, items_depth, members_depth, Items, Members, items_of, members_of}
+use Rattle.std.proofs.Common.{◌≡◌, ℕ, zero, suc, ◌<◌, ◌≤◌, List, [], ◌∷◌, map, length, get_or, true, rules, ap, subst, arith}
+use Rattle.documents.specs.Document.{string, depth, items_depth, members_depth, Items, Members, items_of, members_of}
 use Rattle.js_doc.specs.declared.document.Doc.{Doc, the_lemmas}
 use Rattle.js_doc.specs.declared.document.Doc.TheVariants as C
 use Rattle.js_doc.specs.declared.document.DocList.{DocList}
@@ -16,6 +16,7 @@ item-less [] i x h is = absurd (omega (arith, h))
 item-less (y ∷ items) zero x h is = let e = ap (λ z. depth (view z)) is in omega (arith, e)
 item-less (y ∷ items) (suc i) x h is = let less = item-less items i x (omega (arith, h)) is in omega (arith, less)
 
+-- an element is no deeper than the deepest of its list
 pub item-depth : (items : List Doc) (i : ℕ) (x : Doc) (l : Items) → i < length items → x ≡ get_or items i x
     → items_of (map view items) ≡ l → depth (view x) ≤ items_depth l
 item-depth items i x l h is e = subst (λ ds. depth (view x) ≤ items_depth ds) e (item-less items i x h is)

@@ -1,4 +1,4 @@
--- What a form asks of a document itself: `enum` and `const`, and what hangs on no element and no member's value.
+-- What a form asks of a document itself: `enum` and `const`, and what depends on no element and no member's value.
 use Rattle.std.proofs.Common.{◌≡◌, ℕ, suc, List, [], ◌∷◌, map, length, nat_le, Bool, true, false, ◌&&◌, ◌||◌, not, Option, Some, None, refl, sym, ap, ap₂, ◌∙◌}
 use Rattle.std.proofs.lemmas.Bool.{true≢false}
 use Rattle.documents.specs.Tests.{every, some, same_word}
@@ -88,7 +88,7 @@ module _ (matches : List ℕ → List ℕ → Bool) (here : ℕ → Bool) (k : K
       (every (λ n. not (has_name n.0 (valued g ms)) || need_asks here n.1 (valued g ms))) k.dependencies
       (λ ns. every-alike _ _ ns (λ n. ap₂ (λ a b. not a || b) (name-same f g ms n.0) (needs-same here f g ms n.1))))
 
-  -- a part's document is asked what any document built of the part is
+  -- what is required of a part's document is required of any document built of the part
   pub frame-same : (f g : ℕ → Document) (p : P.Part)
       → frame_asks matches here k (built f p) ≡ frame_asks matches here k (built g p)
   frame-same f g P.null = refl

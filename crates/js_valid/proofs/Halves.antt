@@ -49,6 +49,7 @@ module _ (matches : List ℕ → List ℕ → Bool) (here : ℕ → Bool) (below
       (meets (every (λ n. not (has_name n.0 (entries ms)) || need_asks here n.1 (entries ms))) k.dependencies)
       (meets (λ e. every (λ m. below e (string m.0)) (entries ms)) k.property_names)
 
+  -- a document is valid for a form exactly where it meets what is required of itself and of what it contains
   pub asks-halves : (f : Form) (J : Document) → asks matches here below f J
       ≡ (own matches here f J && parts matches below f J)
   asks-halves Always J = refl

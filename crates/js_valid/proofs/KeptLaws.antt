@@ -1,27 +1,26 @@
 -- What is asked for the sake of owners that have a test, where the others are dropped.
-use Rattle.std.proofs.Common.{◌≡◌, ℕ, zero, suc, ◌+◌, ◌<◌, ◌≤◌, min, List, [], ◌∷◌, ◌++◌, take, drop, set, length, get_or, filter, Bool, true, false, ◌||◌, ◌&&◌, not, cond, nat_eq, refl, sym, ap, ◌∙◌, arith, true≢false}
-use Rattle.std.proofs.lemmas.Bool.{eqb-true}
-use Rattle.std.proofs.lemmas.List.{length-set, length-take, length-take-le, take_all, take_more, take_more_set, drop-set-lt}
+use Rattle.std.proofs.Common.{◌≡◌, ℕ, zero, suc, ◌<◌, List, [], ◌∷◌, length, get_or, filter, Bool, true, false, ◌||◌, ◌&&◌, not, cond, nat_eq, refl, sym, ap, ◌∙◌, arith, true≢false}
+use Rattle.std.proofs.lemmas.Bool.{eqb-true, not-true}
 use Rattle.documents.specs.Tests.{every}
 use Rattle.schemas.specs.Entry.{Entry, Form}
 use Rattle.draft06.specs.EntryValidity.{form_at}
 use Rattle.js_match.specs.Places.{is_at}
 use Rattle.js_valid.specs.Parts.{asked_by, flag}
-use Rattle.js_valid.specs.Requests.{AskedAtPlaces}
-use Rattle.js_valid.proofs.RequestLaws.{asked_by-one, cons_at}
+use Rattle.js_valid.specs.Requests.{AskedAtPlaces, entries_in, owners_in}
+use Rattle.js_valid.specs.declared.request.Request.{Request}
 
--- each owner that has the test asks for the entries that its form has for the part; of others nothing is said
+-- each owner that has the test requests the entries that its form has for the part; of others nothing is said
 abbrev pub AskedWhere : List Entry → (Form → List ℕ) → List ℕ → (ℕ → Bool) → (os qs : List ℕ) → Type 0
 AskedWhere es of owners test os qs =
     (e : ℕ) (p : ℕ → Bool) → e < length owners → test e ≡ true
     → asked_by e p os qs ≡ every p (of (form_at es (get_or owners e 0)))
 
--- one that has the test, and whose place isn't among these, asks for nothing
+-- one that has the test, and whose place isn't among these, requests nothing
 abbrev pub NothingElsewhere : List Entry → (Form → List ℕ) → List ℕ → (ℕ → Bool) → List ℕ → Type 0
 NothingElsewhere es of owners test places =
     (i : ℕ) → i < length owners → test i ≡ true → is_at i places ≡ false → of (form_at es (get_or owners i 0)) ≡ []
 
--- ---- of two that hold together
+-- ---- two tests that hold together
 
 pub both-left : (a b : Bool) → (a && b) ≡ true → a ≡ true
 both-left true b h = refl
@@ -105,157 +104,43 @@ pub asked-fewer : (es : List Entry) (of : Form → List ℕ) (owners : List ℕ)
     → AskedWhere es of owners fewer os qs
 asked-fewer es of owners test fewer os qs less h e p inside has = h e p inside (less e has)
 
--- ---- the loop that drops them in place
-
--- of the first i requests those whose owner has the test stand in the first k places, and from i on all is as it was
-pub record KeptTo (table : List Bool) (os qs os' qs' : List ℕ) (k i : ℕ) : Type 0 where
-  pub behind : k ≤ i
-  pub owners_long : length os' ≡ length os
-  pub entries_long : length qs' ≡ length os
-  pub entries_were : length qs ≡ length os
-  pub owners_rest : drop i os' ≡ drop i os
-  pub entries_rest : drop i qs' ≡ drop i qs
-  pub asks : (e : ℕ) (p : ℕ → Bool)
-      → asked_by e p (take k os') (take k qs') ≡ (not (flag table e) || asked_by e p (take i os) (take i qs))
-
-or_true : (b : Bool) → (b || true) ≡ true
-or_true true = refl
-or_true false = refl
-
-pub kept-none : (table : List Bool) (os qs : List ℕ) → length os ≡ length qs → KeptTo table os qs os qs 0 0
-kept-none table os qs len = record {
-  behind = omega arith;
-  owners_long = refl;
-  entries_long = sym len;
-  entries_were = sym len;
-  owners_rest = refl;
-  entries_rest = refl;
-  asks = λ e p. sym (or_true (not (flag table e)));
-}
-
--- what stands at a place, and what behind it, where lists are the same from there on
-same-head : (xs ys : List ℕ) (i : ℕ) → i < length xs → i < length ys → drop i xs ≡ drop i ys
-    → get_or xs i 0 ≡ get_or ys i 0
-same-head xs ys i l m h = ap (λ zs. get_or zs 0 0) (sym (cons_at xs i l) ∙ h ∙ cons_at ys i m)
-
-same-tail : (xs ys : List ℕ) (i : ℕ) → i < length xs → i < length ys → drop i xs ≡ drop i ys
-    → drop (i + 1) xs ≡ drop (i + 1) ys
-same-tail xs ys i l m h = ap behind_first (sym (cons_at xs i l) ∙ h ∙ cons_at ys i m)
+-- those of owners that have the test
+pub asked-filter : (test : ℕ → Bool) (e : ℕ) (p : ℕ → Bool) (rs : List Request)
+    → asked_by e p (owners_in (filter (λ r. test r.owner) rs)) (entries_in (filter (λ r. test r.owner) rs))
+    ≡ (not (test e) || asked_by e p (owners_in rs) (entries_in rs))
+asked-filter test e p [] = sym (or_true (not (test e)))
   where
-    behind_first : List ℕ → List ℕ
-    behind_first [] = []
-    behind_first (z ∷ zs) = zs
-
--- one more request of those that were there
-asked-more : (e : ℕ) (p : ℕ → Bool) (os qs : List ℕ) (i : ℕ) → i < length os → length qs ≡ length os
-    → asked_by e p (take (i + 1) os) (take (i + 1) qs)
-    ≡ (asked_by e p (take i os) (take i qs) && (not (nat_eq (get_or os i 0) e) || p (get_or qs i 0)))
-asked-more e p os qs i less len =
-    let within : i < length qs = omega (arith, less, len) in
-    ap (λ xs. asked_by e p xs (take (i + 1) qs)) (take_more os i 0 less)
-    ∙ ap (λ xs. asked_by e p (take i os ++ get_or os i 0 ∷ []) xs) (take_more qs i 0 within)
-    ∙ asked_by-one e (get_or os i 0) (get_or qs i 0) p (take i os) (take i qs)
-    (length-take-le i os (omega (arith, less)) ∙ sym (length-take-le i qs (omega (arith, within))))
-
--- a request is of an owner that has no test, or of another one
-pub kept-not : (table : List Bool) (os qs os' qs' : List ℕ) (k i : ℕ) → KeptTo table os qs os' qs' k i → i < length os
-    → flag table (get_or os' i 0) ≡ false → KeptTo table os qs os' qs' k (i + 1)
-kept-not table os qs os' qs' k i h less none = record {
-  behind = omega (arith, h.behind);
-  owners_long = h.owners_long;
-  entries_long = h.entries_long;
-  entries_were = h.entries_were;
-  owners_rest = same-tail os' os i (omega (arith, less, h.owners_long)) less h.owners_rest;
-  entries_rest = same-tail qs' qs i (omega (arith, less, h.entries_long)) (omega (arith, less, h.entries_were))
-      h.entries_rest;
-  asks = λ e p.
-      h.asks e p ∙ go e (flag table e) refl (nat_eq (get_or os i 0) e) refl (asked_by e p (take i os) (take i qs))
-      (p (get_or qs i 0)) ∙ ap (λ b. not (flag table e) || b) (sym (asked-more e p os qs i less h.entries_were));
-}
+    or_true : (b : Bool) → (b || true) ≡ true
+    or_true true = refl
+    or_true false = refl
+asked-filter test e p (r ∷ rs) = go (test r.owner) refl (nat_eq r.owner e) refl (asked-filter test e p rs)
   where
-    was : flag table (get_or os i 0) ≡ false
-    was = ap (flag table) (sym (same-head os' os i (omega (arith, less, h.owners_long)) less h.owners_rest)) ∙ none
+    -- whose owner has the test, and whether it is this one
+    go : (b : Bool) → test r.owner ≡ b → (c : Bool) → nat_eq r.owner e ≡ c
+        → asked_by e p (owners_in (filter (λ r. test r.owner) rs)) (entries_in (filter (λ r. test r.owner) rs))
+        ≡ (not (test e) || asked_by e p (owners_in rs) (entries_in rs))
+        → asked_by e p (owners_in (cond b (r ∷ filter (λ r. test r.owner) rs) (filter (λ r. test r.owner) rs)))
+        (entries_in (cond b (r ∷ filter (λ r. test r.owner) rs) (filter (λ r. test r.owner) rs)))
+        ≡ (not (test e) || ((not c || p r.entry) && asked_by e p (owners_in rs) (entries_in rs)))
+    go true has c own rest =
+        ap (λ d. (not d || p r.entry) && asked_by e p (owners_in (filter (λ r. test r.owner) rs))
+        (entries_in (filter (λ r. test r.owner) rs))) own
+        ∙ ap (λ d. (not c || p r.entry) && d) rest
+        ∙ spread (not (test e)) (not c || p r.entry) (asked_by e p (owners_in rs) (entries_in rs)) (mine c own)
+      where
+        mine : (c : Bool) → nat_eq r.owner e ≡ c → not (test e) ≡ true → (not c || p r.entry) ≡ true
+        mine true own none =
+            absurd (true≢false (sym (sym (ap test (eqb-true r.owner e own)) ∙ has) ∙ not-true (test e) none))
+        mine false own none = refl
 
-    go : (e : ℕ) (f : Bool) → flag table e ≡ f → (c : Bool) → nat_eq (get_or os i 0) e ≡ c → (a x : Bool)
-        → (not f || a) ≡ (not f || (a && (not c || x)))
-    go e false is c same a x = refl
-    go e true is true same a x =
-        absurd (true≢false (sym is ∙ ap (flag table) (sym (eqb-true (get_or os i 0) e same)) ∙ was))
-    go e true is false same true x = refl
-    go e true is false same false x = refl
-
-pub kept-set : (table : List Bool) (os qs os' qs' : List ℕ) (k i : ℕ) → KeptTo table os qs os' qs' k i → i < length os
-    → flag table (get_or os' i 0) ≡ true
-    → KeptTo table os qs (set os' k (get_or os' i 0)) (set qs' k (get_or qs' i 0)) (k + 1) (i + 1)
-kept-set table os qs os' qs' k i h less has = record {
-  behind = omega (arith, h.behind);
-  owners_long = length-set os' k (get_or os' i 0) ∙ h.owners_long;
-  entries_long = length-set qs' k (get_or qs' i 0) ∙ h.entries_long;
-  entries_were = h.entries_were;
-  owners_rest =
-      drop-set-lt (i + 1) os' k (get_or os' i 0) (omega (arith, h.behind))
-      ∙ same-tail os' os i at_owners less h.owners_rest;
-  entries_rest =
-      drop-set-lt (i + 1) qs' k (get_or qs' i 0) (omega (arith, h.behind))
-      ∙ same-tail qs' qs i at_entries at_were h.entries_rest;
-  asks = λ e p.
-      ap (λ xs. asked_by e p xs (take (k + 1) (set qs' k (get_or qs' i 0))))
-      (take_more_set os' k (get_or os' i 0) (omega (arith, h.behind, at_owners)))
-      ∙ ap (λ xs. asked_by e p (take k os' ++ get_or os' i 0 ∷ []) xs)
-      (take_more_set qs' k (get_or qs' i 0) (omega (arith, h.behind, at_entries)))
-      ∙ asked_by-one e (get_or os' i 0) (get_or qs' i 0) p (take k os') (take k qs')
-      (length-take-le k os' (omega (arith, h.behind, at_owners))
-      ∙ sym (length-take-le k qs' (omega (arith, h.behind, at_entries))))
-      ∙ ap (λ b. b && (not (nat_eq (get_or os' i 0) e) || p (get_or qs' i 0))) (h.asks e p)
-      ∙ go e (flag table e) refl (nat_eq (get_or os' i 0) e) refl (asked_by e p (take i os) (take i qs))
-      (p (get_or qs' i 0))
-      ∙ ap (λ x. not (flag table e)
-      || (asked_by e p (take i os) (take i qs) && (not (nat_eq x e) || p (get_or qs' i 0)))) owner
-      ∙ ap (λ x. not (flag table e)
-      || (asked_by e p (take i os) (take i qs) && (not (nat_eq (get_or os i 0) e) || p x))) entry
-      ∙ ap (λ b. not (flag table e) || b) (sym (asked-more e p os qs i less h.entries_were));
-}
-  where
-    at_owners : i < length os'
-    at_owners = omega (arith, less, h.owners_long)
-
-    at_entries : i < length qs'
-    at_entries = omega (arith, less, h.entries_long)
-
-    at_were : i < length qs
-    at_were = omega (arith, less, h.entries_were)
-
-    owner : get_or os' i 0 ≡ get_or os i 0
-    owner = same-head os' os i at_owners less h.owners_rest
-
-    entry : get_or qs' i 0 ≡ get_or qs i 0
-    entry = same-head qs' qs i at_entries at_were h.entries_rest
-
-    go : (e : ℕ) (f : Bool) → flag table e ≡ f → (c : Bool) → nat_eq (get_or os' i 0) e ≡ c → (a x : Bool)
-        → ((not f || a) && (not c || x)) ≡ (not f || (a && (not c || x)))
-    go e true is c same a x = refl
-    go e false is true same a x =
-        absurd (true≢false (sym has ∙ ap (flag table) (eqb-true (get_or os' i 0) e same) ∙ is))
-    go e false is false same a x = refl
-
--- what a step leaves, by its two outcomes
-pub kept-moved : (table : List Bool) (os qs os' qs' left right : List ℕ) (k i n : ℕ)
-    → KeptTo table os qs os' qs' k i → i < length os → flag table (get_or os' i 0) ≡ true
-    → left ≡ set os' k (get_or os' i 0) → right ≡ set qs' k (get_or qs' i 0) → n ≡ k + 1
-    → KeptTo table os qs left right n (i + 1)
-kept-moved table os qs os' qs' left right k i n h less has a b c =
-    rw (a, b, c) (kept-set table os qs os' qs' k i h less has)
-
-pub kept-all : (table : List Bool) (os qs os' qs' : List ℕ) (k i : ℕ) → KeptTo table os qs os' qs' k i → length os ≤ i
-    → (e : ℕ) (p : ℕ → Bool)
-    → asked_by e p (take k os') (take k qs') ≡ (not (flag table e) || asked_by e p os qs)
-kept-all table os qs os' qs' k i h end e p =
-    h.asks e p
-    ∙ ap (λ xs. not (flag table e) || asked_by e p xs (take i qs)) (take_all i os end)
-    ∙ ap (λ xs. not (flag table e) || asked_by e p os xs) (take_all i qs (omega (arith, end, h.entries_were)))
-
--- of both lists as many are left
-pub kept-long : (table : List Bool) (os qs os' qs' : List ℕ) (k i : ℕ) → KeptTo table os qs os' qs' k i
-    → length (take k os') ≡ length (take k qs')
-kept-long table os qs os' qs' k i h =
-    length-take k os' ∙ ap (min k) (h.owners_long ∙ sym h.entries_long) ∙ sym (length-take k qs')
+        spread : (a b d : Bool) → (a ≡ true → b ≡ true) → (b && (a || d)) ≡ (a || (b && d))
+        spread true b d h = ap (λ x. x && true) (h refl)
+        spread false b d h = refl
+    go false none true own rest =
+        rest ∙ lost (test e) (ap test (sym (eqb-true r.owner e own)) ∙ none)
+      where
+        lost : (b : Bool) → b ≡ false → (not b || asked_by e p (owners_in rs) (entries_in rs))
+            ≡ (not b || ((not true || p r.entry) && asked_by e p (owners_in rs) (entries_in rs)))
+        lost true h = absurd (true≢false h)
+        lost false h = refl
+    go false none false own rest = rest

@@ -6,7 +6,7 @@ pub mod PartsLaws
 pub mod PlanLaws
 -- Equality of documents.
 pub mod SameLaws
--- What is asked of a part, request by request.
+-- What is requested of a part, request by request.
 pub mod RequestLaws
 -- Places in lists, and the owners at them.
 pub mod PlaceLaws
@@ -14,9 +14,9 @@ pub mod PlaceLaws
 pub mod KeptLaws
 -- A form asks of a document itself what it asks by itself and by the verdicts of others.
 pub mod StandLaws
--- Places that are pending, and where entries stand.
+-- Places that are pending, and where entries are.
 pub mod PendingLaws
--- The entries that are asked, and their verdicts.
+-- The entries that are applied, and their verdicts.
 pub mod AskedLaws
 -- What is known of verdicts before a place of the order.
 pub mod Settled
@@ -24,6 +24,8 @@ pub mod Settled
 pub mod DecideLaws
 -- Forms that are decided alone.
 pub mod PlainLaws
+-- Tests of lists.
+pub mod TestLaws
 -- Names that rise, and binary searches.
 pub mod SearchLaws
 -- Depths of parts.
@@ -35,9 +37,15 @@ pub mod FrameLaws
 pub mod PartElementLaws
 -- Verdicts as bits.
 pub mod BitsLaws
--- Members of a part, and what is asked by its kind.
+-- Members of a part, and what is required by its kind.
 pub mod PartMemberLaws
 -- Tables of verdicts on parts.
 pub mod PartVerdictLaws
 -- Frames of parts.
 pub mod PartFrameLaws
+-- The order of documents is total, and is found from lists and from texts.
+pub mod DocumentOrderLaws
+pub mod OrderedLists
+pub mod TextOrder
+-- What is found among values in that order.
+pub mod ChoicesLaws

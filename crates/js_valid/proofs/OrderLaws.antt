@@ -1,16 +1,14 @@
 -- A sorted list of the entries is an order by ranks.
-use Rattle.std.proofs.Common.{◌≡◌, ℕ, zero, suc, ◌<◌, ◌≤◌, List, [], ◌∷◌, map, length, get_or, true, refl, sym, ap, subst, ◌∙◌, arith}
-use Rattle.std.specs.List.{Contains, AllByRecursion}
+use Rattle.std.proofs.Common.{◌≡◌, ℕ, zero, suc, ◌<◌, ◌≤◌, List, [], ◌∷◌, map, length, get_or, true, refl, sym, ap, ◌∙◌, arith}
+use Rattle.std.specs.List.{Contains}
 use Rattle.std.specs.List.Sorted.{IsPermutation, IsSortedByKey}
 use Rattle.std.specs.Ordering.{nat_cmp}
 use Rattle.std.proofs.Math.ListN.{get_or-map, length-map}
 use Rattle.std.proofs.lemmas.List.Sorted.{IsPermutation-sym, Contains-permutation, IsNonDecreasingBy-from_sort}
 use Rattle.schemas.specs.Entry.{Entry}
-use Rattle.schemas.specs.Schema.{in_place, is_table}
-use Rattle.schemas.specs.Guarded.{edges, targets, are_ranks}
-use Rattle.schema_laws.proofs.Ranks.{are_ranks-bounded, are_ranks-falls}
-use Rattle.draft06.specs.EntryValidity.{form_at}
-use Rattle.draft06_laws.specs.Ranks.{FallInPlace}
+use Rattle.schemas.specs.Schema.{is_table}
+use Rattle.schemas.specs.Guarded.{edges, are_ranks}
+use Rattle.draft06_laws.proofs.RankLaws.{fall_in_place}
 use Rattle.js_valid.specs.Plan.{IsPlan}
 
 module _ (ranks : List ℕ) (xs ys : List (ℕ × ℕ)) (len : length xs ≡ length ranks)
@@ -70,25 +68,6 @@ module _ (ranks : List ℕ) (xs ys : List (ℕ × ℕ)) (len : length xs ≡ len
       let last = rank-at l ll in
       omega (arith, rises, first, last)
 
-targets-at : (es : List Entry) (e : ℕ) → targets (edges es) e ≡ in_place (form_at es e)
-targets-at [] e = refl
-targets-at (f ∷ es) zero = refl
-targets-at (f ∷ es) (suc e) = targets-at es e
-
-pub edges-length : (es : List Entry) → length (edges es) ≡ length es
-edges-length [] = refl
-edges-length (f ∷ es) = ap suc (edges-length es)
-
-pub ranks-fall : (es : List Entry) (ranks : List ℕ) → are_ranks (edges es) ranks ≡ true
-    → FallInPlace es (λ e. get_or ranks e 0)
-ranks-fall es ranks h = record {
-  bounded = λ e l.
-      let same = edges-length es in
-      let b = are_ranks-bounded (edges es) ranks h (omega (arith, l, same)) e in omega (arith, b, same);
-  falls = λ e l. subst (AllByRecursion (λ q. get_or ranks q 0 < get_or ranks e 0)) (targets-at es e)
-      (are_ranks-falls (edges es) ranks h e);
-}
-
 pub plan-of : (es : List Entry) (ranks order : List ℕ) → is_table es ≡ true → are_ranks (edges es) ranks ≡ true
     → length ranks ≡ length es
     → ((e : ℕ) → e < length ranks → Contains order e)
@@ -98,7 +77,7 @@ pub plan-of : (es : List Entry) (ranks order : List ℕ) → is_table es ≡ tru
 plan-of es ranks order table h len all only rises = record {
   table = table;
   rank = λ e. get_or ranks e 0;
-  falls = ranks-fall es ranks h;
+  falls = fall_in_place es ranks h;
   rises = rises;
   all = λ e l.
       let (k, less, same) = all e (omega (arith, l, len)) in

@@ -46,7 +46,7 @@ pub documents-are : (ps : List Part) (ids : List PartId) (numbers : List ℕ) �
     → map (unshared ps) numbers ≡ map (document_at ps) ids
 documents-are ps ids numbers e = ap (map (unshared ps)) (sym e) ∙ map-twice (unshared ps) number_of ids
 
--- ---- elements, and one that `contains` asks for
+-- ---- elements, and one that `contains` requires
 
 module _ (below : ℕ → Document → Bool) (ds : List Document) where
   one-contained : (o : Option ℕ) → meets (λ q. not (every (λ d. every (λ r. not (below r d)) (lists one o)) ds)) o
@@ -70,6 +70,7 @@ module _ (below : ℕ → Document → Bool) (ds : List Document) where
   contained-same (Ref e) = refl
   contained-same (Asks k) = one-contained k.contains
 
+  -- the two answers for the elements, place by place and by `contains`, are the form's answer for a list
   pub elements-done : (f : Form) (a b : Bool) → a ≡ each_at (λ i d. every (λ q. below q d) (of_element f i)) 0 ds
       → b ≡ meets (λ q. not (every (λ d. not (below q d)) ds)) (contained f) → (a && b) ≡ parts_list below f ds
   elements-done f a b h k =

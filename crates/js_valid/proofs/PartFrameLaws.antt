@@ -21,6 +21,7 @@ take-more (i ∷ ids) (suc n) l =
     let one : suc n + 1 ≡ suc (n + 1) = omega arith in
     rw one (ap (λ xs. null ∷ xs) (take-more ids n (omega (arith, l))))
 
+-- with one more null there are as many as the part's first n + 1 elements
 pub nulls-more : (ds es : List Doc) (ids : List PartId) (n : ℕ) → n < length ids → es ≡ ds ++ C.Null ∷ []
     → map view ds ≡ map (λ i. null) (take n ids) → map view es ≡ map (λ i. null) (take (n + 1) ids)
 nulls-more ds es ids n l is made =

@@ -1,5 +1,5 @@
 -- What a form asks of a part's members: of their values, by the verdicts on the parts below, and of their names.
-use Rattle.std.proofs.Common.{◌≡◌, ℕ, zero, suc, ◌+◌, ◌<◌, List, [], ◌∷◌, ◌++◌, ◌⊎◌, inl, inr, ◌≤◌, map, drop, drop-cons, add-one, length, get_or, Bool, true, ◌&&◌, nat_lt, refl, sym, ap, subst, ◌∙◌, arith}
+use Rattle.std.proofs.Common.{◌≡◌, ℕ, zero, suc, ◌+◌, ◌<◌, List, [], ◌∷◌, ◌++◌, ◌⊎◌, inl, inr, ◌≤◌, map, length, get_or, Bool, true, ◌&&◌, nat_lt, refl, sym, ap, subst, ◌∙◌, arith}
 use Rattle.std.proofs.lemmas.Bool.{cases_lt}
 use Rattle.documents.specs.Tests.{every}
 use Rattle.documents.specs.Document.{Document, string, items_of, members_of}
@@ -21,13 +21,9 @@ use Rattle.js_valid.proofs.DecideLaws.{members-done, parts-list, parts-members, 
 abbrev pub value_met : List Entry → List P.Part → Form → List ℕ × ℕ → Bool
 value_met es ps f m = every (λ q. valid_at es q (unshared ps m.1)) (of_member matches f m.0)
 
--- and so is its name
+-- the name of a member is as the form asks
 abbrev pub name_met : List Entry → Form → List ℕ × ℕ → Bool
 name_met es f m = every (λ q. valid_at es q (string m.0)) (of_name f)
-
-pub every-read : {A : Type 0} (p : A → Bool) (i : ℕ) (xs : List A) (x : A) → i < length xs → x ≡ get_or xs i x
-    → every p (drop i xs) ≡ (p x && every p (drop (i + 1) xs))
-every-read p i xs x less is = rw (add-one, drop-cons xs i x, ← is) refl
 
 module _ (es : List Entry) (ps : List P.Part) (f : Form) where
   swap : (a b c d : Bool) → ((a && b) && (c && d)) ≡ ((c && a) && (b && d))

@@ -15,7 +15,7 @@ use Rattle.js_valid.proofs.PartMemberLaws.{each-more, more-length}
 use Rattle.js_valid.proofs.PlanLaws as L
 use Rattle.js_valid.proofs.Settled.{Known}
 
--- every entry is asked
+-- every entry is applied
 abbrev pub all_asked : List Entry → List Bool
 all_asked es = map (λ f. true) es
 
@@ -51,6 +51,7 @@ module _ (es : List Entry) (order : List ℕ) (plan : IsPlan es order) (J : Docu
       (sym (asked-flag es (get_or order k 0) (plan.only k less)))))
       set
 
+  -- once the order is gone through, the table has the verdict of each entry
   pub taken-all : (k : ℕ) (table : List Bool) → length table ≡ length es → length order ≤ k → Taken k table
       → (e : ℕ) → flag table e ≡ valid_at es e J
   taken-all k table len end known e = go (cases_lt e (length es))
@@ -63,6 +64,7 @@ module _ (es : List Entry) (order : List ℕ) (plan : IsPlan es order) (J : Docu
 
 -- ---- one more table
 
+-- with the table of the next part the tables are those of one part more
 pub tables-more : (es : List Entry) (ps : List Part) (ts us : List (List Bool)) (t : List Bool) (n : ℕ) → length ts ≡ n
     → us ≡ ts ++ t ∷ [] → KnowsTables es ps ts → ((e : ℕ) → flag t e ≡ valid_at es e (unshared ps n))
     → KnowsTables es ps us

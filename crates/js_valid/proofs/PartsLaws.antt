@@ -42,6 +42,7 @@ module _ (below : ℕ → Document → Bool) (test : List ℕ → List ℕ → B
   named-one n w e ps d true h = rw h refl
   named-one n w e ps d false h = rw h refl
 
+  -- members pass name by name exactly where they pass member by member
   pub every-named : (ps : List (List ℕ × ℕ)) (ms : List (List ℕ × Document))
       → every (λ p. every_in (test p.0) (below p.1) ms) ps
       ≡ every (λ m. every (λ q. below q m.1) (of_named (λ n. test n m.0) ps)) ms

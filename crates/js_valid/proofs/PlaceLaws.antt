@@ -80,7 +80,7 @@ others-added P false i xs xs' same passed h j less none =
 
 -- ---- the owners at places
 
--- what is asked for the sake of the one at place e
+-- what is requested for the sake of the one at place e
 abbrev pub at_places : (ℕ → Bool) → ℕ → List ℕ → Bool
 at_places test e places = every (λ i. not (nat_eq i e) || test i) places
 

@@ -106,6 +106,7 @@ module _ (es : List Entry) (order : List ℕ) (plan : IsPlan es order) where
           inside h = ap get h
       go (Asks k) h = absurd (true≢false (ap (λ o. is_absent o) (sym h)))
 
+  -- a plain form is met exactly where the document itself and what it contains are as it requires
   pub plain-valid : (e : ℕ) (f : Form) (J : Document) → f ≡ form_at es e → is_plain f ≡ true
       → (own matches (flag []) f J && parts matches (valid_at es) f J) ≡ valid_at es e J
   plain-valid e f J is h =

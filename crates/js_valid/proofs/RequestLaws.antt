@@ -1,11 +1,13 @@
--- What is asked of a part, request by request and owner by owner.
+-- What is requested of a part, request by request and owner by owner.
 use Rattle.std.proofs.Common.{◌≡◌, ℕ, zero, suc, ◌+◌, ◌<◌, ◌≤◌, List, [], ◌∷◌, ◌++◌, map, drop, drop-cons, add-one, length, get_or, Bool, true, false, ◌||◌, ◌&&◌, not, nat_eq, nat_lt, refl, sym, ap, ◌∙◌, arith}
 use Rattle.std.proofs.lemmas.Bool.{and_parts, eq-eqb, ltb-true, lt-ltb}
+use Rattle.std.proofs.lemmas.List.{map-append}
 use Rattle.documents.specs.Tests.{every}
 use Rattle.schemas.specs.Entry.{Entry, Form}
 use Rattle.draft06.specs.EntryValidity.{form_at}
 use Rattle.js_valid.specs.Parts.{asked_by, answered, of_listed}
-use Rattle.js_valid.specs.Requests.{AskedByOwners, AsksMore, at_owner, asks_of}
+use Rattle.js_valid.specs.Requests.{AskedByOwners, AsksMore, at_owner, asks_of, entries_in, owners_in}
+use Rattle.js_valid.specs.declared.request.Request.{Request}
 
 and_assoc : (a b c : Bool) → ((a && b) && c) ≡ (a && (b && c))
 and_assoc true b c = refl
@@ -85,7 +87,7 @@ refused_next test e owners i was now met whole less is own h =
     ∙ ap (λ b. was && ((not (nat_eq i e) || b) && rest)) own
     ∙ ap (λ b. was && b) (sym (at_owner-next test e owners i less)) ∙ h
 
--- past the place nothing is asked of it
+-- past the place nothing is requested of it
 at_owner-past : (test : ℕ → ℕ → Bool) (e i : ℕ) (owners : List ℕ) → e < i → at_owner test e i owners ≡ true
 at_owner-past test e i [] h = refl
 at_owner-past test e i (o ∷ owners) h =
@@ -163,3 +165,21 @@ every-got n [] h = refl
 every-got n (o ∷ owners) h =
     ap (λ b. b && every (λ x. nat_lt x n) owners) (lt-ltb o n (h 0 (omega arith)))
     ∙ every-got n owners (λ i l. h (suc i) (omega (arith, l)))
+
+-- ---- requests
+
+pub requests-long : (rs : List Request) → length (owners_in rs) ≡ length (entries_in rs)
+requests-long [] = refl
+requests-long (r ∷ rs) = ap suc (requests-long rs)
+
+pub entries-long : (rs : List Request) → length (entries_in rs) ≡ length rs
+entries-long [] = refl
+entries-long (r ∷ rs) = ap suc (entries-long rs)
+
+pub owners-added : (rs rs' : List Request) (r : Request) → rs' ≡ rs ++ r ∷ []
+    → owners_in rs' ≡ owners_in rs ++ r.owner ∷ []
+owners-added rs rs' r h = ap owners_in h ∙ map-append (λ r. r.owner) rs (r ∷ [])
+
+pub entries-added : (rs rs' : List Request) (r : Request) → rs' ≡ rs ++ r ∷ []
+    → entries_in rs' ≡ entries_in rs ++ r.entry ∷ []
+entries-added rs rs' r h = ap entries_in h ∙ map-append (λ r. r.entry) rs (r ∷ [])

@@ -1,5 +1,5 @@
 -- A binary search among properties whose names rise finds what a look at each of them does.
-use Rattle.std.proofs.Common.{◌≡◌, inr, ℕ, zero, suc, ◌<◌, List, [], ◌∷◌, map, length, get_or, Bool, true, false, ◌&&◌, cond, nat_eq, Option, Some, None, refl, sym, ap, ap₂, ◌∙◌, arith, true≢false}
+use Rattle.std.proofs.Common.{◌≡◌, inr, ℕ, zero, suc, ◌<◌, List, [], ◌∷◌, map, length, get_or, Bool, true, false, ◌&&◌, cond, Option, Some, None, refl, sym, ap, ◌∙◌, arith, true≢false}
 use Rattle.std.proofs.lemmas.Bool.{and_parts}
 use Rattle.std.proofs.lemmas.Slice.Eq.{bytes_eq-Decides}
 use Rattle.std.proofs.Math.ListN.{length-map}
@@ -9,21 +9,13 @@ use Rattle.schemas.specs.Weight.{most_weight}
 use Rattle.schemas.specs.Schema.{lists, one, is_ascending, is_word, are_keys, is_table, form_in_range, total_size}
 use Rattle.std.specs.Prelude.{nat_le}
 use Rattle.draft06.specs.EntryValidity.{form_at}
+use Rattle.list_laws.proofs.Tests.{same_word_comm}
 use Rattle.js_doc.proofs.Lookups.{same_word-bytes_eq}
 use Rattle.js_doc.proofs.Search.{rise, names, find_in, rising, absent}
 use Rattle.js_valid.specs.Parts.{of_named}
 
 abbrev of_word : List ℕ → List (List ℕ × ℕ) → List ℕ
 of_word w ps = of_named (λ n. same_word n w) ps
-
-word-turned : (v w : List ℕ) → same_word v w ≡ same_word w v
-word-turned [] [] = refl
-word-turned [] (y ∷ ys) = refl
-word-turned (x ∷ xs) [] = refl
-word-turned (x ∷ xs) (y ∷ ys) = ap₂ (λ a b. a && b) (turned x y) (word-turned xs ys)
-  where
-    turned : (x y : ℕ) → nat_eq x y ≡ nat_eq y x
-    turned x y = grind arith
 
 abbrev is_none : Option ℕ → Bool
 is_none None = true
@@ -43,7 +35,7 @@ none-named (p ∷ ps) w h = go (same_word w p.0) refl (none-named ps w)
     go true k again =
         absurd (true≢false (sym (ap is_none (sym (ap (λ b. cond b (Some p.1) (find_in w ps)) k) ∙ h))))
     go false k again =
-        ap (λ b. cond b (p.1 ∷ of_word w ps) (of_word w ps)) (word-turned p.0 w ∙ k)
+        ap (λ b. cond b (p.1 ∷ of_word w ps) (of_word w ps)) (same_word_comm p.0 w ∙ k)
         ∙ again (sym (ap (λ b. cond b (Some p.1) (find_in w ps)) k) ∙ h)
 
 -- at most one property has the name
@@ -64,11 +56,11 @@ found-named (p ∷ ps) w r =
         → lists one (find_in w (p ∷ ps)) ≡ of_word w (p ∷ ps)
     go true k again =
         ap (λ b. lists one (cond b (Some p.1) (find_in w ps))) k
-        ∙ sym (ap (λ b. cond b (p.1 ∷ of_word w ps) (of_word w ps)) (word-turned p.0 w ∙ k)
+        ∙ sym (ap (λ b. cond b (p.1 ∷ of_word w ps) (of_word w ps)) (same_word_comm p.0 w ∙ k)
         ∙ ap (λ qs. p.1 ∷ qs) (alone k))
     go false k again =
         ap (λ b. lists one (cond b (Some p.1) (find_in w ps))) k ∙ again
-        ∙ sym (ap (λ b. cond b (p.1 ∷ of_word w ps) (of_word w ps)) (word-turned p.0 w ∙ k))
+        ∙ sym (ap (λ b. cond b (p.1 ∷ of_word w ps) (of_word w ps)) (same_word_comm p.0 w ∙ k))
 
 pub keys-rise : (ps : List (List ℕ × ℕ)) → are_keys ps ≡ true → rise (names ps) ≡ true
 keys-rise ps h =

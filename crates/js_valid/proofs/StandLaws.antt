@@ -51,6 +51,7 @@ module _ (matches : List ℕ → List ℕ → Bool) (here : ℕ → Bool) where
       (meets (λ n. nat_le n (length (entries ms))) k.min_properties)
       (meets (every (λ w. has_name w (entries ms))) k.required) (needs_ask here k (entries ms))
 
+  -- what a form requires of the document itself is what it requires alone and what it requires by verdicts of others
   pub own-halves : (f : Form) (J : Document) → own matches here f J ≡ (stands matches f J && place_asks here f J)
   own-halves Always J = refl
   own-halves Never J = refl

@@ -1,4 +1,4 @@
--- The entries that are asked of a document, as they are listed.
+-- The entries that are applied to a document, as they are listed.
 use Rattle.std.specs.Prelude.{◌≡◌, ℕ, ◌<◌, List, [], ◌∷◌, ◌++◌, map, length, get_or, nat_lt, Bool, true, false, ◌||◌}
 use Rattle.documents.specs.Tests.{every}
 use Rattle.documents.specs.Document.{Document}
@@ -11,7 +11,7 @@ use Rattle.js_valid.specs.Plan.{valid_at}
 use Rattle.js_valid.specs.Standing.{stands}
 use Rattle.js_valid.specs.declared.asked.Asked.{Asked}
 
--- where entries stand
+-- where entries are
 abbrev pub placed : List ℕ → List ℕ → List ℕ
 placed places qs = map (λ q. get_or places q 0) qs
 
@@ -34,7 +34,7 @@ abbrev pub AsksFor : List Entry → List ℕ → Asked → Type 0
 AsksFor es entries a =
     (q : ℕ) → q < length es → is_at q entries ≡ true → (is_at q a.owners.items || is_at q a.fallen.items) ≡ true
 
--- an entry that stands comes to the owners, and what it names in place is pending
+-- an entry that stands by itself comes to the owners, and what it names in place is pending
 abbrev pub Takes : Bool → ℕ → (targets before after : List ℕ) → (a b : Asked) → Type 0
 Takes true e targets before after a b =
     (b.owners.items ≡ a.owners.items ++ e ∷ []) × (b.fallen.items ≡ a.fallen.items)

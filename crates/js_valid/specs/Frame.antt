@@ -1,4 +1,4 @@
--- What a form asks of a document itself, but for `enum` and `const`: that hangs on no element and no member's value.
+-- What a form asks of a document itself, but for `enum` and `const`: that depends on no element and no member's value.
 use Rattle.std.specs.Prelude.{ℕ, List, Bool, ◌&&◌, not}
 use Rattle.documents.specs.Tests.{every, some}
 use Rattle.documents.specs.Document.{Document}
@@ -13,7 +13,7 @@ abbrev pub is_given : Keywords → Document → Bool
 is_given k J = meets (some (λ d. same_document d J)) k.enumeration && meets (λ d. same_document d J) k.constant
 
 module _ (here : ℕ → Bool) where
-  -- of every document
+  -- what keywords ask of every document
   abbrev pub any_asks : Keywords → Document → Bool
   any_asks k J =
       meets (some (has_type J)) k.types && meets (every here) k.all_of && meets (some here) k.any_of

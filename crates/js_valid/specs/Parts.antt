@@ -31,7 +31,7 @@ module _ (matches : List ℕ → List ℕ → Bool) (here : ℕ → Bool) where
       asks_any matches here no_parts k J && at_number (asks_number matches here no_parts k) J
       && at_string (asks_string matches here no_parts k) J && at_array (own_array k) J && at_object (own_object k) J
 
-  -- of the document itself
+  -- what a form asks of the document itself
   abbrev pub own : Form → Document → Bool
   own Always J = true
   own Never J = false
@@ -55,14 +55,14 @@ module _ (matches : List ℕ → List ℕ → Bool) (below : ℕ → Document �
   abbrev pub parts_keywords : Keywords → Document → Bool
   parts_keywords k J = at_array (parts_array k) J && at_object (parts_object k) J
 
-  -- of its parts
+  -- what a form asks of the document's parts
   abbrev pub parts : Form → Document → Bool
   parts Always J = true
   parts Never J = true
   parts (Ref e) J = true
   parts (Asks k) J = parts_keywords k J
 
--- ---- the entries that one part is asked for
+-- ---- the entries that are applied to one part
 
 -- by a list of schemas, and by one for the elements after them
 abbrev pub of_listed : List ℕ → List ℕ → ℕ → List ℕ
@@ -75,7 +75,7 @@ of_items_part None rest i = []
 of_items_part (Some (Each e)) rest i = e ∷ []
 of_items_part (Some (Listed es)) rest i = of_listed es (lists one rest) i
 
--- of the element at a place, but for `contains`
+-- the entries for the element at a place, but for `contains`
 abbrev pub of_element : Form → ℕ → List ℕ
 of_element (Asks k) i = of_items_part k.items k.additional_items i
 of_element f i = []
@@ -99,30 +99,30 @@ module _ (matches : List ℕ → List ℕ → Bool) where
   of_names k w =
       lists (of_named (λ n. same_word n w)) k.properties ++ lists (of_named (λ t. matches t w)) k.pattern_properties
 
-  -- of a member with that name
+  -- the entries for a member with that name
   abbrev pub of_member : Form → List ℕ → List ℕ
   of_member (Asks k) w = or_else (of_names k w) (lists one k.additional_properties)
   of_member f w = []
 
--- of each name
+-- the entries for each name of a member
 abbrev pub of_name : Form → List ℕ
 of_name (Asks k) = lists one k.property_names
 of_name f = []
 
--- ---- requests: which entry asks, and which it asks for
+-- ---- requests: the owner, and the entry that it requests
 
--- each entry that e asks for passes the test
+-- each entry that e requests passes the test
 abbrev pub asked_by : ℕ → (ℕ → Bool) → List ℕ → List ℕ → Bool
 asked_by e p [] qs = true
 asked_by e p (o ∷ os) [] = true
 asked_by e p (o ∷ os) (q ∷ qs) = (not (nat_eq o e) || p q) && asked_by e p os qs
 
--- the same of verdicts
+-- each verdict on what e requests is true
 abbrev pub answered : ℕ → List ℕ → List Bool → Bool
 answered e [] bs = true
 answered e (o ∷ os) [] = true
 answered e (o ∷ os) (b ∷ bs) = (not (nat_eq o e) || b) && answered e os bs
 
--- an entry's place in a table of tests; past its end nothing is so
+-- an entry's place in a table of tests; past its end no test holds
 abbrev pub flag : List Bool → ℕ → Bool
 flag bs e = get_or bs e false

@@ -1,4 +1,4 @@
--- Forms whose verdict hangs on no other entry's verdict on the same document, and documents without parts.
+-- Forms whose verdict depends on no other entry's verdict on the same document, and documents without parts.
 use Rattle.std.specs.Prelude.{ℕ, Bool, true, false, ◌&&◌, Option, Some, None}
 use Rattle.documents.specs.Document.{Document, null, boolean, number, string, array, object}
 use Rattle.schemas.specs.Entry.{Form, Always, Never, Ref, Asks}
@@ -7,7 +7,7 @@ abbrev pub is_absent : {A : Type 0} → Option A → Bool
 is_absent None = true
 is_absent (Some x) = false
 
--- nothing in place, no `contains` and no `propertyNames`: each part is asked for by one keyword's schemas
+-- nothing in place, no `contains` and no `propertyNames`: each part is required to meet one keyword's schemas alone
 abbrev pub is_plain : Form → Bool
 is_plain Always = true
 is_plain Never = true

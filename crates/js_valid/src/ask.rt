@@ -1,96 +1,44 @@
-//! What the entries ask of one part of a document: requests, each of an entry that asks, its owner, for an entry that
-//! the part is to meet.
+//! What the entries ask of one part of a document: requests, each of an entry, its owner, for another one that the part
+//! is to meet.
 
-ghost use Rattle.std.specs.Prelude.{◌≡◌, ℕ, ◌<◌, ◌||◌, ◌&&◌, ◌++◌, ◌∷◌, if◌then◌else◌, not, nat_eq, nat_lt, true, false, Bool, List, [], IfOk, IsOk, map, option_map, length, get_or, slice_set};
+ghost use Rattle.std.specs.Prelude.{◌≡◌, ℕ, ◌<◌, ◌||◌, ◌&&◌, ◌++◌, ◌∷◌, if◌then◌else◌, not, nat_eq, nat_lt, true, false, Bool, List, [], IfOk, IsOk, map, option_map, length, get_or};
 ghost use Rattle.documents.specs.Tests.{every, same_word};
 ghost use Rattle.schemas.specs.Entry.{Asks};
 ghost use Rattle.schemas.specs.Schema.{lists, one, is_table, is_in_range, form_in_range};
 ghost use Rattle.js_schema.specs.View.{form_view, keywords_view, items_view, property_view, pattern_properties_view};
 ghost use Rattle.js_schema.specs.SchemaView.{schema_view};
 ghost use Rattle.js_match.specs.Matching.{matches};
-ghost use Rattle.js_valid.specs.Parts.{asked_by, flag, of_contains, of_element, of_items_part, of_listed, of_member, of_name, of_named, of_names, or_else};
-ghost use Rattle.js_valid.specs.Requests.{AsksMore, AskedAtPlaces, AskedByOwners, OthersAskNothing, contained};
+ghost use Rattle.js_valid.specs.Parts.{asked_by, of_contains, of_element, of_items_part, of_listed, of_member, of_name, of_named, of_names, or_else};
+ghost use Rattle.js_valid.specs.Requests.{AsksMore, AskedAtPlaces, AskedByOwners, OthersAskNothing, contained, entries_in, owners_in};
 
 use crate::found::is_found;
+use crate::request::Request;
 use crate::search::property_entry;
-use crate::tables::test_at;
 use js_doc::{Memory, Str};
 use js_match::letters;
 use js_schema::{EntryList, Form, ItemsPart, Keywords, PatternPropertyList, Schema};
 use std::alloc::Global;
 
-/// Requests of owners, by their places in a list, each for the entry at its place.
-#[derive(Drop)]
-pub(crate) struct Requests {
-    pub(crate) owners: Vec<usize>,
-    pub(crate) entries: Vec<u32>,
-}
-
-impl Requests {
-    pub(crate) fn new(alloc: Global) -> Requests
-        ensures owners { result.owners.items ≡ [] }
-        ensures entries { result.entries.items ≡ [] }
-    {
-        Requests {
-            owners: Vec::new(alloc),
-            entries: Vec::new(alloc),
-        }
-    }
-
-    /// Drops the requests of owners that don't have the test, by their places.
-    pub(crate) fn keep(&mut self, table: &[bool])
-        requires { length self.old.owners.items ≡ length self.old.entries.items }
-        ensures len { length self.new.owners.items ≡ length self.new.entries.items }
-        ensures asks { (e : ℕ) (p : ℕ → Bool) → asked_by e p self.new.owners.items self.new.entries.items
-            ≡ (not (flag table.now e) || asked_by e p self.old.owners.items self.old.entries.items) }
-    {
-        let mut kept = 0;
-        for i in 0..self.owners.len() {
-            if test_at(table, self.owners[i]) {
-                self.move_back(i, kept);
-                kept += 1;
-            }
-        }
-        self.owners.truncate(kept);
-        self.entries.truncate(kept);
-    }
-
-    /// Writes a request over another.
-    fn move_back(&mut self, from: usize, to: usize)
-        requires from { from < length self.old.owners.items }
-        requires to { to < length self.old.owners.items }
-        requires len { length self.old.owners.items ≡ length self.old.entries.items }
-        ensures owners { self.new.owners.items
-            ≡ slice_set self.old.owners.items to (get_or self.old.owners.items from 0) }
-        ensures entries { self.new.entries.items
-            ≡ slice_set self.old.entries.items to (get_or self.old.entries.items from 0) }
-    {
-        self.owners[to] = self.owners[from];
-        self.entries[to] = self.entries[from];
-    }
-}
-
 /// Adds requests of one owner.
-fn add(requests: &mut Requests, owner: usize, entries: &[u32]) -> Result<(), Memory>
-    requires { length requests.old.owners.items ≡ length requests.old.entries.items }
-    ensures len { IsOk result → length requests.new.owners.items ≡ length requests.new.entries.items }
-    ensures asks { IsOk result → (e : ℕ) (p : ℕ → Bool) → asked_by e p
-        requests.new.owners.items requests.new.entries.items
-        ≡ (asked_by e p requests.old.owners.items requests.old.entries.items && (not (nat_eq owner e)
+fn add(requests: &mut Vec<Request>, owner: usize, entries: &[u32]) -> Result<(), Memory>
+    ensures { IsOk result → (e : ℕ) (p : ℕ → Bool) → asked_by e p
+        (owners_in requests.new.items) (entries_in requests.new.items)
+        ≡ (asked_by e p (owners_in requests.old.items) (entries_in requests.old.items) && (not (nat_eq owner e)
         || every p entries.now)) }
 {
     for entry in entries {
-        requests.owners.push(owner)?;
-        requests.entries.push(*entry)?;
+        requests.push(Request {
+            owner,
+            entry: *entry,
+        })?;
     }
     Ok(())
 }
 
-fn add_option(requests: &mut Requests, owner: usize, entry: Option<u32>) -> Result<(), Memory>
-    requires { length requests.old.owners.items ≡ length requests.old.entries.items }
-    ensures len { IsOk result → length requests.new.owners.items ≡ length requests.new.entries.items }
-    ensures asks { IsOk result → AsksMore owner (lists one entry) requests.old.owners.items requests.old.entries.items
-        requests.new.owners.items requests.new.entries.items }
+fn add_option(requests: &mut Vec<Request>, owner: usize, entry: Option<u32>) -> Result<(), Memory>
+    ensures { IsOk result → AsksMore owner (lists one entry)
+        (owners_in requests.old.items) (entries_in requests.old.items)
+        (owners_in requests.new.items) (entries_in requests.new.items) }
 {
     match entry {
         None => Ok(()),
@@ -144,14 +92,13 @@ pub(crate) fn of_element(
     owners: &[u32],
     asking: &[usize],
     place: usize,
-) -> Result<Requests, Memory>
+) -> Result<Vec<Request>, Memory>
     requires owners { every (λ o. nat_lt o (length (schema_view schema.now))) owners.now ≡ true }
     requires within { (i : ℕ) → i < length asking.now → get_or asking.now i 0 < length owners.now }
-    ensures len { IfOk result (λ r. length r.owners.items ≡ length r.entries.items) }
-    ensures asks { IfOk result (λ r. AskedAtPlaces (schema_view schema.now) (λ f. of_element f place) owners.now
-        asking.now r.owners.items r.entries.items) }
+    ensures { IfOk result (λ r. AskedAtPlaces (schema_view schema.now) (λ f. of_element f place) owners.now
+        asking.now (owners_in r.items) (entries_in r.items)) }
 {
-    let mut requests = Requests::new(alloc);
+    let mut requests = Vec::new(alloc);
     for i in asking {
         add_element(&mut requests, *i, schema.form(owners[*i]), place)?;
     }
@@ -169,15 +116,14 @@ pub(crate) fn element_entry(form: &Form, place: usize) -> Option<u32>
 }
 
 fn add_element(
-    requests: &mut Requests,
+    requests: &mut Vec<Request>,
     owner: usize,
     form: &Form,
     place: usize,
 ) -> Result<(), Memory>
-    requires { length requests.old.owners.items ≡ length requests.old.entries.items }
-    ensures len { IsOk result → length requests.new.owners.items ≡ length requests.new.entries.items }
-    ensures asks { IsOk result → AsksMore owner (of_element (form_view form.now) place) requests.old.owners.items
-        requests.old.entries.items requests.new.owners.items requests.new.entries.items }
+    ensures { IsOk result → AsksMore owner (of_element (form_view form.now) place)
+        (owners_in requests.old.items) (entries_in requests.old.items)
+        (owners_in requests.new.items) (entries_in requests.new.items) }
 {
     add_option(requests, owner, element_entry(form, place))
 }
@@ -209,24 +155,22 @@ pub(crate) fn of_contains(
     alloc: Global,
     schema: &Schema,
     owners: &[u32],
-) -> Result<Requests, Memory>
+) -> Result<Vec<Request>, Memory>
     requires { every (λ o. nat_lt o (length (schema_view schema.now))) owners.now ≡ true }
-    ensures len { IfOk result (λ r. length r.owners.items ≡ length r.entries.items) }
-    ensures asks { IfOk result (λ r. AskedByOwners (schema_view schema.now) of_contains owners.now
-        r.owners.items r.entries.items) }
+    ensures { IfOk result (λ r. AskedByOwners (schema_view schema.now) of_contains owners.now
+        (owners_in r.items) (entries_in r.items)) }
 {
-    let mut requests = Requests::new(alloc);
+    let mut requests = Vec::new(alloc);
     for (i, owner) in owners.iter().enumerate() {
         add_contains(&mut requests, i, schema.form(*owner))?;
     }
     Ok(requests)
 }
 
-fn add_contains(requests: &mut Requests, owner: usize, form: &Form) -> Result<(), Memory>
-    requires { length requests.old.owners.items ≡ length requests.old.entries.items }
-    ensures len { IsOk result → length requests.new.owners.items ≡ length requests.new.entries.items }
-    ensures asks { IsOk result → AsksMore owner (of_contains (form_view form.now)) requests.old.owners.items
-        requests.old.entries.items requests.new.owners.items requests.new.entries.items }
+fn add_contains(requests: &mut Vec<Request>, owner: usize, form: &Form) -> Result<(), Memory>
+    ensures { IsOk result → AsksMore owner (of_contains (form_view form.now))
+        (owners_in requests.old.items) (entries_in requests.old.items)
+        (owners_in requests.new.items) (entries_in requests.new.items) }
 {
     match form {
         Form::Keywords(keywords) => add_option(requests, owner, keywords.arrays.contains),
@@ -244,24 +188,26 @@ pub(crate) fn contained_entry(form: &Form) -> Option<u32>
 }
 
 /// The requests of `propertyNames`.
-pub(crate) fn of_name(alloc: Global, schema: &Schema, owners: &[u32]) -> Result<Requests, Memory>
+pub(crate) fn of_name(
+    alloc: Global,
+    schema: &Schema,
+    owners: &[u32],
+) -> Result<Vec<Request>, Memory>
     requires { every (λ o. nat_lt o (length (schema_view schema.now))) owners.now ≡ true }
-    ensures len { IfOk result (λ r. length r.owners.items ≡ length r.entries.items) }
-    ensures asks { IfOk result (λ r. AskedByOwners (schema_view schema.now) of_name owners.now
-        r.owners.items r.entries.items) }
+    ensures { IfOk result (λ r. AskedByOwners (schema_view schema.now) of_name owners.now
+        (owners_in r.items) (entries_in r.items)) }
 {
-    let mut requests = Requests::new(alloc);
+    let mut requests = Vec::new(alloc);
     for (i, owner) in owners.iter().enumerate() {
         add_name(&mut requests, i, schema.form(*owner))?;
     }
     Ok(requests)
 }
 
-fn add_name(requests: &mut Requests, owner: usize, form: &Form) -> Result<(), Memory>
-    requires { length requests.old.owners.items ≡ length requests.old.entries.items }
-    ensures len { IsOk result → length requests.new.owners.items ≡ length requests.new.entries.items }
-    ensures asks { IsOk result → AsksMore owner (of_name (form_view form.now)) requests.old.owners.items
-        requests.old.entries.items requests.new.owners.items requests.new.entries.items }
+fn add_name(requests: &mut Vec<Request>, owner: usize, form: &Form) -> Result<(), Memory>
+    ensures { IsOk result → AsksMore owner (of_name (form_view form.now))
+        (owners_in requests.old.items) (entries_in requests.old.items)
+        (owners_in requests.new.items) (entries_in requests.new.items) }
 {
     match form {
         Form::Keywords(keywords) => add_option(requests, owner, keywords.objects.property_names),
@@ -308,16 +254,15 @@ pub(crate) fn of_member(
     owners: &[u32],
     asking: &[usize],
     name: &Str,
-) -> Result<Requests, Memory>
+) -> Result<Vec<Request>, Memory>
     requires table { is_table (schema_view schema.now) ≡ true }
     requires owners { every (λ o. nat_lt o (length (schema_view schema.now))) owners.now ≡ true }
     requires within { (i : ℕ) → i < length asking.now → get_or asking.now i 0 < length owners.now }
-    ensures len { IfOk result (λ r. length r.owners.items ≡ length r.entries.items) }
-    ensures asks { IfOk result (λ r. AskedAtPlaces (schema_view schema.now) (λ f.
+    ensures { IfOk result (λ r. AskedAtPlaces (schema_view schema.now) (λ f.
         of_member matches f name.now) owners.now
-        asking.now r.owners.items r.entries.items) }
+        asking.now (owners_in r.items) (entries_in r.items)) }
 {
-    let mut requests = Requests::new(alloc);
+    let mut requests = Vec::new(alloc);
     // One list for all owners, so that memory isn't taken for each.
     let mut found = Vec::new(alloc);
     for i in asking {
@@ -335,18 +280,16 @@ pub(crate) fn of_member(
 
 fn add_member(
     alloc: Global,
-    requests: &mut Requests,
+    requests: &mut Vec<Request>,
     found: &mut Vec<u32>,
     owner: usize,
     form: &Form,
     name: &Str,
 ) -> Result<(), Memory>
-    requires range { form_in_range (form_view form.now) ≡ true }
-    requires len { length requests.old.owners.items ≡ length requests.old.entries.items }
-    ensures len { IsOk result → length requests.new.owners.items ≡ length requests.new.entries.items }
-    ensures asks { IsOk result → AsksMore owner (of_member matches (form_view form.now)
-        name.now) requests.old.owners.items
-        requests.old.entries.items requests.new.owners.items requests.new.entries.items }
+    requires { form_in_range (form_view form.now) ≡ true }
+    ensures { IsOk result → AsksMore owner (of_member matches (form_view form.now) name.now)
+        (owners_in requests.old.items) (entries_in requests.old.items)
+        (owners_in requests.new.items) (entries_in requests.new.items) }
 {
     find_entries(alloc, found, form, name)?;
     add(requests, owner, found)
@@ -409,7 +352,7 @@ fn property_of(keywords: &Keywords, name: &Str) -> Option<u32>
     }
 }
 
-/// The one entry for a member with that name, where no pattern asks for it.
+/// The one entry for a member with that name, where no pattern matches it.
 pub(crate) fn only_entry(keywords: &Keywords, name: &Str) -> Option<u32>
     requires range { is_in_range (keywords_view keywords.now) ≡ true }
     requires patterns { keywords.now.objects.value.pattern_properties ≡ None }

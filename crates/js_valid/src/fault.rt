@@ -3,7 +3,7 @@
 use js_doc::Memory;
 use thiserror::Error;
 
-/// Memory was asked for and refused. No call says when.
+/// Memory was requested and refused. No call says when.
 #[derive(Clone, Copy, PartialEq, Eq, Debug, Drop, Error)]
 pub enum ValidFault {
     #[error("out of memory")]

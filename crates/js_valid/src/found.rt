@@ -9,7 +9,7 @@ use js_match::is_in;
 use js_schema::PatternText;
 use std::alloc::Global;
 
-/// The word is given by its characters, so that one word can be asked for many patterns.
+/// The word is given by its characters, so that one word can be searched for many patterns.
 pub(crate) fn is_found(alloc: Global, pattern: &PatternText, word: &[char]) -> Result<bool, Memory>
     ensures { IfOk result (λ b. b ≡ matches (source_of pattern.now) word.now) }
 {

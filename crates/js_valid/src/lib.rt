@@ -1,18 +1,21 @@
 //! Whether a document is valid for a schema of draft-06, given as a table of entries.
 //!
 //! `valid` answers `entry_valid` of `draft06` exactly. It goes down the document: at each part the entries that are
-//! asked of it are decided together, each once, those with lesser ranks first, and no other is looked at: so shared
+//! applied to it are decided together, each once, those with lesser ranks first, and no other is looked at: so shared
 //! references and nested choices cost no more than the entries that they lead to. Neither long chains of references nor
 //! repeats in patterns are recursions; only the document's depth is. The commands that judge documents stand on it.
 #![tactic(auto)]
 
 mod ask;
 mod asked;
+mod choices;
+mod comparison;
 mod decide;
 mod fault;
 mod found;
 mod order;
 mod own;
+mod part_comparison;
 mod part_elements;
 mod part_fine;
 mod part_frame;
@@ -22,27 +25,29 @@ mod part_verdicts;
 mod pending;
 mod plain;
 mod plan;
+mod request;
 mod same;
 mod scalar;
 mod search;
 mod settle;
 mod stand;
 mod tables;
+mod validator;
 mod verdicts;
 
 ghost use Rattle.std.specs.Prelude.{◌≡◌, ◌<◌, IfOk, length};
 ghost use Rattle.draft06.specs.EntryValidity.{entry_valid};
 ghost use Rattle.shared_documents.specs.Unshared.{unshared};
 ghost use Rattle.js_doc.specs.View.{view};
-ghost use Rattle.js_schema.specs.SchemaView.{schema_view};
 ghost use Rattle.js_guard.specs.RankedView.{entries_of};
+ghost use Rattle.js_schema.specs.SchemaView.{schema_view};
 ghost use Rattle.js_match.specs.Matching.{matches};
 ghost use Rattle.js_valid.specs.Plan.{IsPlan, IsPlanned};
 
-use crate::decide::is_met;
+use crate::choices::all_choices;
 use crate::order::order_of;
-use crate::part_verdicts::is_part_met;
 use crate::plan::{Plan, places_of};
+use crate::validator::Validator;
 pub use fault::ValidFault;
 use js_doc::{Doc, Memory, PartId, Parts};
 use js_guard::RankedSchema;
@@ -51,9 +56,10 @@ use std::alloc::Global;
 
 /// Whether the document is valid for the root of the schema, entry 0.
 ///
-/// Time: the entries once, and at each part of the document what the entries that are asked of it look at there; a
+/// Time: the entries once, and at each part of the document what the entries that are applied to it look at there; a
 /// pattern costs the nodes of its tree times the length of the text for each round of its repeats. Memory for the
-/// entries once, and at each level of the document for those that are asked.
+/// entries and the values of each `enum` once, and at each level of the document for those that are applied. These
+/// values are sorted once, and a part is compared with as many of them as the logarithm of their number.
 pub fn valid(alloc: Global, schema: &RankedSchema, doc: &Doc) -> Result<bool, ValidFault>
     ensures { IfOk result (λ b. b ≡ entry_valid matches (entries_of schema.now) 0 (view doc.now)) }
 {
@@ -76,16 +82,21 @@ pub fn valid_parts(
     ensures { IfOk result (λ b. b ≡ entry_valid matches (entries_of schema.now) 0 (unshared parts.now part.0)) }
 {
     let plan = plan_of(alloc, schema)?;
-    Ok(is_part_met(alloc, &schema.table, &plan, parts, part, 0)?)
+    Ok(is_part_met(alloc, &schema.table, &plan, parts, part)?)
 }
 
-/// The entries in an order in which each stands after those that it names in place.
-fn plan_of(alloc: Global, schema: &RankedSchema) -> Result<Plan, Memory>
+/// The entries in an order in which each comes after those that it names in place, with the values that each lists.
+fn plan_of(alloc: Global, schema: &RankedSchema) -> Result<Plan<'_>, Memory>
     ensures { IfOk result (λ plan. IsPlanned (entries_of schema.now) plan) }
 {
     let order = ordered(alloc, schema)?;
     let places = places_of(alloc, &order, schema.table.len() as usize)?;
-    Ok(Plan { order, places })
+    let choices = all_choices(alloc, &schema.table)?;
+    Ok(Plan {
+        order,
+        places,
+        choices,
+    })
 }
 
 fn ordered(alloc: Global, schema: &RankedSchema) -> Result<Vec<u32>, Memory>
@@ -94,10 +105,34 @@ fn ordered(alloc: Global, schema: &RankedSchema) -> Result<Vec<u32>, Memory>
     order_of(alloc, schema.ranks.as_slice())
 }
 
-fn is_root_met(alloc: Global, schema: &Schema, plan: &Plan, doc: &Doc) -> Result<bool, Memory>
+fn is_root_met(alloc: Global, schema: &Schema, plan: &Plan<'_>, doc: &Doc) -> Result<bool, Memory>
     requires { IsPlanned (schema_view schema.now) plan.now }
     ensures { IfOk result (λ b. b ≡ entry_valid matches (schema_view schema.now) 0 (view doc.now)) }
 {
     let mut held = Vec::with_capacity(alloc, schema.len() as usize)?;
-    is_met(alloc, schema, plan, &mut held, doc, 0)
+    let validator = Validator {
+        alloc,
+        schema,
+        plan,
+    };
+    validator.is_met(&mut held, doc, 0)
+}
+
+fn is_part_met(
+    alloc: Global,
+    schema: &Schema,
+    plan: &Plan<'_>,
+    parts: &Parts,
+    part: PartId,
+) -> Result<bool, Memory>
+    requires within { part.0 < length parts.now }
+    requires plan { IsPlanned (schema_view schema.now) plan.now }
+    ensures { IfOk result (λ b. b ≡ entry_valid matches (schema_view schema.now) 0 (unshared parts.now part.0)) }
+{
+    let validator = Validator {
+        alloc,
+        schema,
+        plan,
+    };
+    validator.is_part_met(parts, part, 0)
 }

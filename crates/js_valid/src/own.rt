@@ -4,55 +4,63 @@ ghost use Rattle.std.specs.Prelude.{◌≡◌, ℕ, List, ◌||◌, not, nat_le,
 ghost use Rattle.documents.specs.Tests.{every, some};
 ghost use Rattle.documents.specs.Document.{elements, entries};
 ghost use Rattle.documents.specs.Measures.{is_multiple, has_name, exactly_one, same_document};
+ghost use Rattle.schemas.specs.Entry.{Asks};
 ghost use Rattle.schemas.specs.Schema.{meets};
 ghost use Rattle.draft06.specs.EntryValidity.{has_type, need_asks, asks_number, asks_string};
 ghost use Rattle.js_doc.specs.View.{view, list_view, map_view};
 ghost use Rattle.js_keywords.specs.TypeView.{type_view};
 ghost use Rattle.js_schema.specs.View.{form_view, keywords_view, needs_view, dependency_view};
 ghost use Rattle.js_match.specs.Matching.{matches};
+ghost use Rattle.js_valid.specs.Choices.{AreChoices};
 ghost use Rattle.js_valid.specs.Frame.{any_asks, frame_asks, is_given};
 ghost use Rattle.js_valid.specs.Parts.{flag, own, own_keywords, own_array, own_object, no_parts, no_entry};
 
+use crate::choices::is_among;
 use crate::found::is_found;
 use crate::search::has_member;
 use crate::tables::{all_hold, holds, just_one_holds, one_holds};
 use js_doc::{Doc, DocList, DocMap, Memory, Str, StrList, equal};
 use js_keywords::TypeName;
 use js_match::letters;
-use js_schema::{DependencyList, EntryList, Form, Keywords, Needs, TypeList};
+use js_schema::{Dependency, DependencyList, EntryList, Form, Keywords, Needs, TypeList};
 use std::alloc::Global;
 
+/// The choices are the values of the form's `enum`, in order.
 pub(crate) fn meets_own(
     alloc: Global,
     form: &Form,
+    choices: &[&Doc],
     here: &[bool],
     doc: &Doc,
 ) -> Result<bool, Memory>
+    requires { AreChoices (form_view form.now) choices.now }
     ensures { IfOk result (λ b. b ≡ own matches (flag here.now) (form_view form.now) (view doc.now)) }
 {
     match form {
         Form::Always => Ok(true),
         Form::Never => Ok(false),
         Form::Ref(target) => Ok(holds(here, *target)),
-        Form::Keywords(keywords) => meets_keywords(alloc, keywords, here, doc),
+        Form::Keywords(keywords) => meets_keywords(alloc, keywords, choices, here, doc),
     }
 }
 
 fn meets_keywords(
     alloc: Global,
     keywords: &Keywords,
+    choices: &[&Doc],
     here: &[bool],
     doc: &Doc,
 ) -> Result<bool, Memory>
+    requires { AreChoices (Asks (keywords_view keywords.now)) choices.now }
     ensures { IfOk result (λ b. b ≡ own_keywords matches (flag here.now) (keywords_view keywords.now) (view doc.now)) }
 {
-    if !is_given(keywords, doc) {
+    if !is_given(keywords, choices, doc) {
         return Ok(false);
     }
     meets_frame(alloc, keywords, here, doc)
 }
 
-/// What a form asks but for `enum` and `const`: it hangs on no element and no member's value.
+/// What a form asks but for `enum` and `const`: it depends on no element and no member's value.
 pub(crate) fn meets_frame(
     alloc: Global,
     keywords: &Keywords,
@@ -83,37 +91,19 @@ fn meets_any(keywords: &Keywords, here: &[bool], doc: &Doc) -> bool
         && meets_not(keywords.in_place.not, here)
 }
 
-pub(crate) fn is_given(keywords: &Keywords, doc: &Doc) -> bool
+pub(crate) fn is_given(keywords: &Keywords, choices: &[&Doc], doc: &Doc) -> bool
+    requires { AreChoices (Asks (keywords_view keywords.now)) choices.now }
     ensures { result ≡ is_given (keywords_view keywords.now) (view doc.now) }
 {
-    is_listed(keywords, doc) && is_constant(keywords, doc)
+    is_listed(keywords, choices, doc) && is_constant(keywords, doc)
 }
 
-fn is_listed(keywords: &Keywords, doc: &Doc) -> bool
+fn is_listed(keywords: &Keywords, choices: &[&Doc], doc: &Doc) -> bool
+    requires { AreChoices (Asks (keywords_view keywords.now)) choices.now }
     ensures { result ≡ meets (some (λ d. same_document d (view doc.now)))
         (option_map (λ ds. elements (list_view ds)) keywords.now.any.value.enumeration) }
 {
-    match &keywords.any.enumeration {
-        None => true,
-        Some(list) => is_in_list(list, doc),
-    }
-}
-
-fn is_in_list(list: &DocList, doc: &Doc) -> bool
-    ensures { result ≡ some (λ d. same_document d (view doc.now)) (elements (list_view list.now)) }
-{
-    is_among(list.as_slice(), doc)
-}
-
-fn is_among(docs: &[Doc], doc: &Doc) -> bool
-    ensures { result ≡ some (λ d. same_document d (view doc.now)) (map view docs.now) }
-{
-    for other in docs {
-        if is_same(other, doc) {
-            return true;
-        }
-    }
-    false
+    keywords.any.enumeration.is_none() || is_among(choices, doc)
 }
 
 fn is_same(a: &Doc, b: &Doc) -> bool
@@ -144,12 +134,7 @@ pub(crate) fn has_types(keywords: &Keywords, doc: &Doc) -> bool
 fn has_one_type(types: &TypeList, doc: &Doc) -> bool
     ensures { result ≡ some (has_type (view doc.now)) (map type_view types.now) }
 {
-    for name in types.as_slice() {
-        if is_of_type(*name, doc) {
-            return true;
-        }
-    }
-    false
+    types.as_slice().iter().any(|name| is_of_type(*name, doc))
 }
 
 fn is_of_type(name: TypeName, doc: &Doc) -> bool
@@ -345,12 +330,10 @@ pub(crate) fn has_required(names: &Option<StrList>, members: &DocMap) -> bool
 fn has_names(names: &StrList, members: &DocMap) -> bool
     ensures { result ≡ every (λ w. has_name w (entries (map_view members.now))) names.now }
 {
-    for name in names.as_slice() {
-        if !has_member(members, name) {
-            return false;
-        }
-    }
-    true
+    names
+        .as_slice()
+        .iter()
+        .all(|name| has_member(members, name))
 }
 
 pub(crate) fn meets_dependencies(
@@ -372,12 +355,16 @@ fn meets_each_dependency(list: &DependencyList, here: &[bool], members: &DocMap)
     ensures { result ≡ every (λ n. not (has_name n.0 (entries (map_view members.now)))
         || need_asks (flag here.now) n.1 (entries (map_view members.now))) (map dependency_view list.now) }
 {
-    for dependency in list.as_slice() {
-        if has_member(members, &dependency.key) && !meets_needs(&dependency.needs, here, members) {
-            return false;
-        }
-    }
-    true
+    list.as_slice()
+        .iter()
+        .all(|dependency| is_dependency_met(dependency, here, members))
+}
+
+fn is_dependency_met(dependency: &Dependency, here: &[bool], members: &DocMap) -> bool
+    ensures { result ≡ (not (has_name (dependency_view dependency.now).0 (entries (map_view members.now)))
+        || need_asks (flag here.now) (dependency_view dependency.now).1 (entries (map_view members.now))) }
+{
+    !has_member(members, &dependency.key) || meets_needs(&dependency.needs, here, members)
 }
 
 fn meets_needs(needs: &Needs, here: &[bool], members: &DocMap) -> bool

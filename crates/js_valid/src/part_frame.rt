@@ -6,8 +6,16 @@ ghost use Rattle.shared_documents.specs.Unshared.{built};
 ghost use Rattle.js_doc.specs.PartView.{part_view};
 ghost use Rattle.js_doc.specs.View.{view, list_view, map_view, member_view};
 
-use js_doc::{Doc, DocList, DocMap, Member, Memory, Part, PartIds, PartMap, Word};
+use js_doc::{Doc, DocList, DocMap, Member, Memory, Part, PartId, PartIds, PartMap, Parts, Word};
 use std::alloc::Global;
+
+/// A part of a table, and its frame.
+#[derive(Clone, Copy)]
+pub(crate) struct FramedPart<'a> {
+    pub(crate) parts: &'a Parts,
+    pub(crate) id: PartId,
+    pub(crate) frame: &'a Doc,
+}
 
 /// Time and memory in proportion to the part.
 pub(crate) fn frame_of(alloc: Global, part: &Part) -> Result<Doc, Memory>

@@ -68,10 +68,5 @@ fn are_all_met(entries: &[u32], tables: &[Verdicts], id: PartId) -> bool
     ensures { (es : List Entry) (ps : List Part) → KnowsTables es ps tables.now
         → result ≡ every (λ q. valid_at es q (unshared ps id.0)) entries.now }
 {
-    for entry in entries {
-        if !holds_at(tables, id, *entry) {
-            return false;
-        }
-    }
-    true
+    entries.iter().all(|entry| holds_at(tables, id, *entry))
 }

@@ -1,102 +1,87 @@
 //! What a form asks of the document of a part itself. The part is given as a document too, its frame, in which `null`
 //! stands for each element and each member's value: only `enum` and `const` look at these.
 
-ghost use Rattle.std.specs.Prelude.{◌≡◌, ◌<◌, IfOk, map, length, option_map};
+ghost use Rattle.std.specs.Prelude.{◌≡◌, ◌<◌, IfOk, length, option_map};
 ghost use Rattle.documents.specs.Tests.{some};
-ghost use Rattle.documents.specs.Document.{elements, null};
+ghost use Rattle.documents.specs.Document.{elements};
 ghost use Rattle.documents.specs.Measures.{same_document};
+ghost use Rattle.schemas.specs.Entry.{Asks};
 ghost use Rattle.schemas.specs.Schema.{meets};
-ghost use Rattle.shared_documents.specs.Part.{part_at};
-ghost use Rattle.shared_documents.specs.Unshared.{built, unshared};
+ghost use Rattle.shared_documents.specs.Unshared.{unshared};
 ghost use Rattle.js_doc.specs.View.{view, list_view};
 ghost use Rattle.js_schema.specs.View.{form_view, keywords_view};
 ghost use Rattle.js_match.specs.Matching.{matches};
+ghost use Rattle.js_valid.specs.Choices.{AreChoices};
 ghost use Rattle.js_valid.specs.Frame.{is_given};
+ghost use Rattle.js_valid.specs.PartTables.{IsFramed, document_of};
 ghost use Rattle.js_valid.specs.Parts.{flag, own, own_keywords};
 
+use crate::choices::is_part_among;
 use crate::own::meets_frame;
+use crate::part_frame::FramedPart;
 use crate::same::is_part;
 use crate::tables::holds;
-use js_doc::{Doc, DocList, Memory, PartId, Parts};
+use js_doc::{Doc, Memory, PartId, Parts};
 use js_schema::{Form, Keywords};
 use std::alloc::Global;
 
+/// The choices are the values of the form's `enum`, in order.
 pub(crate) fn meets_own_part(
     alloc: Global,
     form: &Form,
+    choices: &[&Doc],
     here: &[bool],
-    parts: &Parts,
-    id: PartId,
-    frame: &Doc,
+    part: &FramedPart<'_>,
 ) -> Result<bool, Memory>
-    requires within { id.0 < length parts.now }
-    requires frame { view frame.now ≡ built (λ i. null) (part_at parts.now id.0) }
-    ensures { IfOk result (λ b. b ≡ own matches (flag here.now) (form_view form.now) (unshared parts.now id.0)) }
+    requires choices { AreChoices (form_view form.now) choices.now }
+    requires within { part.now.id.0 < length part.now.parts.now }
+    requires frame { IsFramed part.now }
+    ensures { IfOk result (λ b. b ≡ own matches (flag here.now) (form_view form.now) (document_of part.now)) }
 {
     match form {
         Form::Always => Ok(true),
         Form::Never => Ok(false),
         Form::Ref(target) => Ok(holds(here, *target)),
-        Form::Keywords(keywords) => meets_keywords(alloc, keywords, here, parts, id, frame),
+        Form::Keywords(keywords) => meets_keywords(alloc, keywords, choices, here, part),
     }
 }
 
 fn meets_keywords(
     alloc: Global,
     keywords: &Keywords,
+    choices: &[&Doc],
     here: &[bool],
-    parts: &Parts,
-    id: PartId,
-    frame: &Doc,
+    part: &FramedPart<'_>,
 ) -> Result<bool, Memory>
-    requires within { id.0 < length parts.now }
-    requires frame { view frame.now ≡ built (λ i. null) (part_at parts.now id.0) }
+    requires choices { AreChoices (Asks (keywords_view keywords.now)) choices.now }
+    requires within { part.now.id.0 < length part.now.parts.now }
+    requires frame { IsFramed part.now }
     ensures { IfOk result (λ b. b ≡ own_keywords matches (flag here.now) (keywords_view keywords.now)
-        (unshared parts.now id.0)) }
+        (document_of part.now)) }
 {
     // A table tells what holds of it.
-    let _ = parts.get(id);
-    if !is_given(keywords, parts, id) {
+    let _ = part.parts.get(part.id);
+    if !is_given(keywords, choices, part.parts, part.id) {
         return Ok(false);
     }
-    meets_frame(alloc, keywords, here, frame)
+    meets_frame(alloc, keywords, here, part.frame)
 }
 
-fn is_given(keywords: &Keywords, parts: &Parts, id: PartId) -> bool
-    requires { id.0 < length parts.now }
+fn is_given(keywords: &Keywords, choices: &[&Doc], parts: &Parts, id: PartId) -> bool
+    requires choices { AreChoices (Asks (keywords_view keywords.now)) choices.now }
+    requires within { id.0 < length parts.now }
     ensures { result ≡ is_given (keywords_view keywords.now) (unshared parts.now id.0) }
 {
-    is_listed(keywords, parts, id) && is_constant(keywords, parts, id)
+    is_listed(keywords, choices, parts, id) && is_constant(keywords, parts, id)
 }
 
-fn is_listed(keywords: &Keywords, parts: &Parts, id: PartId) -> bool
-    requires { id.0 < length parts.now }
+fn is_listed(keywords: &Keywords, choices: &[&Doc], parts: &Parts, id: PartId) -> bool
+    requires choices { AreChoices (Asks (keywords_view keywords.now)) choices.now }
+    requires within { id.0 < length parts.now }
     ensures { result ≡ meets (some (λ d. same_document d (unshared parts.now id.0)))
         (option_map (λ ds. elements (list_view ds)) keywords.now.any.value.enumeration) }
 {
-    match &keywords.any.enumeration {
-        None => true,
-        Some(list) => is_in_list(list, parts, id),
-    }
-}
-
-fn is_in_list(list: &DocList, parts: &Parts, id: PartId) -> bool
-    requires { id.0 < length parts.now }
-    ensures { result ≡ some (λ d. same_document d (unshared parts.now id.0)) (elements (list_view list.now)) }
-{
-    is_among(list.as_slice(), parts, id)
-}
-
-fn is_among(docs: &[Doc], parts: &Parts, id: PartId) -> bool
-    requires { id.0 < length parts.now }
-    ensures { result ≡ some (λ d. same_document d (unshared parts.now id.0)) (map view docs.now) }
-{
-    for other in docs {
-        if is_part(other, parts, id) {
-            return true;
-        }
-    }
-    false
+    keywords.any.enumeration.is_none() || is_part_among(choices, parts, id)
 }
 
 fn is_constant(keywords: &Keywords, parts: &Parts, id: PartId) -> bool

@@ -1,4 +1,4 @@
-//! Entries that are asked alone of a document. References are followed; a form that then hangs on no other entry's
+//! Entries that are applied alone to a document. References are followed; a form that then depends on no other entry's
 //! verdict on the same document needs no table of verdicts.
 
 ghost use Rattle.std.specs.Prelude.{◌≡◌, ℕ, true, List};
@@ -45,7 +45,8 @@ fn reference_of(form: &Form) -> Option<u32>
     }
 }
 
-/// Whether the form hangs on no other entry's verdict on the same document, and asks for each part at one place only.
+/// Whether the form depends on no other entry's verdict on the same document, and requires something of each part at
+/// one place only.
 pub(crate) fn is_plain(form: &Form) -> bool
     ensures { result ≡ is_plain (form_view form.now) }
 {

@@ -1,19 +1,23 @@
-//! The entries of a schema in rising order of their ranks, and where each of them stands: made once for a document.
+//! The entries of a schema in rising order of their ranks, where each of them is, and the values that each lists: made
+//! once for a document.
 
 ghost use Rattle.std.specs.Prelude.{◌≡◌, ℕ, ◌<◌, nat_eq, IfOk, length, get_or, if◌then◌else◌};
 ghost use Rattle.js_valid.specs.Plan.{StandAt};
 
-use js_doc::Memory;
+use js_doc::{Doc, Memory};
 use std::alloc::Global;
 
-/// An order in which each entry stands after those that it names in place, and the place of each entry in it.
+/// An order in which each entry comes after those that it names in place, and the place of each entry in it.
 #[derive(Drop)]
-pub(crate) struct Plan {
+pub(crate) struct Plan<'a> {
     pub(crate) order: Vec<u32>,
     pub(crate) places: Vec<usize>,
+
+    /// The values of each entry's `enum`, in the order of documents.
+    pub(crate) choices: Vec<Vec<&'a Doc>>,
 }
 
-impl Plan {
+impl Plan<'_> {
     /// The place of the entry; past the last one it is the first.
     pub(crate) fn place_of(&self, entry: u32) -> usize
         ensures { result ≡ get_or self.now.places.items entry 0 }
@@ -26,7 +30,7 @@ impl Plan {
     }
 }
 
-/// Where each of so many entries stands. It takes their number in time and memory.
+/// Where each of so many entries is. It takes their number in time and memory.
 pub(crate) fn places_of(alloc: Global, order: &[u32], count: usize) -> Result<Vec<usize>, Memory>
     requires { (k : ℕ) → k < length order.now → get_or order.now k 0 < count }
     ensures { IfOk result (λ places. (k : ℕ) → k < length order.now

@@ -9,12 +9,13 @@ ghost use Rattle.js_schema.specs.SchemaView.{schema_view};
 ghost use Rattle.js_match.specs.Matching.{matches};
 ghost use Rattle.js_valid.specs.Parts.{flag, own};
 ghost use Rattle.js_valid.specs.Plain.{is_plain, is_scalar};
+ghost use Rattle.js_valid.specs.Plan.{HasPlan, table_of};
 
 use crate::own::meets_own;
 use crate::plain::is_plain;
+use crate::validator::Validator;
 use js_doc::{Doc, Memory};
 use js_schema::Schema;
-use std::alloc::Global;
 
 /// Whether the document has no parts.
 pub(crate) fn is_scalar(doc: &Doc) -> bool
@@ -30,12 +31,7 @@ pub(crate) fn is_scalar(doc: &Doc) -> bool
 pub(crate) fn are_plain(schema: &Schema, entries: &[u32]) -> bool
     ensures { result ≡ every (λ q. is_plain (form_at (schema_view schema.now) q)) entries.now }
 {
-    for entry in entries {
-        if !is_entry_plain(schema, *entry) {
-            return false;
-        }
-    }
-    true
+    entries.iter().all(|entry| is_entry_plain(schema, *entry))
 }
 
 fn is_entry_plain(schema: &Schema, entry: u32) -> bool
@@ -49,26 +45,29 @@ fn is_entry_plain(schema: &Schema, entry: u32) -> bool
 
 /// What each of the entries says of the document itself. Time for what it says, each time that it stands in the list.
 pub(crate) fn own_verdicts(
-    alloc: Global,
-    schema: &Schema,
+    validator: &Validator<'_>,
     doc: &Doc,
     entries: &[u32],
 ) -> Result<Vec<bool>, Memory>
+    requires { HasPlan validator.now }
     ensures { IfOk result (λ vs. vs.items
-        ≡ map (λ q. own matches (flag []) (form_at (schema_view schema.now) q) (view doc.now)) entries.now) }
+        ≡ map (λ q. own matches (flag []) (form_at (table_of validator.now) q) (view doc.now)) entries.now) }
 {
-    let mut verdicts = Vec::with_capacity(alloc, entries.len())?;
+    let mut verdicts = Vec::with_capacity(validator.alloc, entries.len())?;
     for entry in entries {
-        verdicts.push(is_own_met(alloc, schema, *entry, doc)?)?;
+        verdicts.push(is_own_met(validator, *entry, doc)?)?;
     }
     Ok(verdicts)
 }
 
-fn is_own_met(alloc: Global, schema: &Schema, entry: u32, doc: &Doc) -> Result<bool, Memory>
-    ensures { IfOk result (λ b. b ≡ own matches (flag []) (form_at (schema_view schema.now) entry) (view doc.now)) }
+fn is_own_met(validator: &Validator<'_>, entry: u32, doc: &Doc) -> Result<bool, Memory>
+    requires { HasPlan validator.now }
+    ensures { IfOk result (λ b. b ≡ own matches (flag []) (form_at (table_of validator.now) entry) (view doc.now)) }
 {
+    let schema = validator.schema;
     if entry >= schema.len() {
         return Ok(false);
     }
-    meets_own(alloc, schema.form(entry), &[], doc)
+    let choices = validator.choices(entry);
+    meets_own(validator.alloc, schema.form(entry), choices, &[], doc)
 }

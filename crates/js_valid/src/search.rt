@@ -1,4 +1,4 @@
-//! Look-ups of names: binary searches, since the members of objects and of `properties` stand in the order of their
+//! Look-ups of names: binary searches, since the members of objects and of `properties` are in the order of their
 //! names.
 
 ghost use Rattle.std.specs.Prelude.{◌≡◌, true, map, chars};

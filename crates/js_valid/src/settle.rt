@@ -1,6 +1,6 @@
-//! Verdicts of the entries that are asked of a document, one after another, each after those that it names in place.
+//! Verdicts of the entries that are applied to a document, one after another, each after those that it names in place.
 
-ghost use Rattle.std.specs.Prelude.{◌≡◌, ℕ, ◌<◌, ◌&&◌, ◌||◌, nat_eq, true, false, IsOk, length, if◌then◌else◌};
+ghost use Rattle.std.specs.Prelude.{◌≡◌, ℕ, ◌<◌, ◌&&◌, ◌||◌, true, false, IsOk, length};
 ghost use Rattle.draft06.specs.EntryValidity.{form_at};
 ghost use Rattle.js_doc.specs.View.{view};
 ghost use Rattle.js_schema.specs.SchemaView.{schema_view};
@@ -65,12 +65,4 @@ fn own_in_place(schema: &Schema, entry: u32, held: &[bool], doc: &Doc) -> bool
     ensures { result ≡ place_asks (flag held.now) (form_at (schema_view schema.now) entry) (view doc.now) }
 {
     meets_in_place(schema.form(entry), held, doc)
-}
-
-pub(crate) fn set(table: &mut Vec<bool>, entry: u32, verdict: bool)
-    requires { entry < length table.old.items }
-    ensures len { length table.new.items ≡ length table.old.items }
-    ensures value { (j : ℕ) → flag table.new.items j ≡ (if nat_eq entry j then verdict else flag table.old.items j) }
-{
-    table[entry as usize] = verdict;
 }

@@ -3,9 +3,11 @@
 
 ghost use Rattle.std.specs.Prelude.{◌≡◌, List, IfOk};
 ghost use Rattle.documents.specs.Document.{entries};
+ghost use Rattle.schemas.specs.Entry.{Asks};
 ghost use Rattle.js_doc.specs.View.{view, map_view};
 ghost use Rattle.js_schema.specs.View.{form_view, keywords_view};
 ghost use Rattle.js_match.specs.Matching.{matches};
+ghost use Rattle.js_valid.specs.Choices.{AreChoices};
 ghost use Rattle.js_valid.specs.Parts.{flag};
 ghost use Rattle.js_valid.specs.Standing.{stands, keywords_stand, object_stands, depends, place_asks, place_keywords};
 
@@ -19,20 +21,33 @@ use js_schema::{Form, Keywords};
 use std::alloc::Global;
 
 /// Whether the form asks nothing by itself that the document doesn't have.
-pub(crate) fn stands(alloc: Global, form: &Form, doc: &Doc) -> Result<bool, Memory>
+/// The choices are the values of the form's `enum`, in order.
+pub(crate) fn stands(
+    alloc: Global,
+    form: &Form,
+    choices: &[&Doc],
+    doc: &Doc,
+) -> Result<bool, Memory>
+    requires { AreChoices (form_view form.now) choices.now }
     ensures { IfOk result (λ b. b ≡ stands matches (form_view form.now) (view doc.now)) }
 {
     match form {
         Form::Always | Form::Ref(_) => Ok(true),
         Form::Never => Ok(false),
-        Form::Keywords(keywords) => keywords_stand(alloc, keywords, doc),
+        Form::Keywords(keywords) => keywords_stand(alloc, keywords, choices, doc),
     }
 }
 
-fn keywords_stand(alloc: Global, keywords: &Keywords, doc: &Doc) -> Result<bool, Memory>
+fn keywords_stand(
+    alloc: Global,
+    keywords: &Keywords,
+    choices: &[&Doc],
+    doc: &Doc,
+) -> Result<bool, Memory>
+    requires { AreChoices (Asks (keywords_view keywords.now)) choices.now }
     ensures { IfOk result (λ b. b ≡ keywords_stand matches (keywords_view keywords.now) (view doc.now)) }
 {
-    if !has_types(keywords, doc) || !is_given(keywords, doc) {
+    if !has_types(keywords, doc) || !is_given(keywords, choices, doc) {
         return Ok(false);
     }
     match doc {

@@ -4,17 +4,16 @@ ghost use Rattle.std.specs.Prelude.{◌≡◌, ℕ, ◌<◌, ◌≤◌, ◌&&◌
 ghost use Rattle.std.specs.List.{filter};
 ghost use Rattle.documents.specs.Tests.{every, some};
 ghost use Rattle.documents.specs.Measures.{exactly_one};
-ghost use Rattle.js_valid.specs.Parts.{flag, answered};
+ghost use Rattle.js_valid.specs.Parts.{flag};
 
 use js_doc::Memory;
 use std::alloc::Global;
 
-/// The entry's test; past the end nothing is so.
+/// The entry's test; past the end none holds.
 pub(crate) fn holds(table: &[bool], entry: u32) -> bool
     ensures { result ≡ flag table.now entry }
 {
-    let place = entry as usize;
-    place < table.len() && table[place]
+    test_at(table, entry as usize)
 }
 
 /// The test at that place, in the same way.
@@ -27,35 +26,20 @@ pub(crate) fn test_at(table: &[bool], place: usize) -> bool
 pub(crate) fn all_hold(table: &[bool], entries: &[u32]) -> bool
     ensures { result ≡ every (flag table.now) entries.now }
 {
-    for entry in entries {
-        if !holds(table, *entry) {
-            return false;
-        }
-    }
-    true
+    entries.iter().all(|entry| holds(table, *entry))
 }
 
 pub(crate) fn one_holds(table: &[bool], entries: &[u32]) -> bool
     ensures { result ≡ some (flag table.now) entries.now }
 {
-    for entry in entries {
-        if holds(table, *entry) {
-            return true;
-        }
-    }
-    false
+    entries.iter().any(|entry| holds(table, *entry))
 }
 
-/// Whether each test is so.
+/// Whether each test holds.
 pub(crate) fn are_all(tests: &[bool]) -> bool
     ensures { result ≡ every (λ b. b) tests.now }
 {
-    for test in tests {
-        if !*test {
-            return false;
-        }
-    }
-    true
+    tests.iter().all(|test| *test)
 }
 
 /// Whether exactly one of the entries has its test.
@@ -96,8 +80,17 @@ pub(crate) fn write(table: &mut Vec<bool>, entry: u32, verdict: bool) -> Result<
         ≡ (if nat_eq entry j then verdict else flag table.old.items j) }
 {
     reach(table, entry as usize + 1)?;
-    table[entry as usize] = verdict;
+    set(table, entry, verdict);
     Ok(())
+}
+
+/// The same within the table.
+pub(crate) fn set(table: &mut Vec<bool>, entry: u32, verdict: bool)
+    requires { entry < length table.old.items }
+    ensures len { length table.new.items ≡ length table.old.items }
+    ensures value { (j : ℕ) → flag table.new.items j ≡ (if nat_eq entry j then verdict else flag table.old.items j) }
+{
+    table[entry as usize] = verdict;
 }
 
 /// Makes the table that long at least.
@@ -130,29 +123,6 @@ pub(crate) fn refuse(table: &mut Vec<bool>, place: usize, answer: bool)
 {
     if place < table.len() && !answer {
         table[place] = false;
-    }
-}
-
-/// Takes the test from each owner, by its place, with an answer that is no.
-pub(crate) fn refuse_all(table: &mut Vec<bool>, owners: &[usize], answers: &[bool])
-    requires { length owners.now ≡ length answers.now }
-    ensures len { length table.new.items ≡ length table.old.items }
-    ensures value { (j : ℕ) → flag table.new.items j ≡ (flag table.old.items j && answered j owners.now answers.now) }
-{
-    for (i, owner) in owners.iter().enumerate() {
-        refuse(table, *owner, answers[i]);
-    }
-}
-
-/// Takes the test from each owner, by its place, with an answer that is yes.
-pub(crate) fn refuse_none(table: &mut Vec<bool>, owners: &[usize], answers: &[bool])
-    requires { length owners.now ≡ length answers.now }
-    ensures len { length table.new.items ≡ length table.old.items }
-    ensures value { (j : ℕ) → flag table.new.items j ≡ (flag table.old.items j && answered j owners.now
-        (map not answers.now)) }
-{
-    for (i, owner) in owners.iter().enumerate() {
-        refuse(table, *owner, !answers[i]);
     }
 }
 

@@ -1,11 +1,14 @@
 -- The groups of an `enum`, and what is found among its values.
-use Rattle.std.proofs.Common.{◌≡◌, ℕ, ◌+◌, ◌<◌, List, [], ◌∷◌, ◌++◌, length, map, filter, drop, get_or, Bool, true, false, not, refl, sym, ap, ap₂, ◌∙◌, arith, append_assoc}
+use Rattle.std.proofs.Common.{◌≡◌, ℕ, ◌+◌, ◌<◌, List, [], ◌∷◌, ◌++◌, length, map, filter, drop, get_or, Bool, true, false, not, ◌||◌, Option, Some, None, refl, sym, ap, ap₂, ◌∙◌, arith, append_assoc}
 use Rattle.std.proofs.lemmas.List.{drop_more}
 use Rattle.std.specs.Bool.{beq}
+use Rattle.std.specs.List.{list_any, filter_map, cons_option}
 use Rattle.documents.specs.Tests.{some}
 use Rattle.documents.specs.Kind.{Kind}
 use Rattle.positions.specs.Position.{Position}
-use Rattle.normal_forms.specs.KeywordNodes.{one_of_kind, truths}
+use Rattle.normal_forms.specs.KeywordNodes.{one_of_kind, truths, truth_in}
+use Rattle.js_doc.specs.declared.document.Doc.{Doc}
+use Rattle.js_doc.specs.View.{view}
 use Rattle.js_values.specs.Runs.{State, run}
 use Rattle.js_values.proofs.RunLemmas.{run-nothing}
 
@@ -18,6 +21,22 @@ some-true : (bs : List Bool) → some (beq true) bs ≡ some (λ b. b) bs
 some-true [] = refl
 some-true (true ∷ bs) = refl
 some-true (false ∷ bs) = some-true bs
+
+-- whether a truth value was found, and it is this one
+abbrev pub is_truth : Bool → Option Bool → Bool
+is_truth truth None = false
+is_truth truth (Some b) = beq truth b
+
+pub is_truth-some : (truth : Bool) (ds : List Doc)
+    → list_any (λ d. is_truth truth (truth_in (view d))) ds ≡ some (beq truth) (filter_map truth_in (map view ds))
+is_truth-some truth [] = refl
+is_truth-some truth (d ∷ ds) = go (truth_in (view d)) (is_truth-some truth ds) where
+  go : (o : Option Bool)
+      → list_any (λ d. is_truth truth (truth_in (view d))) ds ≡ some (beq truth) (filter_map truth_in (map view ds))
+      → (is_truth truth o || list_any (λ d. is_truth truth (truth_in (view d))) ds)
+      ≡ some (beq truth) (cons_option o (filter_map truth_in (map view ds)))
+  go None rest = rest
+  go (Some b) rest = ap (λ r. beq truth b || r) rest
 
 -- by what is found, the group of the truth values
 pub truths-found : (bs : List Bool) (f t : Bool) (s : State) → f ≡ some (beq false) bs → t ≡ some (beq true) bs

@@ -1,4 +1,4 @@
--- Values that are added one after another are those that are kept once, where each stands first.
+-- Values that are added one after another are those that are kept once, where each comes first.
 use Rattle.std.proofs.Common.{◌≡◌, ℕ, ◌+◌, ◌<◌, List, [], ◌∷◌, ◌++◌, map, length, drop, get_or, Option, Some, None, Bool, true, false, cond, ◌||◌, refl, sym, ap, ◌∙◌, append_assoc}
 use Rattle.std.proofs.lemmas.List.{append-nil, drop_more}
 use Rattle.std.specs.List.{filter_map}
@@ -70,7 +70,3 @@ added-step same f v xs i x ks ls us l e a b =
     ∙ ap (add_all same ks) (filter_map-first f (v x) (map v (drop (i + 1) xs)))
     ∙ sym (add_all-append same ks (filter_map f (v x ∷ [])) (filter_map f (map v (drop (i + 1) xs))))
     ∙ ap (λ zs. add_all same zs (filter_map f (map v (drop (i + 1) xs)))) (sym a)
-
-pub added-end : {A B C : Type 0} (same : C → C → Bool) (f : B → Option C) (v : A → B) (xs : List A) (i : ℕ)
-    (ks us : List C) → drop i xs ≡ [] → us ≡ add_all same ks (filter_map f (map v (drop i xs))) → ks ≡ us
-added-end same f v xs i ks us e a = sym (a ∙ ap (λ ys. add_all same ks (filter_map f (map v ys))) e)

@@ -1,4 +1,4 @@
--- A set that has what stands in a list has it also when one more is added to both.
+-- A set that has what is in a list has it also when one more is added to both.
 use Rattle.std.proofs.Common.{◌≡◌, ℕ, ℤ, List, [], ◌∷◌, ◌++◌, Bool, true, false, cond, ◌||◌, String, string_bytes, string_cmp, chars, refl, sym, ap, ◌∙◌}
 use Rattle.std.specs.Ordering.{int_cmp, int_eq}
 use Rattle.std.specs.BTreeSet.{BTreeSet, Updates, contains, contains_text}
@@ -16,6 +16,7 @@ or-cond true false d e = ap (λ b. b || false) e
 or-cond false true d e = refl
 or-cond false false d e = ap (λ b. b || false) e
 
+-- with one more word, in the list and in the set, the set has what is in the list
 pub more_words : {Y : Type 0} (words : List (List ℕ)) (set new : BTreeSet (String Y)) (key : String Y) (word : List ℕ)
     → chars (string_bytes key) ≡ word → AreWords words set → Updates string_cmp set new key true
     → AreWords (words ++ word ∷ []) new

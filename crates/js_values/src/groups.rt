@@ -110,25 +110,16 @@ fn container(doc: &Doc, sink: &mut Sink) -> Result<(), Memory>
 fn has_null(values: &DocList) -> bool
     ensures { result ≡ some W.is_null (D.elements (list_view values.now)) }
 {
-    for doc in values.as_slice() {
-        if is_null(doc) {
-            return true;
-        }
-    }
-    false
+    values.as_slice().iter().any(is_null)
 }
 
 fn has_truth(values: &DocList, truth: bool) -> bool
     ensures { result ≡ some (beq truth) (filter_map W.truth_in (D.elements (list_view values.now))) }
 {
-    for doc in values.as_slice() {
-        if let Some(found) = truth_in(doc) {
-            if found == truth {
-                return true;
-            }
-        }
-    }
-    false
+    values
+        .as_slice()
+        .iter()
+        .any(|doc| truth_in(doc) == Some(truth))
 }
 
 /// The numbers among the values, each once.

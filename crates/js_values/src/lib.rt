@@ -1,4 +1,4 @@
-//! The positions that JSON values ask for: of one value, and of a list of values of which a document is to be one.
+//! The positions that JSON values require: of one value, and of a list of values of which a document is to be one.
 //!
 //! Positions are appended to a `Sink`, which ranks and names them. Time and memory are in proportion to the values. The
 //! makers of the other keywords, in `js_normal`, write into the same sink.

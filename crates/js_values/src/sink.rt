@@ -1,6 +1,6 @@
 //! What is appended behind the entries of a table.
 //!
-//! What a maker of `normal_forms` appends, a function pushes onto a sink; and the numbers that the maker names stand
+//! What a maker of `normal_forms` appends, a function pushes onto a sink; and the numbers that the maker names are
 //! there, behind those that were named before. `run` of `specs/Runs.antt` says both at once. What a node needs below
 //! itself is named apart, between `take_named` and `swap_named`.
 
@@ -86,7 +86,7 @@ impl Sink {
         Ok(())
     }
 
-    /// Names a position that stands in the table already.
+    /// Names a position that is in the table already.
     pub fn name(&mut self, position: Pos) -> Result<(), Memory>
         ensures { OnOk result (self.new ≡ run (M.entry position.0) self.old) }
     {

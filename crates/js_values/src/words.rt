@@ -1,7 +1,7 @@
 //! Words, each once, in the order in which they come first.
 //!
-//! They stand in a list, and in a set by order, which says whether one is there: a file chooses them, and could make
-//! them collide in a set by a hash without a secret.
+//! They are in a list, and in a set by order, which says whether one is there: a file chooses them, and could make them
+//! collide in a set by a hash without a secret.
 
 ghost use Rattle.std.specs.Prelude.{◌≡◌, [], IfOk, OnOk};
 ghost use Rattle.documents.specs.Tests.{same_word};
@@ -57,7 +57,7 @@ impl Words {
     }
 }
 
-/// The words, each once, where it stands first.
+/// The words, each once, where it comes first.
 pub fn distinct(alloc: Global, words: &StrList) -> Result<StrList, Memory>
     ensures { IfOk result (λ l. l ≡ W.once same_word words.now) }
 {

@@ -10,30 +10,11 @@ change_set f n [] d l = absurd (omega (arith, l))
 change_set f zero (x ∷ xs) d l = refl
 change_set f (suc n) (x ∷ xs) d l = ap (λ ys. x ∷ ys) (change_set f n xs d (omega (arith, l)))
 
-pub length-change : {A : Type 0} (f : A → A) (n : ℕ) (xs : List A) → length (change f n xs) ≡ length xs
-length-change f n [] = refl
-length-change f zero (x ∷ xs) = refl
-length-change f (suc n) (x ∷ xs) = ap suc (length-change f n xs)
-
 pub get-change : {A : Type 0} (f : A → A) (n : ℕ) (xs : List A)
     → slice_get (change f n xs) n ≡ option_map f (slice_get xs n)
 get-change f n [] = refl
 get-change f zero (x ∷ xs) = refl
 get-change f (suc n) (x ∷ xs) = get-change f n xs
-
-pub get-change_other : {A : Type 0} (f : A → A) (n m : ℕ) (xs : List A) → m ≢ n
-    → slice_get (change f n xs) m ≡ slice_get xs m
-get-change_other f n m [] e = refl
-get-change_other f zero zero (x ∷ xs) e = absurd (e refl)
-get-change_other f zero (suc m) (x ∷ xs) e = refl
-get-change_other f (suc n) zero (x ∷ xs) e = refl
-get-change_other f (suc n) (suc m) (x ∷ xs) e = get-change_other f n m xs (λ h. e (ap suc h))
-
-pub get_or-change : {A : Type 0} (f : A → A) (n : ℕ) (xs : List A) (d : A) → n < length xs
-    → get_or (change f n xs) n d ≡ f (get_or xs n d)
-get_or-change f n [] d l = absurd (omega (arith, l))
-get_or-change f zero (x ∷ xs) d l = refl
-get_or-change f (suc n) (x ∷ xs) d l = get_or-change f n xs d (omega (arith, l))
 
 pub get_or-change_other : {A : Type 0} (f : A → A) (n m : ℕ) (xs : List A) (d : A) → m ≢ n
     → get_or (change f n xs) m d ≡ get_or xs m d

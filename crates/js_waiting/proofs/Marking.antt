@@ -8,7 +8,7 @@ use Rattle.std.specs.List.{range_with_len}
 use Rattle.documents.specs.Tests.{some}
 use Rattle.search.specs.Rounds.{NumberedPlaced, NumberedFiller, Numbered, is_met, first_place}
 use Rattle.list_laws.specs.In.{IsIn, Distinct}
-use Rattle.list_laws.proofs.Lists.{in_get}
+use Rattle.list_laws.proofs.Lists.{get_or-in}
 use Rattle.list_laws.proofs.Tests.{some_find, some_from}
 use Rattle.js_explore.specs.Exploration.{Exploration, alternatives_at}
 use Rattle.js_waiting.specs.Counts.{Counts, change, with_counted, with_places, count_in, count_at, is_ready, place_in, waits, waits_at, member_place, filler_place, counts_of, uncounted}
@@ -189,7 +189,7 @@ take_own : {A : Type 0} (xs : List A) (i : ℕ) (d : A) → Distinct xs → i < 
 take_own [] i d h l j = absurd (omega (arith, l))
 take_own (x ∷ xs) zero d h l j = j
 take_own (x ∷ xs) (suc i) d h l (inl e) =
-    h.0 (subst (λ z. IsIn z xs) e (in_get xs i d (omega (arith, l))))
+    h.0 (subst (λ z. IsIn z xs) e (get_or-in xs i d (omega (arith, l))))
 take_own (x ∷ xs) (suc i) d h l (inr j) = take_own xs i d h.1 (omega (arith, l)) j
 
 module _ (e : Exploration) (has : ℕ → Bool) (m : ℕ) where
@@ -209,9 +209,9 @@ module _ (e : Exploration) (has : ℕ → Bool) (m : ℕ) where
         absurd (take_own Us i u (once e m) l (subst (λ z. IsIn z (take i Us)) (s ∙ k) j))
 
   pub names_next : (i : ℕ) (u : Mention) → i < length (mentions_of e m) → u ≡ get_or (mentions_of e m) i u → Names e m u
-  names_next i u l k = right e m u (subst (λ z. IsIn z Us) (sym k) (in_get Us i u l))
+  names_next i u l k = right e m u (subst (λ z. IsIn z Us) (sym k) (get_or-in Us i u l))
 
-  -- one more of them
+  -- one more mention is taken
   pub taken_next : (i : ℕ) (u : Mention) → i < length (mentions_of e m) → u ≡ get_or (mentions_of e m) i u
       → count_at u.goal u.alternative u.place (marked (while_taken has e m i) (uncounted e))
       ≡ marked (while_taken has e m (i + 1)) (uncounted e)

@@ -7,9 +7,9 @@ use Rattle.std.proofs.lemmas.Grind.{flat_map-append}
 use Rattle.std.specs.List.{range_with_len, flat_map}
 use Rattle.search.specs.Rounds.{Numbered}
 use Rattle.list_laws.specs.In.{IsIn, Distinct}
-use Rattle.list_laws.proofs.Lists.{in_append, in_left, in_right, in_flat_map, from_flat_map}
+use Rattle.list_laws.proofs.Lists.{from_append, in_left, in_right, in_flat_map, from_flat_map}
 use Rattle.list_laws.proofs.Tests.{in_range, from_range}
-use Rattle.list_laws.proofs.Pigeons.{range_distinct}
+use Rattle.list_laws.proofs.Pigeons.{Distinct-range}
 use Rattle.js_explore.specs.Exploration.{Exploration, alternatives_at}
 use Rattle.js_waiting.specs.Mentioned.{mention, named_goals, mentions_from, mentions_by, mentions_of, goals_in, goal_at}
 use Rattle.js_waiting.specs.declared.mention.Mention.{Mention}
@@ -131,7 +131,7 @@ distinct_both : {A : Type 0} (xs ys : List A) → Distinct xs → Distinct ys
     → ((x : A) → IsIn x xs → IsIn x ys → ⊥) → Distinct (xs ++ ys)
 distinct_both [] ys d e h = e
 distinct_both (x ∷ xs) ys d e h = (
-  λ i. elim (in_append x xs ys i) [ inl j ↦ d.0 j | inr j ↦ h x (inl refl) j ],
+  λ i. elim (from_append x xs ys i) [ inl j ↦ d.0 j | inr j ↦ h x (inl refl) j ],
   distinct_both xs ys d.1 e (λ y i j. h y (inr i) j),
 )
 
@@ -145,7 +145,7 @@ pub record By (m h : ℕ) (xs : List Numbered) (a : ℕ) (u : Mention) : Type 0 
 from_alternative : (m h a : ℕ) (xs : List Numbered) (u : Mention) → IsIn u (mentions_by m h a xs) → By m h xs a u
 from_alternative m h a [] u i = absurd i
 from_alternative m h a (x ∷ xs) u i =
-    go (in_append u (mentions_from m h a 0 (named_goals x)) (mentions_by m h (suc a) xs) i)
+    go (from_append u (mentions_from m h a 0 (named_goals x)) (mentions_by m h (suc a) xs) i)
     (from_alternative m h (suc a) xs u)
   where
     go : IsIn u (mentions_from m h a 0 (named_goals x)) ⊎ IsIn u (mentions_by m h (suc a) xs)
@@ -233,4 +233,4 @@ module _ (e : Exploration) (m : ℕ) where
       d.0 (subst (λ z. IsIn z hs) (sym t ∙ s) x))
 
   pub once : Distinct (mentions_of e m)
-  once = once_all (range_with_len 0 (length e.found.goals)) (range_distinct 0 (length e.found.goals))
+  once = once_all (range_with_len 0 (length e.found.goals)) (Distinct-range 0 (length e.found.goals))

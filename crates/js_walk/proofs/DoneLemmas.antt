@@ -1,4 +1,4 @@
--- An entry stands where it is noted for its key, and nothing else has that key.
+-- An entry is where it is noted for its key, and nothing else has that key.
 use Rattle.std.proofs.Common.{◌≡◌, ◌≢◌, ℕ, zero, suc, ◌≤◌, ◌<◌, List, [], ◌∷◌, ◌++◌, length, get_or, Bool, true, false, cond, nat_lt, nat_eq, Option, Some, None, is_some, position, refl, sym, ap, subst, ◌∙◌, arith, length-append}
 use Rattle.std.proofs.Math.ListN.{set}
 use Rattle.std.proofs.lemmas.List.Quantifiers.{position-Some}
@@ -95,7 +95,7 @@ lookup-position {V} p es = go (position (nat_eq p) (keys_of es)) refl
         let at = position-Some (nat_eq p) (keys_of es) j 0 e in ap is_some e ∙ sym (there p es j at.0 at.1)
     go None e = ap is_some e ∙ sym (nowhere p es (λ j l. position-None (nat_eq p) (keys_of es) j 0 e l))
 
--- one more key, of which it is noted that it stands last
+-- one more key, of which it is noted that it comes last
 pub noted-push : {V : Type 0} (es ds : List (ℕ × V)) (places rooms : List ℕ) (p n : ℕ) (d : V)
     → AreNoted (keys_of es) places
     → ((i : ℕ) → i < length places → (i < length rooms) × (get_or rooms i 0 ≡ get_or places i 0))

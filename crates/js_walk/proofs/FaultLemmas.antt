@@ -1,4 +1,4 @@
--- What is wrong with a keyword's value doesn't depend on where it stands, but for the place that is reported.
+-- What is wrong with a keyword's value doesn't depend on where it is, but for the place that is reported.
 use Rattle.std.proofs.Common.{◌≡◌, ℕ, suc, List, [], ◌∷◌, ◌++◌, Bool, true, false, cond, codes, Option, Some, None, option_map, refl, sym, ap, ap₂}
 use Rattle.std.specs.Prelude.{pos, int_le, int_lt}
 use Rattle.std.proofs.lemmas.Option.{none-some}

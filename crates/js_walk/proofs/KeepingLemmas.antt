@@ -1,11 +1,11 @@
--- A walk goes on past a place: what is done and what waits stands where it stood, since pointers keep their numbers.
+-- A walk goes on past a place: what is done and what waits is where it was, since pointers keep their numbers.
 use Rattle.std.proofs.Common.{◌≡◌, ℕ, zero, suc, ◌+◌, ◌≤◌, ◌<◌, List, [], ◌∷◌, ◌++◌, map, reverse, length, get_or, Bool, true, false, cond, nat_lt, nat_eq, Option, Some, None, is_some, refl, sym, ap, ap₂, subst, ◌∙◌, arith}
 use Rattle.std.proofs.lemmas.Bool.{ltb-true, and_parts, and_from, lt-ltb, le-ltb}
 use Rattle.std.proofs.lemmas.List.{map-append, reverse-append, reverse-reverse}
 use Rattle.std.specs.Map.{lookup}
 use Rattle.documents.specs.Tests.{every}
 use Rattle.documents.specs.Json.{Json, null, boolean, number, not_whole, string, array, object}
-use Rattle.list_laws.proofs.Every.{every-append, every-parts}
+use Rattle.list_laws.proofs.Every.{every_joined}
 use Rattle.js_doc.specs.JsonView.{view}
 use Rattle.schemas.specs.Places as P
 use Rattle.schemas.specs.Places.{has_place}
@@ -32,7 +32,7 @@ every-reverse test [] h = refl
 every-reverse test (x ∷ xs) h =
     let parts = and_parts (test x) (every test xs) h in
     subst (λ ys. every test ys ≡ true) (sym (reverse-append (x ∷ []) xs))
-    (every-append test (reverse xs) (x ∷ []) (every-reverse test xs parts.1) (and_from (test x) true parts.0 refl))
+    (every_joined test (reverse xs) (x ∷ []) (every-reverse test xs parts.1) (and_from (test x) true parts.0 refl))
 
 -- What is done.
 
@@ -108,7 +108,7 @@ targets-settled root ps (e ∷ es) h zero c t l is at =
 targets-settled root ps (e ∷ es) h (suc i) c t l is at =
     targets-settled root ps es h.1 i c t (omega (arith, l)) is at
 
--- One step.
+-- One step of the walk.
 
 -- a place that is done, with what was found there
 abbrev pub entry_of : Place → Found → ℕ × Done
@@ -138,12 +138,12 @@ module _ (root : Json) (ps qs : List P.Pointer) (es : List (ℕ × Done)) (cs : 
   kept-more = record {
     done =
         let more = grows.0 in
-        every-append (λ e. nat_lt e.0 (length qs)) es (now_done ∷ []) (done-within ps qs es grows kept.done)
+        every_joined (λ e. nat_lt e.0 (length qs)) es (now_done ∷ []) (done-within ps qs es grows kept.done)
         (and_from (nat_lt p.pointer (length qs)) true (lt-ltb p.pointer (length qs) (omega (arith, within, more)))
         refl);
     waiting =
         let leads = visited.leads in
-        every-append (λ c. nat_lt c.pointer (length qs)) cs (reverse found.places.items)
+        every_joined (λ c. nat_lt c.pointer (length qs)) cs (reverse found.places.items)
         (within-grows ps qs cs grows kept.waiting)
         (every-reverse (λ c. nat_lt c.pointer (length qs)) found.places.items leads.within);
     settled =

@@ -1,8 +1,7 @@
 -- Places by the numbers of their pointers: the first with that number is the one that is looked up.
-use Rattle.std.proofs.Common.{◌≡◌, ℕ, zero, ◌≤◌, ◌<◌, suc, ◌+◌, List, [], ◌∷◌, map, length, get_or, Bool, true, false, not, cond, ◌||◌, ◌&&◌, nat_lt, nat_eq, Some, None, is_some, position, refl, sym, ap, subst, ◌∙◌, arith}
-use Rattle.std.specs.List.{prefix_len, position_or_len}
+use Rattle.std.proofs.Common.{◌≡◌, ℕ, ◌<◌, suc, ◌+◌, List, [], ◌∷◌, map, length, get_or, Bool, true, false, not, cond, ◌||◌, nat_lt, nat_eq, Some, None, is_some, position, refl, sym, ap, subst, ◌∙◌, arith}
+use Rattle.std.specs.List.{position_or_len}
 use Rattle.std.specs.Map.{keys_of, lookup}
-use Rattle.std.proofs.lemmas.Option.{none-some, same_Some}
 use Rattle.std.proofs.lemmas.Bool.{ltb-true, eqb-true, eq-eqb, and_parts}
 use Rattle.std.proofs.lemmas.Bool.Decides.{same_from_decides}
 use Rattle.std.proofs.lemmas.List.{append-nil}

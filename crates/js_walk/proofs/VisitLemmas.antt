@@ -15,6 +15,7 @@ members_fault-by : (root : Json) (ms : Members) (p : Pointer) (rest : Members)
 members_fault-by root ms p no_members = refl
 members_fault-by root ms p (member k v rest) = ap₂ or_else refl (members_fault-by root ms p rest)
 
+-- the first fault of an object's members depends on `items` only by whether it is a list
 pub object_fault-by : (root : Json) (p : Pointer) (ms : Members)
     → members_fault_by root (is_list (lookup (codes "items") ms)) p ms ≡ members_fault rules root ms p ms
 object_fault-by root p ms = members_fault-by root ms p ms

@@ -56,6 +56,3 @@ pub record Passed (root : Json) (before after : ℕ) (c : P.Place) (old new wait
   pub light : after ≤ 2147483647
   pub done : new ≡ old ++ c ∷ []
   pub waiting : waits ≡ children rules root c ++ waited
-
-abbrev pub Passes : Json → ℕ → P.Place → (old new waited waits : List P.Place) → ℕ → Type 0
-Passes root before c old new waited waits after = Passed root before after c old new waited waits

@@ -1,7 +1,7 @@
 //! The places that are done, in the order in which they were met, each found by the number of its pointer.
 //!
-//! Numbers of pointers are dense, so a list by them says where a place stands: a pointer's place is done exactly where
-//! an entry with that pointer stands where the list says. A look-up is two looks, and takes no hashing.
+//! Numbers of pointers are dense, so a list by them says where a place is: a pointer's place is done exactly where an
+//! entry with that pointer is where the list says. A look-up is two looks, and takes no hashing.
 
 ghost use Rattle.std.specs.Prelude.{◌≡◌, ◌<◌, ◌++◌, ◌∷◌, [], ℕ, false, length, get_or, Some, slice_get, is_some, nat_eq, position, OnOk};
 ghost use Rattle.std.specs.Map.{keys_of, lookup};
@@ -54,7 +54,7 @@ impl<'a> DoneList<'a> {
         self.entries.len()
     }
 
-    /// The entry that stands there.
+    /// The entry that is there.
     pub(crate) fn entry(&self, number: usize) -> &(u32, Done<'a>)
         requires { number < length self.now }
         ensures { Some result.now ≡ slice_get self.now number }
@@ -62,7 +62,7 @@ impl<'a> DoneList<'a> {
         &self.entries[number]
     }
 
-    /// Where the entry with that pointer stands.
+    /// Where the entry with that pointer is.
     pub(crate) fn number(&self, pointer: u32) -> Option<usize>
         ensures { result ≡ position (nat_eq pointer) (keys_of self.now) }
     {

@@ -2,7 +2,7 @@
 //!
 //! A place is known by the number of its pointer, in a table of `js_pointers`.
 //! The walk comes to each place once, and takes time and memory in proportion to what it comes to. The reader of
-//! schemas, `js_schema`, stands on this crate.
+//! schemas, `js_reader`, stands on this crate.
 #![tactic(auto)]
 
 mod children;

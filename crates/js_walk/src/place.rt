@@ -2,7 +2,7 @@
 
 use js_doc::Json;
 
-/// A value of the file, and where it stands.
+/// A value of the file, and where it is.
 #[derive(Drop)]
 pub(crate) struct Place<'a> {
     pub(crate) pointer: u32,

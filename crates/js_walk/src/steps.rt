@@ -16,7 +16,7 @@ ghost use Rattle.js_pointers.specs.PointersView.{pointers_of};
 ghost use Rattle.js_walk.specs.FileView.{root_of};
 ghost use Rattle.js_walk.specs.PlacesView.{place_view, pointers_in, places_view, targets_of, AreTargets};
 ghost use Rattle.js_walk.specs.Visiting.{AreWithin};
-ghost use Rattle.js_walk.specs.Walking.{done_places, stack_view, DoneWithin, Kept, NextOf, Passes, too_large};
+ghost use Rattle.js_walk.specs.Walking.{done_places, stack_view, DoneWithin, Kept, NextOf, Passed, too_large};
 
 use crate::done_list::DoneList;
 use crate::file::File;
@@ -32,6 +32,14 @@ use std::alloc::Global;
 /// What a schema may weigh.
 const MOST_WEIGHT: u64 = 2_147_483_647;
 
+/// What a walk has come to: the pointers that have numbers, the places that are done, and what these weigh.
+#[derive(Drop)]
+struct Walked<'a> {
+    pointers: Pointers,
+    done: DoneList<'a>,
+    weight: u64,
+}
+
 /// The places of a schema in the order of its walk, or its first fault.
 pub fn walk<'a>(alloc: Global, file: &File<'a>) -> Result<Places<'a>, SchemaFault>
     ensures ok { IfOk result (λ done. (first_fault rules (root_of file.now) ≡ None)
@@ -40,23 +48,17 @@ pub fn walk<'a>(alloc: Global, file: &File<'a>) -> Result<Places<'a>, SchemaFaul
         (targets_of done)) }
     ensures fault { IfErr result (λ f. Tells (first_fault rules (root_of file.now)) f) }
 {
-    let mut pointers = Pointers::new(alloc);
-    let mut done = DoneList::new(alloc);
+    let mut walked = Walked {
+        pointers: Pointers::new(alloc),
+        done: DoneList::new(alloc),
+        weight: 0,
+    };
     let mut waiting = Vec::new(alloc);
     waiting.push(root_place(file))?;
-    let mut weight = 0;
-    while let Some(place) = next(&mut waiting, &done, &pointers) {
-        weight = pass(
-            alloc,
-            file,
-            &mut pointers,
-            &mut done,
-            &mut waiting,
-            weight,
-            place,
-        )?;
+    while let Some(place) = next(&mut waiting, &walked) {
+        walked.pass(alloc, file, &mut waiting, place)?;
     }
-    Ok(Places::new(pointers, done))
+    Ok(Places::new(walked.pointers, walked.done))
 }
 
 fn root_place<'a>(file: &File<'a>) -> Place<'a>
@@ -70,91 +72,88 @@ fn root_place<'a>(file: &File<'a>) -> Place<'a>
 }
 
 /// The next place that isn't done. Those before it are left out.
-fn next<'a>(
-    waiting: &mut Vec<Place<'a>>,
-    done: &DoneList<'a>,
-    pointers: &Pointers,
-) -> Option<Place<'a>>
-    requires waiting { AreWithin (pointers_of pointers.now) waiting.old.items }
-    requires done { DoneWithin (pointers_of pointers.now) done.now }
-    ensures next { NextOf (pointers_of pointers.now) (next_of (done_places (pointers_of pointers.now) done.now)
-        (stack_view (pointers_of pointers.now) waiting.old.items)) waiting.new.items result }
-    ensures left { AreWithin (pointers_of pointers.now) waiting.new.items }
-    ensures within { IfSome result (λ p. p.pointer < length (pointers_of pointers.now)) }
+fn next<'a>(waiting: &mut Vec<Place<'a>>, walked: &Walked<'a>) -> Option<Place<'a>>
+    requires waiting { AreWithin (pointers_of walked.now.pointers) waiting.old.items }
+    requires done { DoneWithin (pointers_of walked.now.pointers) walked.now.done }
+    ensures next { NextOf (pointers_of walked.now.pointers)
+        (next_of (done_places (pointers_of walked.now.pointers) walked.now.done)
+        (stack_view (pointers_of walked.now.pointers) waiting.old.items)) waiting.new.items result }
+    ensures left { AreWithin (pointers_of walked.now.pointers) waiting.new.items }
+    ensures within { IfSome result (λ p. p.pointer < length (pointers_of walked.now.pointers)) }
 {
     while let Some(place) = waiting.pop() {
-        if !is_done(done, pointers, place.pointer) {
+        if !walked.has(place.pointer) {
             return Some(place);
         }
     }
     None
 }
 
-fn is_done<'a>(done: &DoneList<'a>, pointers: &Pointers, pointer: u32) -> bool
-    requires done { DoneWithin (pointers_of pointers.now) done.now }
-    requires pointer { pointer < length (pointers_of pointers.now) }
-    ensures { result ≡ has_place (done_places (pointers_of pointers.now) done.now)
-        (get_or (pointers_of pointers.now) pointer []) }
-{
-    done.has(pointer)
-}
-
-/// Goes on past a place without a fault: it is done, and what it leads to is next. Answers the weight with it.
-fn pass<'a>(
-    alloc: Global,
-    file: &File<'a>,
-    pointers: &mut Pointers,
-    done: &mut DoneList<'a>,
-    waiting: &mut Vec<Place<'a>>,
-    before: u64,
-    place: Place<'a>,
-) -> Result<u64, SchemaFault>
-    requires within { place.pointer < length (pointers_of pointers.old) }
-    requires first { has_place (done_places (pointers_of pointers.old) done.old)
-        (get_or (pointers_of pointers.old) place.pointer []) ≡ false }
-    requires light { before ≤ 2147483647 }
-    requires kept { Kept (root_of file.now) (pointers_of pointers.old) done.old waiting.old.items }
-    ensures ok { IfOk result (Passes (root_of file.now) before (place_view (pointers_of pointers.old) place.entry)
-        (done_places (pointers_of pointers.old) done.old)
-        (done_places (pointers_of pointers.new) done.new)
-        (stack_view (pointers_of pointers.old) waiting.old.items)
-        (stack_view (pointers_of pointers.new) waiting.new.items)) }
-    ensures kept { OnOk result
-        (Kept (root_of file.now) (pointers_of pointers.new) done.new waiting.new.items) }
-    ensures fault { IfErr result (λ f. Tells
-        (fault_with rules (root_of file.now) before (place_view (pointers_of pointers.old) place.entry)) f) }
-{
-    let found = visit(alloc, file, pointers, &place)?;
-    let after = with_weight(alloc, pointers, before, &place)?;
-    done.push(
-        place.pointer,
-        Done {
-            value: place.value,
-            target: found.target,
-        },
-    )?;
-    stack_up(waiting, found.places)?;
-    Ok(after)
-}
-
-/// The weight with the place, which may not be too much.
-fn with_weight<'a>(
-    alloc: Global,
-    pointers: &Pointers,
-    before: u64,
-    place: &Place<'a>,
-) -> Result<u64, SchemaFault>
-    requires light { before ≤ 2147483647 }
-    requires within { place.now.pointer < length (pointers_of pointers.now) }
-    ensures ok { IfOk result (λ after.
-        (after ≡ before + W.weight (place_view (pointers_of pointers.now) place.now)) × (after ≤ 2147483647)) }
-    ensures fault { IfErr result (λ f. Tells (too_large before (place_view (pointers_of pointers.now) place.now)) f) }
-{
-    let after = before.saturating_add(weight(place.value));
-    if after > MOST_WEIGHT {
-        return Err(SchemaFault::TooLarge(pointers.pointer(alloc, place.pointer)?));
+impl<'a> Walked<'a> {
+    /// Whether the place with that pointer is done.
+    fn has(&self, pointer: u32) -> bool
+        requires done { DoneWithin (pointers_of self.now.pointers) self.now.done }
+        requires pointer { pointer < length (pointers_of self.now.pointers) }
+        ensures { result ≡ has_place (done_places (pointers_of self.now.pointers) self.now.done)
+            (get_or (pointers_of self.now.pointers) pointer []) }
+    {
+        self.done.has(pointer)
     }
-    Ok(after)
+
+    /// Goes on past a place without a fault: it is done, and what it leads to is next.
+    fn pass(
+        &mut self,
+        alloc: Global,
+        file: &File<'a>,
+        waiting: &mut Vec<Place<'a>>,
+        place: Place<'a>,
+    ) -> Result<(), SchemaFault>
+        requires within { place.pointer < length (pointers_of self.old.pointers) }
+        requires first { has_place (done_places (pointers_of self.old.pointers) self.old.done)
+            (get_or (pointers_of self.old.pointers) place.pointer []) ≡ false }
+        requires light { self.old.weight ≤ 2147483647 }
+        requires kept { Kept (root_of file.now) (pointers_of self.old.pointers) self.old.done waiting.old.items }
+        ensures ok { OnOk result (Passed (root_of file.now) self.old.weight self.new.weight
+            (place_view (pointers_of self.old.pointers) place.entry)
+            (done_places (pointers_of self.old.pointers) self.old.done)
+            (done_places (pointers_of self.new.pointers) self.new.done)
+            (stack_view (pointers_of self.old.pointers) waiting.old.items)
+            (stack_view (pointers_of self.new.pointers) waiting.new.items)) }
+        ensures kept { OnOk result
+            (Kept (root_of file.now) (pointers_of self.new.pointers) self.new.done waiting.new.items) }
+        ensures fault { IfErr result (λ f. Tells (fault_with rules (root_of file.now) self.old.weight
+            (place_view (pointers_of self.old.pointers) place.entry)) f) }
+    {
+        let found = visit(alloc, file, &mut self.pointers, &place)?;
+        let weight = self.weight_with(alloc, &place)?;
+        self.done.push(
+            place.pointer,
+            Done {
+                value: place.value,
+                target: found.target,
+            },
+        )?;
+        stack_up(waiting, found.places)?;
+        self.weight = weight;
+        Ok(())
+    }
+
+    /// The weight with the place, which may not be too much.
+    fn weight_with(&self, alloc: Global, place: &Place<'a>) -> Result<u64, SchemaFault>
+        requires light { self.now.weight ≤ 2147483647 }
+        requires within { place.now.pointer < length (pointers_of self.now.pointers) }
+        ensures ok { IfOk result (λ after.
+            (after ≡ self.now.weight + W.weight (place_view (pointers_of self.now.pointers) place.now))
+            × (after ≤ 2147483647)) }
+        ensures fault { IfErr result (λ f. Tells
+            (too_large self.now.weight (place_view (pointers_of self.now.pointers) place.now)) f) }
+    {
+        let after = self.weight.saturating_add(weight(place.value));
+        if after > MOST_WEIGHT {
+            return Err(SchemaFault::TooLarge(self.pointers.pointer(alloc, place.pointer)?));
+        }
+        Ok(after)
+    }
 }
 
 /// Puts the places on the stack, the first on top.

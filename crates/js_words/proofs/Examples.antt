@@ -5,7 +5,7 @@ use Rattle.clap.proofs.OnLiterals.{clap_on_literals}
 use Rattle.families.specs.Families.{Chain}
 use Rattle.js_words.specs.Commands.{Gen, Include, Norm, text_command}
 
--- the option may stand before the names and between them
+-- the option may come before the names and between them
 option_first : text_command (codes "include" ∷ codes "--workers" ∷ codes "2" ∷ codes "a" ∷ codes "b" ∷ [])
     ≡ Some (Include (codes "a") (codes "b") 2)
 unfolding text_command clap_on_literals

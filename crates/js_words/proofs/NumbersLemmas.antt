@@ -41,6 +41,7 @@ module _ {E : Type 0} (text : List ℕ) (r : Result ℕ E) (parses : ParsesUnsig
       subst (λ (s : Result ℕ E). ReadsPlain text s) is read in
       at_least _ _ (λ lt. refused ((digits text plain).some, lt))
 
+-- a plain decimal within the range is read as its number
 pub in_range : (low high n : ℕ) (text : List ℕ) → is_plain_decimal text ≡ true → n ≡ decimal_value text → low ≤ n
     → n ≤ high
     → Some n ≡ number_in low high text

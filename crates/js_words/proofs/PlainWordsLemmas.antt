@@ -48,7 +48,7 @@ some-unwrapped : (o : Option ℕ) → is_some o ≡ true → o ≡ Some (unwrap_
 some-unwrapped None s = absurd (true≢false (sym s))
 some-unwrapped (Some k) s = refl
 
--- it is spelled by itself
+-- a number in range is spelled by its own bytes
 number-spelled : (low high : ℕ) (n : List ℕ) → is_some (number_in low high n) ≡ true
     → number_in low high (encode_utf8_all n) ≡ Some (unwrap_or (number_in low high n) 1)
 number-spelled low high n s =
@@ -91,6 +91,7 @@ gen-given f t m n w family number =
 
 -- ---- the words
 
+-- plain words that are spelled by their bytes are read as the command that they mean
 pub plain-command : (p : Plain) → is_plain p ≡ true → AllSpelled (words_of p) → command (words_of p) ≡ Some (meant p)
 unfolding encode_utf8
 plain-command (plain_sat a w) e s =

@@ -69,7 +69,7 @@ gen_of-range None n w h = tt
 gen_of-range (Some f) None w h = tt
 gen_of-range (Some f) (Some n) w h = gen_to-range (family_of f) n w h
 
--- ---- of the words
+-- ---- the command of the words
 
 either-range : (b : Bool) (x y : Option Command) → IfSome x IsInRange → IfSome y IsInRange
     → IfSome (if b then x else y) IsInRange

@@ -49,7 +49,7 @@ pub says-usage : (words : List (List ℕ)) (r : Result Command WordsFault) (text
     → IfErr r (λ e. e ≡ Usage → C.command words ≡ None)
 says-usage words r texts is usage = subst (λ ts. IfErr r (λ e. e ≡ Usage → text_command ts ≡ None)) is usage
 
--- an answer that tells the command of the words
+-- an answer that is the command of the words
 module _ (words : List (List ℕ)) (r : Result Command WordsFault)
     (ok : IfOk r (λ x. C.command words ≡ Some (command_view x)))
     (usage : IfErr r (λ e. e ≡ Usage → C.command words ≡ None)) where

@@ -35,6 +35,7 @@ read-sat : (a : Text) → IsValue a → (rest : List Text)
     → text_command (codes "sat" ∷ a ∷ rest) ≡ read_from sat (after-sat a) rest
 read-sat a va rest = entered-read (codes "sat") sat enters-sat (a ∷ rest) ∙ name-read sat nothing_held 1 a va refl rest
 
+-- `sat` and a name, with the number of workers or without, are read as that command
 pub workers-sat : (a : Text) → IsValue a
     → TakesWorkers (λ rest. text_command (codes "sat" ∷ a ∷ rest)) (C.sat_of (Some a))
 unfolding clap_on_literals
@@ -64,6 +65,7 @@ read-include a b va vb rest =
     ∙ name-read include nothing_held 1 a va refl (b ∷ rest)
     ∙ name-read include (past include.rules nothing_held 1 a).held 2 b vb refl rest
 
+-- `include` and two names, with the number of workers or without, are read as that command
 pub workers-include : (a b : Text) → IsValue a → IsValue b
     → TakesWorkers (λ rest. text_command (codes "include" ∷ a ∷ b ∷ rest)) (C.include_of (Some a) (Some b))
 unfolding clap_on_literals
@@ -83,6 +85,7 @@ enters-valid : Enters (codes "valid") valid
 unfolding clap_on_literals
 enters-valid = record { walks = refl; passes = refl; enters = λ rest. refl }
 
+-- `valid` and two names are read as that command
 pub read-valid : (a d : Text) → IsValue a → IsValue d
     → text_command (codes "valid" ∷ a ∷ d ∷ []) ≡ C.valid_of (Some a) (Some d)
 unfolding clap_on_literals
@@ -115,6 +118,7 @@ read-check a b c va vb vc rest =
     ∙ name-read check (past check.rules nothing_held 1 a).held 2 b vb refl (c ∷ rest)
     ∙ name-read check (second-check a b) 3 c vc refl rest
 
+-- `check` and three names, with the number of workers or without, are read as that command
 pub workers-check : (a b c : Text) → IsValue a → IsValue b → IsValue c
     → TakesWorkers (λ rest. text_command (codes "check" ∷ a ∷ b ∷ c ∷ rest)) (C.check_of (Some a) (Some b) (Some c))
 unfolding clap_on_literals
@@ -134,6 +138,7 @@ enters-norm : Enters (codes "norm") norm
 unfolding clap_on_literals
 enters-norm = record { walks = refl; passes = refl; enters = λ rest. refl }
 
+-- `norm` and a name are read as that command
 pub read-norm : (a : Text) → IsValue a → text_command (codes "norm" ∷ a ∷ []) ≡ C.norm_of (Some a)
 unfolding clap_on_literals
 read-norm a va =
@@ -158,6 +163,7 @@ read-gen f n vf vn rest =
     ∙ name-read gen nothing_held 1 f vf refl (n ∷ rest)
     ∙ name-read gen (past gen.rules nothing_held 1 f).held 2 n vn refl rest
 
+-- `gen`, a family and a number, with the number of workers or without, are read as that command
 pub workers-gen : (f n : Text) → IsValue f → IsValue n
     → TakesWorkers (λ rest. text_command (codes "gen" ∷ f ∷ n ∷ rest)) (C.gen_of (Some f) (Some n))
 unfolding clap_on_literals

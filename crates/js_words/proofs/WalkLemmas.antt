@@ -73,7 +73,7 @@ from_sub s fault end =
     (check_fault s (finished s.rules end.held) false))))
     (named s.name (finished s.rules end.held))
 
--- what the words come to, from where the walk stands
+-- what the words come to, from where the walk is
 abbrev pub read_from : Shape → Walk → List Text → Option Command
 read_from s w words = from_sub s (walk_fault s [] w words) (fold (walked s.rules []) w words)
 

@@ -64,7 +64,7 @@ abbrev pub gen_of : Option Text → Option Text → Option ℕ → Option Comman
 gen_of (Some family) (Some n) w = gen_to (family_of family) n w
 gen_of _ _ w = None
 
--- ---- of the matches of a subcommand
+-- ---- the command of the matches of a subcommand
 
 abbrev pub workers_in : List Row → Option ℕ
 workers_in rows = option_and_then (number_in 1 64) (first_of (codes "workers") rows)
@@ -88,7 +88,7 @@ norm_in rows = norm_of (first_of (codes "first") rows)
 abbrev pub gen_in : List Row → Option Command
 gen_in rows = gen_of (first_of (codes "kind") rows) (first_of (codes "number") rows) (workers_in rows)
 
--- ---- of the words
+-- ---- the command of the words
 
 -- the command of the matches of the subcommand with that name
 abbrev pub named : Text → List Row → Option Command

@@ -15,7 +15,7 @@ use js_doc::{Memory, Str};
 use js_gen::GenKind;
 use std::alloc::{AllocError, Global};
 
-/// What the words ask for, with the names of files. The last number is that of the workers.
+/// What the words request, with the names of files. The last number is that of the workers.
 #[derive(Drop)]
 pub enum Command {
     /// A schema: has it a document?

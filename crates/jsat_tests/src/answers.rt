@@ -118,7 +118,7 @@ fn a_file_that_is_no_schema_is_refused(rt: HostRuntime) -> Result<(), Memory> {
     )
 }
 
-/// The first file is told before the second one.
+/// The first file is reported before the second one.
 #[test]
 fn one_file_that_is_no_schema_is_refused(rt: HostRuntime) -> Result<(), Memory> {
     for (a, b, report) in [
@@ -199,6 +199,19 @@ fn a_tree_may_have_16384_ends(rt: HostRuntime) -> Result<(), Memory> {
         )?;
         let files = (a.as_bytes(), b"false".as_slice());
         expect(&rt, rt.alloc(), "include a b", files, (status, report))?;
+    }
+    Ok(())
+}
+
+/// At each kind.
+#[test]
+fn each_tree_may_have_16384_ends(rt: HostRuntime) -> Result<(), Memory> {
+    for (count, status, report) in [(13, 0, "document\nnull\n"), (14, 4, "limit branches +0\n")] {
+        let choice = "{\"anyOf\":[true,true]}";
+        let choices = nested(rt.alloc(), count, "{\"anyOf\":[true,true]},", choice, "")?;
+        let a = nested(rt.alloc(), 1, "{\"allOf\":[", choices.as_str(), "]}")?;
+        let files = (a.as_bytes(), b"".as_slice());
+        expect(&rt, rt.alloc(), "sat a", files, (status, report))?;
     }
     Ok(())
 }

@@ -89,6 +89,8 @@ impl Shelf for CountingShelf {
 
     ghost left = { λ s. Some s.shelf.left };
 
+    ghost is_begun = { λ s. s.shelf.is_begun };
+
     ghost faults = { λ s. s.shelf.faults };
 
     ghost begun = { λ s. s.shelf.begun };
@@ -157,7 +159,7 @@ fn nothing_is_read_behind_a_rejection(rt: HostRuntime) -> Result<(), Memory> {
     Ok(())
 }
 
-/// Lines that were whole before a failed read are judged: a rejection among them is told, and else the fault. The
+/// Lines that were whole before a failed read are judged: a rejection among them is reported, and else the fault. The
 /// seventh call begins the certificate, and the eighth reads it.
 #[test]
 fn lines_before_a_failed_read_are_judged(rt: HostRuntime) -> Result<(), Memory> {

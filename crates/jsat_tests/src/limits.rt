@@ -1,6 +1,6 @@
 //! Limits: what is answered at the last count within one, and at the first count over it.
 //!
-//! Those of branches, of multiples, of states and of counts stand with the other answers.
+//! Those of branches, of multiples, of states and of counts are with the other answers.
 
 use crate::setting::{expect, expect_certificate};
 use js_doc::Memory;

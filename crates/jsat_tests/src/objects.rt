@@ -1,4 +1,4 @@
-//! What `sat` and `include` answer for schemas that ask for something of objects.
+//! What `sat` and `include` answer for schemas that ask something of objects.
 
 use crate::setting::expect;
 use js_doc::Memory;
@@ -8,7 +8,7 @@ fn an_object_satisfies_a_schema(rt: HostRuntime) -> Result<(), Memory> {
     for (a, status, included, report) in [
         (r#"{"minProperties":1}"#, 0, 1, "document\nnull\n"),
         (r#"{"const":[{}]}"#, 0, 1, "document\n[{}]\n"),
-        // A name can't be told to be there and to have no value.
+        // A name can't be required to be there and to have no value.
         (
             r#"{"type":"object","required":["a"],"properties":{"a":false}}"#,
             1,
@@ -73,7 +73,7 @@ fn an_object_satisfies_a_schema(rt: HostRuntime) -> Result<(), Memory> {
     Ok(())
 }
 
-/// As it may stand in a file: what asks nothing (`$schema`, `title`, `format`) is there too.
+/// As it may be in a file: what asks nothing (`$schema`, `title`, `format`) is there too.
 pub(crate) const CLOSED: &str =
     r##"{"$schema":"http://json-schema.org/draft-06/schema#","title":"v1","type":"object","required":["name"],"properties":{"name":{"type":"string","minLength":1,"format":"hostname"}},"additionalProperties":false}"##;
 

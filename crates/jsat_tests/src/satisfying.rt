@@ -1,5 +1,5 @@
-//! What `sat` and `include` answer for schemas that ask for more of a document than its kind. Most cases of objects are
-//! in `objects.rt`.
+//! What `sat` and `include` answer for schemas that ask more of a document than its kind. Most cases of objects are in
+//! `objects.rt`.
 
 use crate::objects::{CLOSED, WITH_TAGS};
 use crate::setting::{STRING, expect, expect_certificate, expect_checked};
@@ -84,7 +84,7 @@ fn a_schema_is_satisfied(rt: HostRuntime) -> Result<(), Memory> {
     Ok(())
 }
 
-/// The same question by `include`, which asks for no document: the statuses change places.
+/// The same question by `include`, for which no document is the good answer: the statuses change places.
 #[test]
 fn one_schema_is_not_included_in_another(rt: HostRuntime) -> Result<(), Memory> {
     for (a, b, report) in [

@@ -65,7 +65,8 @@ pub(crate) fn expect_checked<R: Abort + Threads + Sync>(
     Ok(())
 }
 
-/// Fails unless `include` prints a certificate for two schemas that begins with this text, and `check` accepts it.
+/// Fails unless `include` prints a certificate for two schemas that begins with this text, the same for each number of
+/// workers, and `check` accepts it.
 pub(crate) fn expect_certificate<R: Abort + Threads + Sync>(
     rt: &R,
     alloc: Global,
@@ -82,6 +83,13 @@ pub(crate) fn expect_certificate<R: Abort + Threads + Sync>(
         "{printed}"
     );
     assert_eq!(rt; status, 0, "{a} in {b}");
+    for line in [
+        "include a b --workers 1",
+        "include a b --workers=4",
+        "include --workers 64 a b",
+    ] {
+        expect(rt, alloc, line, (a.as_bytes(), b.as_bytes()), (0, printed))?;
+    }
     expect_checked(rt, alloc, (a, b, printed), (0, "accepted\n"))
 }
 

@@ -1,6 +1,7 @@
 //! Numbers of workers: what is printed is the same for each, and goals are expanded and entries of certificates judged
 //! by as many threads at once.
 
+use crate::objects::{CLOSED, WITH_TAGS};
 use crate::setting::{
     CERTIFICATE, ROOM, STRING, STRING_OR_NULL, add, expect, expect_written, status_of, two_files,
     words_of,
@@ -30,6 +31,30 @@ fn a_number_of_workers_changes_nothing(rt: HostRuntime) -> Result<(), Memory> {
         ("gen tree 3 --workers 64", tree),
     ] {
         let files = (STRING.as_bytes(), STRING_OR_NULL.as_bytes());
+        expect(&rt, rt.alloc(), line, files, answer)?;
+    }
+    Ok(())
+}
+
+/// A schema of lists, whose goal at objects leads to itself, and two closed objects, of which one has a member more.
+#[test]
+fn a_number_of_workers_changes_no_document(rt: HostRuntime) -> Result<(), Memory> {
+    let list = r##"{"type":"object","properties":{"next":{"$ref":"#"}}}"##;
+    for line in [
+        "sat a --workers 1",
+        "sat a --workers 4",
+        "sat a --workers 64",
+    ] {
+        let files = (list.as_bytes(), b"false".as_slice());
+        expect(&rt, rt.alloc(), line, files, (0, "document\n{}\n"))?;
+    }
+    let answer = (1, "document\n{\"name\":\"a\",\"tags\":[]}\n");
+    for line in [
+        "include a b --workers 1",
+        "include a b --workers 4",
+        "include a b --workers 64",
+    ] {
+        let files = (WITH_TAGS.as_bytes(), CLOSED.as_bytes());
         expect(&rt, rt.alloc(), line, files, answer)?;
     }
     Ok(())
@@ -73,7 +98,7 @@ fn goals_of_a_wave_meet(rt: HostRuntime) -> Result<(), Memory> {
         let gate = Meeting::new(1, 2);
         let status = run(&rt, alloc, words.as_slice(), &gate, &mut shelf, &mut sink).code();
         expect_written(&rt, (status, sink.written()), answer);
-        assert!(rt; gate.was_met());
+        assert!(rt; gate.was_each_met());
     }
     Ok(())
 }
@@ -100,6 +125,6 @@ fn entries_of_a_certificate_meet(rt: HostRuntime) -> Result<(), Memory> {
     let gate = Meeting::new(0, 2);
     let status = run(&rt, alloc, words.as_slice(), &gate, &mut shelf, &mut sink).code();
     expect_written(&rt, (status, sink.written()), (0, "accepted\n"));
-    assert!(rt; gate.was_met());
+    assert!(rt; gate.was_each_met());
     Ok(())
 }

@@ -1,5 +1,5 @@
--- The key lemma: two families of conditions that ask the same are met alike, where ranks fall in place in one of them;
--- more steps change nothing. The conditions that are spoken of need only be closed.
+-- The key lemma: two families of conditions that require the same are met alike, where ranks fall in place in one of
+-- them; more steps change nothing. The conditions that are spoken of need only be closed.
 use Rattle.std.proofs.Common.{◌≡◌, ℕ, zero, suc, ◌<◌, ◌≤◌, List, [], ◌∷◌, Bool, refl, sym, ◌∙◌, arith}
 use Rattle.std.specs.List.{AllByRecursion}
 use Rattle.documents.specs.Document.{Document, depth}

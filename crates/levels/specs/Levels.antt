@@ -3,8 +3,8 @@ use Rattle.std.specs.Prelude.{◌≡◌, ℕ, zero, suc, ◌<◌, List, Bool, fa
 use Rattle.std.specs.List.{AllByRecursion}
 use Rattle.documents.specs.Document.{Document, depth}
 
--- `asks here below p J` is what the condition p asks of J, where `here` tells what J meets and `below` what its parts
--- meet
+-- `asks here below p J` is what the condition p requires of J, where `here` says what J meets and `below` what its
+-- parts meet
 module _ {N : Type 0} (asks : (here : N → Bool) (below : N → Document → Bool) → N → Document → Bool) (steps : ℕ) where
   -- with n steps from condition to condition at one document; with none left nothing is met
   abbrev pub met_here : (N → Document → Bool) → ℕ → N → Document → Bool
@@ -25,7 +25,7 @@ pub record Ranked {N : Type 0} (in_place : N → List N) (steps : ℕ) (rank : N
   pub bounded : (p : N) → rank p < steps
   pub falls : (p : N) → AllByRecursion (λ q. rank q < rank p) (in_place p)
 
--- what a condition asks depends on its in-place names at the document, and on documents of lesser depth
+-- what a condition requires depends on its in-place names at the document, and on documents of lesser depth
 abbrev pub IsLocal : {N : Type 0} → ((N → Bool) → (N → Document → Bool) → N → Document → Bool) → (N → List N) → Type 0
 IsLocal {N} asks in_place =
     (here here' : N → Bool) (below below' : N → Document → Bool) (p : N) (J : Document)

@@ -10,8 +10,8 @@ pub record RankedWithin {M : Type 0} (IsIn : M → Type 0) (in_place : M → Lis
   pub falls : (p : M) → IsIn p → AllByRecursion (λ q. rank q < rank p) (in_place p)
   pub closed : (p : M) → IsIn p → AllByRecursion IsIn (in_place p)
 
--- each condition p that is in asks what the condition `at p` of another family asks, where those that p names are met
--- alike
+-- each condition p that is in requires what the condition `at p` of another family requires, where those that p names
+-- are met alike
 abbrev pub AreAlike : {M N : Type 0} → ((M → Bool) → (M → Document → Bool) → M → Document → Bool)
     → ((N → Bool) → (N → Document → Bool) → N → Document → Bool) → (M → N) → (M → Type 0) → (M → List M) → Type 0
 AreAlike {M} {N} asks asks' at IsIn in_place =

@@ -5,7 +5,7 @@ use Rattle.std.specs.Fmt.{decimal}
 use Rattle.std.proofs.lemmas.Bool.{and_parts, and_from}
 use Rattle.documents.specs.Tests.{every}
 use Rattle.documents.specs.Kind.{Null, Boolean, Number, Text, Array, Object}
-use Rattle.position_laws.proofs.Lists.{every-append}
+use Rattle.list_laws.proofs.Elements.{every-append}
 use Rattle.certificate_lines.specs.Line.{Line, Ending, Clashes, Cites, ShortEntry, Kept, Ends}
 use Rattle.certificate_lines.specs.Line as L
 use Rattle.certificate_lines.specs.Text.{signed_text, ending_text, entry_text, words_text, is_small, is_small_signed, is_small_ending, is_small_entry, is_line}

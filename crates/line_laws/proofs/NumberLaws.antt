@@ -26,14 +26,6 @@ module _ (n d : ℕ) (ds : List ℕ) where
     go true t e = absurd (true≢false e)
     go false t e = refl
 
-  pub digits_from-large : 4294967296 ≤ n * 10 + (d - 48) → digits_from n (d ∷ ds) ≡ None
-  digits_from-large l = go (is_ascii_digit d) (nat_lt (n * 10 + (d - 48)) 4294967296) refl where
-    go : (s t : Bool) → nat_lt (n * 10 + (d - 48)) 4294967296 ≡ t
-        → cond (s && t) (digits_from (n * 10 + (d - 48)) ds) None ≡ None
-    go true true e = absurd (omega (arith, ltb-true (n * 10 + (d - 48)) 4294967296 e))
-    go true false e = refl
-    go false t e = refl
-
   pub digits_from-more : is_ascii_digit d ≡ true → n * 10 + (d - 48) < 4294967296
       → digits_from n (d ∷ ds) ≡ digits_from (n * 10 + (d - 48)) ds
   digits_from-more e l =
@@ -101,7 +93,7 @@ decimal-plain zero l = ap is_plain (decimal_digit 0 (omega arith))
 decimal-plain (suc n) l = one-plain (decimal (suc n)) (decimal_nonempty (suc n) l)
     (inr (first_decimal (suc n) (omega arith) l))
 
--- both ways
+-- a number's text is read as the number, and what is read as one is its text
 
 pub number_of-text : (ds : List ℕ) (n : ℕ) → number_of ds ≡ Some n → (decimal n ≡ ds) × (is_small n ≡ true)
 number_of-text ds n e = go (is_plain ds) refl e where

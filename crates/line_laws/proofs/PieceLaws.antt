@@ -7,7 +7,7 @@ use Rattle.std.proofs.Math.Seq.{take-length}
 use Rattle.std.proofs.lemmas.List.Edits.{between_more, between_none}
 use Rattle.std.proofs.lemmas.Bool.{eqb-true, true≢false, and_parts, and_from, not-true, ne_eqb}
 use Rattle.documents.specs.Tests.{every}
-use Rattle.position_laws.proofs.Lists.{every-append}
+use Rattle.list_laws.proofs.Elements.{every-append}
 use Rattle.certificate_lines.specs.Pieces.{pieces, pieces_on, split_at, split_on, after_word}
 use Rattle.list_laws.proofs.Numbers.{nat_eq-refl}
 
@@ -70,14 +70,6 @@ ended b (p ∷ ps) =
     ap (λ ys. b ∷ (p ++ ys)) (ended b ps)
     ∙ ap (λ ys. b ∷ ys) (sym (append_assoc p (b ∷ []) (flat_map (λ p. p ++ b ∷ []) ps)))
 
--- pieces before an empty last one each end with the byte
-pub pieces-ended : (b : ℕ) (xs : List ℕ) (ps : List (List ℕ)) → pieces b xs ≡ ps ++ [] ∷ []
-    → flat_map (λ p. p ++ b ∷ []) ps ≡ xs
-pieces-ended b xs [] e = ap (joined b) (sym e) ∙ joined-pieces b [] xs
-pieces-ended b xs (p ∷ ps) e =
-    append_assoc p (b ∷ []) (flat_map (λ p. p ++ b ∷ []) ps) ∙ ap (λ ys. p ++ ys) (sym (ended b ps))
-    ∙ ap (joined b) (sym e) ∙ joined-pieces b [] xs
-
 -- pieces after an empty first one each begin with the byte
 pub pieces-begun : (b : ℕ) (xs : List ℕ) (ps : List (List ℕ)) → pieces b xs ≡ [] ∷ ps
     → flat_map (λ p. b ∷ p) ps ≡ xs
@@ -96,16 +88,6 @@ cut-word b w (c ∷ v) rest h =
     cond-false (nat_eq c b) _ _ (not-true _ (and_parts (not (nat_eq c b)) (lacks b v) h).0)
     ∙ cut-word b (w ++ c ∷ []) v rest (and_parts (not (nat_eq c b)) (lacks b v) h).1
     ∙ ap (λ u. pieces_on b u rest) (append_assoc w (c ∷ []) v)
-
-pub pieces-of_ended : (b : ℕ) (ps : List (List ℕ)) → every (lacks b) ps ≡ true
-    → pieces b (flat_map (λ p. p ++ b ∷ []) ps) ≡ ps ++ [] ∷ []
-pieces-of_ended b [] h = refl
-pieces-of_ended b (p ∷ ps) h =
-    let rest : List ℕ = flat_map (λ p. p ++ b ∷ []) ps in
-    ap (pieces_on b []) (append_assoc p (b ∷ []) rest)
-    ∙ cut-word b [] p (b ∷ rest) (and_parts (lacks b p) (every (lacks b) ps) h).0
-    ∙ cond-true (nat_eq b b) _ _ (nat_eq-refl b)
-    ∙ ap (λ qs. p ∷ qs) (pieces-of_ended b ps (and_parts (lacks b p) (every (lacks b) ps) h).1)
 
 begun_on : (b : ℕ) (w : List ℕ) (ps : List (List ℕ)) → every (lacks b) ps ≡ true
     → pieces_on b w (flat_map (λ p. b ∷ p) ps) ≡ w ∷ ps
@@ -184,7 +166,7 @@ grown-preserved b xs s i t found more all m l e put next h =
     (λ k. map (λ p. p.now) (put k) ++ pieces_on b (between (next k) (i + 1) xs) (drop (i + 1) xs))
     ∙ ap (λ ps. map (λ p. p.now) found ++ ps) (sym (pieces-grown b xs s i m l (ne_eqb (get_or xs i 0) b e))) ∙ h
 
--- what stands before the first byte and behind it
+-- what comes before the first byte and behind it
 
 split_on-text : (b : ℕ) (w xs p q : List ℕ) → split_on b w xs ≡ Some (p, q) → p ++ b ∷ q ≡ w ++ xs
 split_on-text b w [] p q e = cc
@@ -248,13 +230,13 @@ pieces_on-first b w (x ∷ xs) = go (pieces_on-first b (w ++ x ∷ []) xs) (nat_
   go next true = ([], pieces_on b [] xs, ap (λ u. u ∷ pieces_on b [] xs) (sym (append-nil w)))
   go (q, qs, e) false = (x ∷ q, qs, e ∙ ap (λ u. u ∷ qs) (append_assoc w (x ∷ []) q))
 
--- the first piece of a text begins with what stands before the first byte
+-- the first piece of a text begins with what comes before the first byte
 pub pieces-open : (b : ℕ) (v more : List ℕ) → lacks b v ≡ true
     → (q : List ℕ) × (qs : List (List ℕ)) × (pieces b (v ++ more) ≡ (v ++ q) ∷ qs)
 pieces-open b v more h =
     let (q, qs, e) = pieces_on-first b v more in (q, qs, cut-word b [] v more h ∙ e)
 
--- what stands before the first byte is the first piece
+-- what comes before the first byte is the first piece
 pub pieces-past : (b : ℕ) (v rest : List ℕ) → lacks b v ≡ true → pieces b (v ++ b ∷ rest) ≡ v ∷ pieces b rest
 pieces-past b v rest h = cut-word b [] v (b ∷ rest) h ∙ cond-true (nat_eq b b) _ _ (nat_eq-refl b)
 

@@ -9,7 +9,7 @@ use Rattle.std.proofs.lemmas.Bool.{true≢false, and_parts, and_from}
 use Rattle.documents.specs.Tests.{every}
 use Rattle.documents.specs.Kind.{Kind, Null, Boolean, Number, Text, Array, Object, all_kinds}
 use Rattle.documents.specs.KindWords.{kind_word}
-use Rattle.position_laws.proofs.Lists.{every-append}
+use Rattle.list_laws.proofs.Elements.{every-append}
 use Rattle.goals.specs.Signed.{Signed, Plus, Minus}
 use Rattle.certificate_lines.specs.Line.{Ending, Clashes, Cites, ShortEntry, Kept, Ends}
 use Rattle.certificate_lines.specs.Text.{signed_text, ending_text, entry_text, list_text, is_small, is_small_signed, is_small_ending, is_small_entry}

@@ -1,4 +1,4 @@
--- A reader stands where the bytes that it read are cut, however they came: bytes cut in one go, and piece by piece.
+-- A reader is where the bytes that it read are cut, however they came: bytes cut in one go, and piece by piece.
 use Rattle.std.proofs.Common.{◌≡◌, ℕ, suc, ◌+◌, ◌≤◌, Bool, true, false, ◌&&◌, cond, List, [], ◌∷◌, ◌++◌, length, take, Option, Some, None, refl, ap, sym, ◌∙◌, subst, append_assoc, length-append, arith}
 use Rattle.std.specs.Prelude.{option_to_list}
 use Rattle.std.proofs.lemmas.List.{append-nil}
@@ -6,12 +6,12 @@ use Rattle.std.proofs.lemmas.Grind.{flat_map-append}
 use Rattle.std.proofs.lemmas.Bool.{true≢false, and_parts, and_from, leb-false, lt-leb}
 use Rattle.std.proofs.Math.Seq.{take-length, take-append_seam}
 use Rattle.documents.specs.Tests.{every}
-use Rattle.position_laws.proofs.Lists.{every-append}
+use Rattle.list_laws.proofs.Elements.{every-append}
 use Rattle.certificate_lines.specs.Line.{Line}
 use Rattle.certificate_lines.specs.Text.{words_text, line_text, lines_text, is_line, is_short, fits, longest_line, IsText}
 use Rattle.certificate_lines.specs.Pieces.{pieces, split_at}
 use Rattle.certificate_lines.specs.Reading.{line_of}
-use Rattle.certificate_lines.specs.Reader.{Fault, NotALine, TooLong, Reader, fresh, stopped, with_line, ended, grown, fed_at, fed_unless, fed, read_count, count_of, given}
+use Rattle.certificate_lines.specs.Reader.{Fault, NotALine, TooLong, Reader, stopped, with_line, ended, grown, fed_at, fed_unless, fed, read_count, count_of, given}
 use Rattle.certificate_lines.specs.Cut.{Cut, stops, before, begun, cut_from, cut, Stands}
 use Rattle.line_laws.proofs.PieceLaws.{lacks, joined, joined-pieces, cut-word, pieces-past, pieces-open, pieces_on-longer, pieces_on-lack, split_at-text, split_at-front, split_at-none}
 use Rattle.line_laws.proofs.LineLaws.{line_of-spells, line_of-of, words-lack}
@@ -267,10 +267,6 @@ cut-stays bytes more f e =
     ∙ cut_from-stays 1 l.front l.last l.more l.others f (ap (λ ps. (cut_from 1 ps).fault) (sym l.before) ∙ e)
     ∙ ap (cut_from 1) (sym l.before)
 
--- a reader that took nothing
-pub fresh-stands : Stands [] [] fresh
-fresh-stands = record { cut = refl; count = refl }
-
 -- a piece that is read
 
 abbrev reading : List Line → List ℕ → Reader
@@ -370,7 +366,7 @@ module _ (bytes : List ℕ) (ls : List Line) (held : List ℕ) (was : IsOpen byt
         subst (λ ys. StandsAfter (bytes ++ ys) ls (ended (reading ls held) (held ++ front))) (sym read)
         (ended-after front (joined-clear front (split_at-front 10 piece front rest e)))
 
--- what is read of a piece is read of the whole: so where a reader stands doesn't depend on how the bytes came
+-- what is read of a piece is read of the whole: so where a reader is doesn't depend on how the bytes came
 pub fed-stands : (bytes piece : List ℕ) (ls : List Line) (r : Reader) → r.waiting ≡ None → Stands bytes ls r
     → Stands (bytes ++ take (read_count piece) piece) (ls ++ option_to_list (fed r piece).waiting) (fed r piece)
 fed-stands bytes piece ls r idle s = go r.fault refl where

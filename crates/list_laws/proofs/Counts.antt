@@ -1,8 +1,8 @@
 -- Counting lists of numbers by a key.
-use Rattle.std.proofs.Common.{◌≡◌, ℕ, zero, suc, ◌+◌, ◌<◌, ◌≤◌, inl, inr, Bool, true, false, cond, nat_eq, List, [], ◌∷◌, filter, length, refl, ap, sym, ◌∙◌, subst, arith}
-use Rattle.std.proofs.lemmas.Bool.{eqb-true, eqb-false, eq-eqb, cases_eq}
+use Rattle.std.proofs.Common.{◌≡◌, ℕ, zero, suc, ◌+◌, ◌<◌, ◌≤◌, inl, inr, Bool, true, false, cond, nat_eq, List, [], ◌∷◌, filter, length, refl, ap, ◌∙◌, subst, arith}
+use Rattle.std.proofs.lemmas.Bool.{eqb-true, eq-eqb}
 use Rattle.list_laws.specs.In.{IsIn, Distinct}
-use Rattle.list_laws.proofs.Pigeons.{without_in, without, to_without}
+use Rattle.list_laws.proofs.Pigeons.{length-without, without, in_without}
 
 -- the sum of f over a list
 abbrev pub sum_over : {A : Type 0} → (A → ℕ) → List A → ℕ
@@ -18,9 +18,9 @@ subset_length [] ys d h = omega arith
 subset_length (x ∷ xs) ys d h =
     omega (
       arith,
-      without_in x ys (h x (inl refl)),
+      length-without x ys (h x (inl refl)),
       subset_length xs (without x ys) d.1
-          (λ y i. to_without y x ys (h y (inr i)) (λ e. d.0 (subst (λ z. IsIn z xs) e i))),
+          (λ y i. in_without y x ys (h y (inr i)) (λ e. d.0 (subst (λ z. IsIn z xs) e i))),
     )
 
 -- those whose key is c
@@ -28,30 +28,20 @@ abbrev pub with_key : (ℕ → ℕ) → ℕ → List ℕ → List ℕ
 with_key key c [] = []
 with_key key c (x ∷ xs) = cond (nat_eq (key x) c) (x ∷ with_key key c xs) (with_key key c xs)
 
-pub from_key : (key : ℕ → ℕ) (c y : ℕ) (xs : List ℕ) → IsIn y (with_key key c xs) → IsIn y xs × (key y ≡ c)
-from_key key c y [] i = absurd i
-from_key key c y (x ∷ xs) i = go (nat_eq (key x) c) refl i (from_key key c y xs) where
+pub from_with_key : (key : ℕ → ℕ) (c y : ℕ) (xs : List ℕ) → IsIn y (with_key key c xs) → IsIn y xs × (key y ≡ c)
+from_with_key key c y [] i = absurd i
+from_with_key key c y (x ∷ xs) i = go (nat_eq (key x) c) refl i (from_with_key key c y xs) where
   go : (b : Bool) → nat_eq (key x) c ≡ b → IsIn y (cond b (x ∷ with_key key c xs) (with_key key c xs))
       → (IsIn y (with_key key c xs) → IsIn y xs × (key y ≡ c)) → IsIn y (x ∷ xs) × (key y ≡ c)
   go true e (inl q) more = (inl q, ap key q ∙ eqb-true (key x) c e)
   go true e (inr i) more = (inr (more i).0, (more i).1)
   go false e i more = (inr (more i).0, (more i).1)
 
-pub to_key : (key : ℕ → ℕ) (c y : ℕ) (xs : List ℕ) → IsIn y xs → key y ≡ c → IsIn y (with_key key c xs)
-to_key key c y [] i e = absurd i
-to_key key c y (x ∷ xs) i e = go (nat_eq (key x) c) refl i (λ j. to_key key c y xs j e) where
-  go : (b : Bool) → nat_eq (key x) c ≡ b → IsIn y (x ∷ xs) → (IsIn y xs → IsIn y (with_key key c xs))
-      → IsIn y (cond b (x ∷ with_key key c xs) (with_key key c xs))
-  go true f (inl q) more = inl q
-  go true f (inr i) more = inr (more i)
-  go false f (inl q) more = absurd (eqb-false (key x) c f (ap key (sym q) ∙ e))
-  go false f (inr i) more = more i
-
-pub distinct_key : (key : ℕ → ℕ) (c : ℕ) (xs : List ℕ) → Distinct xs → Distinct (with_key key c xs)
-distinct_key key c [] d = tt
-distinct_key key c (x ∷ xs) d = go (nat_eq (key x) c) (distinct_key key c xs d.1) where
+pub Distinct-with_key : (key : ℕ → ℕ) (c : ℕ) (xs : List ℕ) → Distinct xs → Distinct (with_key key c xs)
+Distinct-with_key key c [] d = tt
+Distinct-with_key key c (x ∷ xs) d = go (nat_eq (key x) c) (Distinct-with_key key c xs d.1) where
   go : (b : Bool) → Distinct (with_key key c xs) → Distinct (cond b (x ∷ with_key key c xs) (with_key key c xs))
-  go true e = ((λ i. d.0 (from_key key c x xs i).0), e)
+  go true e = ((λ i. d.0 (from_with_key key c x xs i).0), e)
   go false e = e
 
 abbrev pub keyed : (ℕ → ℕ) → List ℕ → List ℕ → ℕ
@@ -82,59 +72,23 @@ all_keyed key cs [] h = omega arith
 all_keyed key cs (x ∷ xs) h =
     omega (arith, all_keyed key cs xs (λ y i. h y (inr i)), keyed_one key cs x xs (h x (inl refl)))
 
-keyed_none : (key : ℕ → ℕ) (cs : List ℕ) → keyed key cs [] ≡ 0
-keyed_none key [] = refl
-keyed_none key (c ∷ cs) = omega (arith, keyed_none key cs)
+pub from_up_from : (k n x : ℕ) → IsIn x (up_from k n) → (k ≤ x) × (x < k + n)
+from_up_from k zero x i = absurd i
+from_up_from k (suc n) x (inl e) = (omega (arith, e), omega (arith, e))
+from_up_from k (suc n) x (inr i) = let (a, b) = from_up_from (suc k) n x i in (omega arith, omega arith)
 
-keyed_other : (key : ℕ → ℕ) (cs : List ℕ) (x : ℕ) (xs : List ℕ) → (IsIn (key x) cs → ⊥)
-    → keyed key cs (x ∷ xs) ≤ keyed key cs xs
-keyed_other key [] x xs h = omega arith
-keyed_other key (c ∷ cs) x xs h = go (nat_eq (key x) c) refl (keyed_other key cs x xs (λ i. h (inr i))) where
-  go : (b : Bool) → nat_eq (key x) c ≡ b → keyed key cs (x ∷ xs) ≤ keyed key cs xs
-      → length (cond b (x ∷ with_key key c xs) (with_key key c xs)) + keyed key cs (x ∷ xs) ≤ length
-      (with_key key c xs) + keyed key cs xs
-  go true e more = absurd (h (inl (eqb-true (key x) c e)))
-  go false e more = omega (arith, more)
+pub Distinct-up_from : (k n : ℕ) → Distinct (up_from k n)
+Distinct-up_from k zero = tt
+Distinct-up_from k (suc n) =
+    ((λ i. let (a, b) = from_up_from (suc k) n k i in let f : ⊥ = omega arith in f), Distinct-up_from (suc k) n)
 
-keyed_at_most : (key : ℕ → ℕ) (cs : List ℕ) (x : ℕ) (xs : List ℕ) → Distinct cs
-    → keyed key cs (x ∷ xs) ≤ suc (keyed key cs xs)
-keyed_at_most key [] x xs d = omega arith
-keyed_at_most key (c ∷ cs) x xs d = go (nat_eq (key x) c) refl (keyed_at_most key cs x xs d.1) where
-  go : (b : Bool) → nat_eq (key x) c ≡ b → keyed key cs (x ∷ xs) ≤ suc (keyed key cs xs)
-      → length (cond b (x ∷ with_key key c xs) (with_key key c xs)) + keyed key cs (x ∷ xs) ≤ suc
-      (length (with_key key c xs) + keyed key cs xs)
-  go true e more = omega (arith, keyed_other key cs x xs (λ i. d.0 (subst (λ z. IsIn z cs) (eqb-true (key x) c e) i)))
-  go false e more = omega (arith, more)
+pub length-up_from : (k n : ℕ) → length (up_from k n) ≡ n
+length-up_from k zero = refl
+length-up_from k (suc n) = ap suc (length-up_from (suc k) n)
 
-pub keyed_once : (key : ℕ → ℕ) (cs xs : List ℕ) → Distinct cs → keyed key cs xs ≤ length xs
-keyed_once key cs [] d = omega (arith, keyed_none key cs)
-keyed_once key cs (x ∷ xs) d = omega (arith, keyed_once key cs xs d, keyed_at_most key cs x xs d)
-
-pub up_from_low : (k n x : ℕ) → IsIn x (up_from k n) → (k ≤ x) × (x < k + n)
-up_from_low k zero x i = absurd i
-up_from_low k (suc n) x (inl e) = (omega (arith, e), omega (arith, e))
-up_from_low k (suc n) x (inr i) = let (a, b) = up_from_low (suc k) n x i in (omega arith, omega arith)
-
-pub up_from_distinct : (k n : ℕ) → Distinct (up_from k n)
-up_from_distinct k zero = tt
-up_from_distinct k (suc n) =
-    ((λ i. let (a, b) = up_from_low (suc k) n k i in let f : ⊥ = omega arith in f), up_from_distinct (suc k) n)
-
-pub up_from_length : (k n : ℕ) → length (up_from k n) ≡ n
-up_from_length k zero = refl
-up_from_length k (suc n) = ap suc (up_from_length (suc k) n)
-
-pub in_up_from : (k n j : ℕ) → k ≤ j → j < k + n → IsIn j (up_from k n)
-in_up_from k zero j a b = absurd (omega arith)
-in_up_from k (suc n) j a b =
-    elim (cases_eq j k) [
-      | inl e ↦ inl e
-      | inr ne ↦ inr (in_up_from (suc k) n j (omega (arith, ne)) (omega arith))
-    ]
-
-pub distinct_filter : (p : ℕ → Bool) (xs : List ℕ) → Distinct xs → Distinct (filter p xs)
-distinct_filter p [] d = tt
-distinct_filter p (x ∷ xs) d = go (p x) (distinct_filter p xs d.1) where
+pub Distinct-filter : (p : ℕ → Bool) (xs : List ℕ) → Distinct xs → Distinct (filter p xs)
+Distinct-filter p [] d = tt
+Distinct-filter p (x ∷ xs) d = go (p x) (Distinct-filter p xs d.1) where
   from : (y : ℕ) (ys : List ℕ) → IsIn y (filter p ys) → IsIn y ys
   from y [] i = i
   from y (z ∷ ys) i = pick (p z) i (from y ys) where

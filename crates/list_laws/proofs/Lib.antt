@@ -3,6 +3,7 @@ pub mod Numbers
 pub mod Options
 pub mod Lists
 pub mod Tests
+pub mod Elements
 pub mod Pigeons
 pub mod Counts
 pub mod Every

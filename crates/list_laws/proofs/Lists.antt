@@ -24,10 +24,10 @@ pub in_right : {A : Type 0} (x : A) (xs ys : List A) → IsIn x ys → IsIn x (x
 in_right x [] ys h = h
 in_right x (a ∷ xs) ys h = inr (in_right x xs ys h)
 
-pub in_append : {A : Type 0} (x : A) (xs ys : List A) → IsIn x (xs ++ ys) → IsIn x xs ⊎ IsIn x ys
-in_append x [] ys h = inr h
-in_append x (a ∷ xs) ys (inl e) = inl (inl e)
-in_append x (a ∷ xs) ys (inr h) = ⊎_elim (λ l. inl (inr l)) (λ r. inr r) (in_append x xs ys h)
+pub from_append : {A : Type 0} (x : A) (xs ys : List A) → IsIn x (xs ++ ys) → IsIn x xs ⊎ IsIn x ys
+from_append x [] ys h = inr h
+from_append x (a ∷ xs) ys (inl e) = inl (inl e)
+from_append x (a ∷ xs) ys (inr h) = ⊎_elim (λ l. inl (inr l)) (λ r. inr r) (from_append x xs ys h)
 
 pub in_flat_map : {A B : Type 0} (f : A → List B) (y : B) (x : A) (xs : List A) → IsIn x xs → IsIn y (f x)
     → IsIn y (flat_map f xs)
@@ -39,7 +39,7 @@ pub from_flat_map : {A B : Type 0} (f : A → List B) (y : B) (xs : List A) → 
     → (x : A) × IsIn x xs × IsIn y (f x)
 from_flat_map f y [] h = absurd h
 from_flat_map f y (a ∷ xs) h =
-    elim (in_append y (f a) (flat_map f xs) h) [
+    elim (from_append y (f a) (flat_map f xs) h) [
       | inl l ↦ (a, inl refl, l)
       | inr r ↦ let (x, i, k) = from_flat_map f y xs r in (x, inr i, k)
     ]
@@ -54,9 +54,9 @@ in_map f x [] i = absurd i
 in_map f x (y ∷ xs) (inl e) = inl (ap f e)
 in_map f x (y ∷ xs) (inr i) = inr (in_map f x xs i)
 
-pub to_filter : {A : Type 0} (p : A → Bool) (x : A) (xs : List A) → IsIn x xs → p x ≡ true → IsIn x (filter p xs)
-to_filter p x [] i e = absurd i
-to_filter p x (y ∷ xs) i e = go (p y) refl i (λ j. to_filter p x xs j e) where
+pub in_filter : {A : Type 0} (p : A → Bool) (x : A) (xs : List A) → IsIn x xs → p x ≡ true → IsIn x (filter p xs)
+in_filter p x [] i e = absurd i
+in_filter p x (y ∷ xs) i e = go (p y) refl i (λ j. in_filter p x xs j e) where
   go : (b : Bool) → p y ≡ b → IsIn x (y ∷ xs) → (IsIn x xs → IsIn x (filter p xs))
       → IsIn x (cond b (y ∷ filter p xs) (filter p xs))
   go true f (inl q) more = inl q
@@ -64,29 +64,29 @@ to_filter p x (y ∷ xs) i e = go (p y) refl i (λ j. to_filter p x xs j e) wher
   go false f (inl q) more = cc (subst (λ z. p z ≡ true) q e)
   go false f (inr i) more = more i
 
-pub in_take : {A : Type 0} (n : ℕ) (x : A) (xs : List A) → IsIn x (take n xs) → IsIn x xs
-in_take zero x xs h = absurd h
-in_take (suc n) x [] h = absurd h
-in_take (suc n) x (a ∷ xs) (inl e) = inl e
-in_take (suc n) x (a ∷ xs) (inr h) = inr (in_take n x xs h)
+pub from_take : {A : Type 0} (n : ℕ) (x : A) (xs : List A) → IsIn x (take n xs) → IsIn x xs
+from_take zero x xs h = absurd h
+from_take (suc n) x [] h = absurd h
+from_take (suc n) x (a ∷ xs) (inl e) = inl e
+from_take (suc n) x (a ∷ xs) (inr h) = inr (from_take n x xs h)
 
-pub in_slice : {A : Type 0} (x : A) (xs : List A) (i : ℕ) → slice_get xs i ≡ Some x → IsIn x xs
-in_slice x [] i e = cc
-in_slice x (y ∷ xs) zero e = inl cc
-in_slice x (y ∷ xs) (suc i) e = inr (in_slice x xs i e)
+pub slice_get-in : {A : Type 0} (x : A) (xs : List A) (i : ℕ) → slice_get xs i ≡ Some x → IsIn x xs
+slice_get-in x [] i e = cc
+slice_get-in x (y ∷ xs) zero e = inl cc
+slice_get-in x (y ∷ xs) (suc i) e = inr (slice_get-in x xs i e)
 
--- where what is in a list stands
-pub in_at : {A : Type 0} (L : List A) (x d : A) → IsIn x L → (k : ℕ) × (k < length L) × (x ≡ get_or L k d)
-in_at [] x d i = absurd i
-in_at (y ∷ L) x d (inl e) = (0, omega arith, e)
-in_at (y ∷ L) x d (inr i) = let (k, l, e) = in_at L x d i in (suc k, omega (arith, l), e)
+-- where what is in a list is found
+pub in-get_or : {A : Type 0} (L : List A) (x d : A) → IsIn x L → (k : ℕ) × (k < length L) × (x ≡ get_or L k d)
+in-get_or [] x d i = absurd i
+in-get_or (y ∷ L) x d (inl e) = (0, omega arith, e)
+in-get_or (y ∷ L) x d (inr i) = let (k, l, e) = in-get_or L x d i in (suc k, omega (arith, l), e)
 
-pub in_get : {A : Type 0} (L : List A) (i : ℕ) (d : A) → i < length L → IsIn (get_or L i d) L
-in_get [] i d l = absurd (omega (arith, l))
-in_get (x ∷ L) zero d l = inl refl
-in_get (x ∷ L) (suc i) d l = inr (in_get L i d (omega (arith, l)))
+pub get_or-in : {A : Type 0} (L : List A) (i : ℕ) (d : A) → i < length L → IsIn (get_or L i d) L
+get_or-in [] i d l = absurd (omega (arith, l))
+get_or-in (x ∷ L) zero d l = inl refl
+get_or-in (x ∷ L) (suc i) d l = inr (get_or-in L i d (omega (arith, l)))
 
--- what stands in a joined list
+-- what is in a joined list
 pub slice_get-append : {A : Type 0} (xs ys : List A) (k : ℕ) → k < length xs → slice_get (xs ++ ys) k ≡ slice_get xs k
 slice_get-append [] ys k l = absurd (omega (arith, l))
 slice_get-append (x ∷ xs) ys zero l = refl
@@ -108,11 +108,11 @@ map-reverse f (x ∷ xs) =
     ap (map f) (reverse-append (x ∷ []) xs) ∙ map-append f (reverse xs) (x ∷ [])
     ∙ ap (λ ys. ys ++ f x ∷ []) (map-reverse f xs) ∙ sym (reverse-append (f x ∷ []) (map f xs))
 
--- what stands last stands first the other way round
+-- what comes last comes first the other way round
 pub reverse-last : {A : Type 0} (xs ys : List A) (x : A) → ys ≡ xs ++ x ∷ [] → reverse ys ≡ x ∷ reverse xs
 reverse-last xs ys x e = ap reverse e ∙ reverse-append xs (x ∷ [])
 
--- what stands first of those that pass a test; none passes where none is left
+-- what comes first of those that pass a test; none passes where none is left
 pub filter_head : {A : Type 0} (test : A → Bool) (xs : List A) (y : A) (ys : List A)
     → filter test xs ≡ y ∷ ys → (test y ≡ true) × IsIn y xs
 filter_head test [] y ys e = cc e
@@ -124,7 +124,7 @@ filter_head test (x ∷ xs) y ys e = go (test x) refl e (filter_head test xs y y
 
 pub filter_none : {A : Type 0} (test : A → Bool) (xs : List A) (x : A)
     → filter test xs ≡ [] → IsIn x xs → test x ≡ true → ⊥
-filter_none test xs x e i t = subst (λ z. IsIn x z) e (to_filter test x xs i t)
+filter_none test xs x e i t = subst (λ z. IsIn x z) e (in_filter test x xs i t)
 
 -- two beginnings of one list: the second goes on past the first, or the first has the second at its head
 pub prefixes : {A : Type 0} (a b c d : List A) → a ++ b ≡ c ++ d

@@ -14,6 +14,7 @@ pub is_some-suc : (o : Option ℕ) → is_some (option_map suc o) ≡ is_some o
 is_some-suc None = refl
 is_some-suc (Some n) = refl
 
+-- an option that is no `Some` is `None`
 pub none_is : {A : Type 0} (o : Option A) → ((x : A) → o ≡ Some x → ⊥) → o ≡ None
 none_is None h = refl
 none_is (Some x) h = absurd (h x refl)

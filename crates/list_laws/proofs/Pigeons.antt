@@ -25,9 +25,9 @@ from_without y v (x ∷ xs) h = go (nat_eq x v) refl h (from_without y v xs) whe
   go false e (inl k) more = (inl k, λ q. eqb-false x v e (sym k ∙ q))
   go false e (inr h) more = (inr (more h).0, (more h).1)
 
-pub to_without : (y v : ℕ) (xs : List ℕ) → IsIn y xs → (y ≡ v → ⊥) → IsIn y (without v xs)
-to_without y v [] h ne = absurd h
-to_without y v (x ∷ xs) h ne = go (nat_eq x v) refl h (λ i. to_without y v xs i ne) where
+pub in_without : (y v : ℕ) (xs : List ℕ) → IsIn y xs → (y ≡ v → ⊥) → IsIn y (without v xs)
+in_without y v [] h ne = absurd h
+in_without y v (x ∷ xs) h ne = go (nat_eq x v) refl h (λ i. in_without y v xs i ne) where
   go : (b : Bool) → nat_eq x v ≡ b → IsIn y (x ∷ xs) → (IsIn y xs → IsIn y (without v xs))
       → IsIn y (cond b (without v xs) (x ∷ without v xs))
   go true e (inl k) more = absurd (ne (k ∙ eqb-true x v e))
@@ -35,9 +35,9 @@ to_without y v (x ∷ xs) h ne = go (nat_eq x v) refl h (λ i. to_without y v xs
   go false e (inl k) more = inl k
   go false e (inr i) more = inr (more i)
 
-pub distinct_without : (v : ℕ) (xs : List ℕ) → Distinct xs → Distinct (without v xs)
-distinct_without v [] d = tt
-distinct_without v (x ∷ xs) d = go (nat_eq x v) (distinct_without v xs d.1) where
+pub Distinct-without : (v : ℕ) (xs : List ℕ) → Distinct xs → Distinct (without v xs)
+Distinct-without v [] d = tt
+Distinct-without v (x ∷ xs) d = go (nat_eq x v) (Distinct-without v xs d.1) where
   go : (b : Bool) → Distinct (without v xs) → Distinct (cond b (without v xs) (x ∷ without v xs))
   go true e = e
   go false e = ((λ i. d.0 (from_without x v xs i).0), e)
@@ -58,9 +58,9 @@ without_le v (x ∷ xs) = go (nat_eq x v) (without_le v xs) where
   go true h = omega (arith, h)
   go false h = omega (arith, h)
 
-pub without_in : (v : ℕ) (xs : List ℕ) → IsIn v xs → suc (length (without v xs)) ≤ length xs
-without_in v [] i = absurd i
-without_in v (x ∷ xs) i = go (nat_eq x v) refl i (without_in v xs) where
+pub length-without : (v : ℕ) (xs : List ℕ) → IsIn v xs → suc (length (without v xs)) ≤ length xs
+length-without v [] i = absurd i
+length-without v (x ∷ xs) i = go (nat_eq x v) refl i (length-without v xs) where
   go : (b : Bool) → nat_eq x v ≡ b → IsIn v (x ∷ xs) → (IsIn v xs → suc (length (without v xs)) ≤ length xs)
       → suc (length (cond b (without v xs) (x ∷ without v xs))) ≤ suc (length xs)
   go true e i more = omega (arith, without_le v xs)
@@ -84,7 +84,7 @@ pigeon low (suc n) xs d h =
     omega (
       arith,
       without_distinct (low + n) xs d,
-      pigeon low n (without (low + n) xs) (distinct_without (low + n) xs d)
+      pigeon low n (without (low + n) xs) (Distinct-without (low + n) xs d)
           (λ y i. let (j, ne) = from_without y (low + n) xs i in let b = h y j in (b.0, omega (arith, b.1, ne))),
     )
 
@@ -95,14 +95,14 @@ place_left low (suc n) xs l =
     elim (dec_in (low + n) xs) [
       | inr out ↦ (low + n, omega arith, omega arith, out)
       | inl i ↦ let (y, a, b, out) =
-          place_left low n (without (low + n) xs) (omega (arith, without_in (low + n) xs i)) in
-          (y, a, omega arith, λ j. out (to_without y (low + n) xs j (λ e. let f : ⊥ = omega (arith, e, b) in f)))
+          place_left low n (without (low + n) xs) (omega (arith, length-without (low + n) xs i)) in
+          (y, a, omega arith, λ j. out (in_without y (low + n) xs j (λ e. let f : ⊥ = omega (arith, e, b) in f)))
     ]
 
 -- the numbers of a range are different
-pub range_distinct : (a n : ℕ) → Distinct (range_with_len a n)
-range_distinct a zero = tt
-range_distinct a (suc n) = ((λ i. out (a + 1) n i (omega arith)), range_distinct (a + 1) n) where
+pub Distinct-range : (a n : ℕ) → Distinct (range_with_len a n)
+Distinct-range a zero = tt
+Distinct-range a (suc n) = ((λ i. out (a + 1) n i (omega arith)), Distinct-range (a + 1) n) where
   out : (b n : ℕ) → IsIn a (range_with_len b n) → a < b → ⊥
   out b zero i l = i
   out b (suc n) (inl e) l = omega (arith, e, l)

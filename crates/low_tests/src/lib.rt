@@ -1,8 +1,8 @@
 //! Tests of the calls of the low crates, and of what the search and the checker share: values from outside, one call of
 //! each at least, and requests for memory that are refused.
 //!
-//! They stand beside the crates that they test, as only what is public is tested: so no crate is proved once more for
-//! its tests.
+//! They are kept beside the crates that they test, as only what is public is tested: so no crate is proved once more
+//! for its tests.
 #![tactic(auto)]
 
 #[cfg(test)]

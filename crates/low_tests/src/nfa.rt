@@ -75,9 +75,9 @@ fn copies_in_two_words(rt: HostRuntime) -> Result<(), Fail> {
     Ok(())
 }
 
-/// With more than 256 positions there are no rows.
+/// With more than 256 positions there are no follow sets.
 #[test]
-fn copies_without_rows(rt: HostRuntime) -> Result<(), Fail> {
+fn copies_without_follow_sets(rt: HostRuntime) -> Result<(), Fail> {
     let mut word = vec![in rt.alloc(); 'a'; 300]?;
     word.push('0')?;
     let found = [
@@ -105,7 +105,7 @@ fn copies_without_rows(rt: HostRuntime) -> Result<(), Fail> {
 
 /// A character beyond ASCII between others, and first of all.
 #[test]
-fn characters_without_rows(rt: HostRuntime) -> Result<(), Fail> {
+fn characters_without_follow_sets(rt: HostRuntime) -> Result<(), Fail> {
     let word = ['é', 'a', 'é', 'b', 'c'];
     let found = ["^éaé[ab]c$", "(?:é|a){3}b", "[^a]b", "^[^a-z]a"];
     for pattern in found {

@@ -21,7 +21,7 @@ fn numbers_the_elements_of_a_list(rt: HostRuntime) -> Result<(), Fail> {
 
 #[test]
 fn numbers_steps_in_any_order(rt: HostRuntime) -> Result<(), Fail> {
-    // The third stands apart from the first two, and the fifth goes on after another's step.
+    // The third is apart from the first two, and the fifth goes on after another's step.
     let added = [
         (0, 0),
         (0, 1),

@@ -1,5 +1,5 @@
-//! Positions of small tables at names, by truths that are all the same, and of chains that ask each position twice; the
-//! branches and steps of another table.
+//! Positions of small tables at names, by truths that are all the same, and of chains that name each position twice;
+//! the branches and steps of another table.
 
 ghost use Rattle.std.specs.Prelude.{◌≡◌, ◌+◌, ◌<◌, ◌^◌, IfOk, length};
 
@@ -93,7 +93,7 @@ fn plans_of_a_table(rt: HostRuntime) -> Result<(), Fail> {
     Ok(())
 }
 
-/// At least one character, and then so many positions, each of which asks the one before it twice.
+/// At least one character, and then so many positions, each of which names the one before it twice.
 fn chain(alloc: Global, links: u32) -> Result<Core, Fail>
     requires { links < 2 ^ 20 }
     ensures { IfOk result (λ core. length core.positions ≡ links + 1) }

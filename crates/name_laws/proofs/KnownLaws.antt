@@ -1,4 +1,5 @@
--- Where all atoms of a position are known, so are those that it is itself and those of the positions that it asks.
+-- Where all atoms of a position are known, so are those that it is itself and those of the positions that it depends
+-- on.
 use Rattle.std.proofs.Common.{◌≡◌, ◌≢◌, ℕ, zero, suc, ◌-◌, List, [], ◌∷◌, flat_map, Bool, true, nat_lt, refl, subst, arith}
 use Rattle.std.proofs.lemmas.Bool.{and_parts, and_from}
 use Rattle.documents.specs.Tests.{every}
@@ -33,7 +34,7 @@ asked_known knows T (suc n) p some h =
     (every-each knows (atoms_within T n) qs
     (every-parts knows (own_atoms (position_at T p)) (flat_map (atoms_within T n) qs) h).1)
 
--- the positions that a position asks of a string are in the table
+-- the positions that a position depends on at a string are in the table
 pub asked_named : (n : ℕ) (P : Position) → names_below n P ≡ true → every (λ q. nat_lt q n) (asked_of_string P) ≡ true
 asked_named n (Same q) h = (and_parts _ (every (λ q. nat_lt q n) (of_parts (Same q))) h).0
 asked_named n (Not q) h = (and_parts _ (every (λ q. nat_lt q n) (of_parts (Not q))) h).0

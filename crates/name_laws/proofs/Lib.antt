@@ -4,7 +4,7 @@ pub mod NameLaws
 pub mod KnownLaws
 -- What holds of a name and its atoms, step by step.
 pub mod Unfolded
--- Positions at names one after another: how they are found, and what their room tells.
+-- Positions at names one after another: how they are found, and what their room gives.
 pub mod Tests
 mod Mentions
 pub mod Searching

@@ -10,7 +10,7 @@ use Rattle.word_states.specs.Atom as W
 use Rattle.word_states.specs.Atom.{Atom, is_true}
 use Rattle.positions.specs.Position.{Position, True, False, Same, Not, All, Any, One, Depends, Types, BoolIs, NumMin, NumMax, Multiple, NumIn, Words, Match, LengthMin, LengthMax, Items, Contains, CountMin, CountMax, MembersOf, Has, PropsMin, PropsMax, NamesIn, position_at}
 use Rattle.positions.specs.Holds.{asks, holds}
-use Rattle.position_laws.proofs.Lists.{every-same, some-same, exactly_one-same}
+use Rattle.list_laws.proofs.Elements.{every-same, some-same, exactly_one-same}
 use Rattle.name_truths.specs.NameTruth.{asked_of_string, own_atoms, atoms_within, atoms, AreTrue, asks_name, name_within, name_holds}
 
 true_parts : (truth : Atom → Bool) (w : List ℕ) (xs bs : List Atom) → AreTrue truth w (xs ++ bs)
@@ -59,7 +59,7 @@ least truth w n true e t = go (leb_tells n (length w)) where
   go (inr (f, a)) = absurd (omega (arith, a, eqb-true n 0 e))
 least truth w n false e t = t.0
 
--- at a string a position asks the same, where its atoms have the word's truths
+-- at a string a position requires the same, where its atoms have the word's truths
 asks-name : (truth : Atom → Bool) (w : List ℕ) (here here' : ℕ → Bool) (below : ℕ → Document → Bool) (P : Position)
     → AreTrue truth w (own_atoms P) → AllByRecursion (λ q. here q ≡ here' q) (asked_of_string P)
     → asks_name truth here P ≡ asks here' below P (string w)

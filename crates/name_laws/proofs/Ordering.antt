@@ -1,4 +1,4 @@
--- Positions of rising rank ask only those before them.
+-- Positions of rising rank depend only on those before them.
 use Rattle.std.proofs.Common.{◌≡◌, ℕ, ◌+◌, ◌<◌, List, [], ◌∷◌, ◌++◌, filter, get_or, Bool, true, false, ◌||◌, not, cond, if◌then◌else◌, ◌⊎◌, nat_eq, inl, inr, eqb-true, refl, ap, sym, ◌∙◌, subst, append_assoc, arith}
 use Rattle.std.specs.List.{AllByRecursion}
 use Rattle.std.specs.List.Sorted.{IsPermutation}
@@ -7,7 +7,7 @@ use Rattle.documents.specs.Tests.{every}
 use Rattle.word_states.specs.Atom as W
 use Rattle.word_states.specs.Atom.{Atom}
 use Rattle.positions.specs.Position.{Position, Words, Match, LengthMin, LengthMax, position_at, is_table}
-use Rattle.position_laws.proofs.Lists.{some-append, every-weaker}
+use Rattle.list_laws.proofs.Elements.{some-append, every-weaker}
 use Rattle.position_laws.proofs.Tables.{is_table-fall}
 use Rattle.name_truths.specs.NameTruth.{asked_of_string, own_atoms}
 use Rattle.name_laws.specs.Plans.{is_leaf, has_place, asks_earlier, IsPlan, atoms_of, rises}
@@ -29,7 +29,7 @@ module _ (T : List Position) (ranks : List ℕ) (found : List ℕ) where
   IsClosed : List ℕ → Type 0
   IsClosed ps = every (λ q. every (has_place found) (asked_of_string (position_at T q))) ps ≡ true
 
-  -- all are seen or are still to come, so what a position asks, being of lesser rank, was seen
+  -- all are seen or are still to come, so what a position depends on, being of lesser rank, was seen
   pub rises-earlier :
       ((p : ℕ) → AllByRecursion (λ q. get_or ranks q 0 < get_or ranks p 0) (asked_of_string (position_at T p)))
       → (seen ps : List ℕ) → every (has_place (seen ++ ps)) found ≡ true

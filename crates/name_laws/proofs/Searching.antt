@@ -1,4 +1,5 @@
--- A search by a stack finds the positions that a position asks, in the order in which its atoms are first mentioned.
+-- A search by a stack finds the positions that a position depends on, in the order in which its atoms are first
+-- mentioned.
 use Rattle.std.proofs.Common.{◌≡◌, ℕ, zero, suc, ◌+◌, ◌<◌, List, [], ◌∷◌, ◌++◌, flat_map, length, get_or, Bool, true, false, cond, nat_lt, refl, ap, ap₂, sym, ◌∙◌, subst, append_assoc, arith}
 use Rattle.std.specs.List.{AllByRecursion, list_any}
 use Rattle.std.proofs.lemmas.Bool.{and_parts, and_from, lt-ltb, ltb-true, le-ltb, cond-true, cond-false}
@@ -8,7 +9,7 @@ use Rattle.documents.specs.Tests.{every}
 use Rattle.word_states.specs.Atom.{Atom}
 use Rattle.word_states.specs.Mention.{mention_all}
 use Rattle.positions.specs.Position.{Position, position_at, in_place, ranks_fall, is_table}
-use Rattle.position_laws.proofs.Lists.{all-weaker, all-append, all-every, every-all}
+use Rattle.list_laws.proofs.Elements.{all-weaker, all-append, all-every, every-all}
 use Rattle.position_laws.proofs.Tables.{is_table-IsTable, is_table-named, is_table-fall}
 use Rattle.name_truths.specs.NameTruth.{asked_of_string, own_atoms, atoms}
 use Rattle.name_laws.specs.Plans.{has_place, atoms_of}
@@ -16,9 +17,9 @@ use Rattle.name_laws.specs.Searches.{AreReached, lower, Covers, IsSearch}
 use Rattle.name_laws.proofs.Tests.{every-has, all-has, has-all}
 use Rattle.name_laws.proofs.Mentions.{mention_all-append, mention_all-known, mention_all-mentioned}
 use Rattle.name_laws.proofs.Unfolded.{asked-in_place, atoms-asks}
-use Rattle.list_laws.proofs.Every.{every-parts, every-append}
+use Rattle.list_laws.proofs.Every.{every-parts, every_joined}
 
--- all that are of lesser rank stand in the first of those that are waiting
+-- all that are of lesser rank are in the first of those that are waiting
 lower-append : (ranks : List ℕ) (v : ℕ) (qs waiting : List ℕ)
     → AllByRecursion (λ q. get_or ranks q 0 < get_or ranks v 0) qs
     → lower ranks v (qs ++ waiting) ≡ qs ++ lower ranks v waiting
@@ -28,13 +29,13 @@ lower-append ranks v (q ∷ qs) waiting h =
     (lt-ltb (get_or ranks q 0) (get_or ranks v 0) h.0)
     ∙ ap (λ xs. q ∷ xs) (lower-append ranks v qs waiting h.1)
 
--- none stands before a position itself
+-- none comes before a position itself
 lower-self : (ranks : List ℕ) (v : ℕ) (waiting : List ℕ) → lower ranks v (v ∷ waiting) ≡ []
 lower-self ranks v waiting =
     cond-false (nat_lt (get_or ranks v 0) (get_or ranks v 0)) (v ∷ lower ranks v waiting) []
     (le-ltb (get_or ranks v 0) (get_or ranks v 0) (omega arith))
 
--- ranks fall from a position to those that it asks of a string
+-- ranks fall from a position to those that it depends on at a string
 pub asked-fall : (ranks : List ℕ) (k : ℕ) (xs : List Position) → ranks_fall ranks k xs ≡ true → (p : ℕ)
     → AllByRecursion (λ q. get_or ranks q 0 < get_or ranks (k + p) 0) (asked_of_string (position_at xs p))
 asked-fall ranks k [] e p = tt
@@ -72,17 +73,7 @@ module _ (T : List Position) (ranks : List ℕ) (e : is_table T ranks ≡ true) 
       subst (λ i. AllByRecursion (λ k. get_or ranks k 0 < get_or ranks i 0) (asked_of_string (position_at T q))) same
       (asked-fall ranks 0 T (is_table-fall T ranks e) q)
 
-  pub search-start : (p : ℕ) → p < length T → IsSearch T ranks p [] (p ∷ [])
-  search-start p l = record {
-    within = refl;
-    waiting_within = and_from (nat_lt p (length T)) true (lt-ltb p (length T) l) refl;
-    has_root = λ f g h. (and_parts (f p) true h).0;
-    closed = λ f g h. refl;
-    atoms = λ same equal L. mention_all-append same L (atoms T p) [];
-    covered = tt;
-  }
-
-  -- one that was found before: what it asks was found too
+  -- one that was found before: what it depends on was found too
   pub search-again : (p q : ℕ) (found waiting : List ℕ) → IsSearch T ranks p found (q ∷ waiting)
       → has_place found q ≡ true → IsSearch T ranks p found waiting
   search-again p q found waiting s member = record {
@@ -102,7 +93,7 @@ module _ (T : List Position) (ranks : List ℕ) (e : is_table T ranks ≡ true) 
     later v c f g h = c f g (go (nat_lt (get_or ranks q 0) (get_or ranks v 0))) where
       go : (b : Bool)
           → every f (flat_map (λ k. atoms T k) (cond b (q ∷ lower ranks v waiting) [])) ≡ true
-      go true = every-append f (atoms T q) (flat_map (λ k. atoms T k) (lower ranks v waiting)) (known f g) h
+      go true = every_joined f (atoms T q) (flat_map (λ k. atoms T k) (lower ranks v waiting)) (known f g) h
       go false = refl
 
     fewer : (same : Atom → Atom → Bool) → ((a : Atom) → same a a ≡ true) → (L : List Atom)
@@ -119,12 +110,12 @@ module _ (T : List Position) (ranks : List ℕ) (e : is_table T ranks ≡ true) 
         ∙ sym (mention_all-append same L A (atoms T q ++ R) ∙ mention_all-append same M (atoms T q) R
         ∙ ap (λ N. mention_all same N R) none)
 
-  -- one that is new: those that it asks are waiting next
+  -- one that is new: those that it depends on are waiting next
   pub search-anew : (p q : ℕ) (found waiting : List ℕ) → IsSearch T ranks p found (q ∷ waiting)
       → IsSearch T ranks p (found ++ q ∷ []) (asked_of_string (position_at T q) ++ waiting)
   search-anew p q found waiting s = record {
-    within = every-append _ found (q ∷ []) s.within (and_from (nat_lt q (length T)) true inside.0 refl);
-    waiting_within = every-append _ kids waiting (named q) inside.1;
+    within = every_joined _ found (q ∷ []) s.within (and_from (nat_lt q (length T)) true inside.0 refl);
+    waiting_within = every_joined _ kids waiting (named q) inside.1;
     has_root = λ f g h.
         let (old, this) = every-parts f found (q ∷ []) g in
         let (asked, others) = every-parts f kids waiting h in
@@ -132,7 +123,7 @@ module _ (T : List Position) (ranks : List ℕ) (e : is_table T ranks ≡ true) 
     closed = λ f g h.
         let (old, this) = every-parts f found (q ∷ []) g in
         let (asked, others) = every-parts f kids waiting h in
-        every-append _ found (q ∷ [])
+        every_joined _ found (q ∷ [])
         (s.closed f old (and_from (f q) (every f waiting) (and_parts (f q) true this).0 others))
         (and_from (every f kids) true asked refl);
     atoms = λ same equal L. ap (λ xs. mention_all same L xs) moved ∙ s.atoms same equal L;
@@ -169,12 +160,12 @@ module _ (T : List Position) (ranks : List ℕ) (e : is_table T ranks ≡ true) 
         (ap (λ xs. every f xs) (sym (flat_map-append (λ k. own_atoms (position_at T k)) found (q ∷ []))) ∙ g) in
         (old, (every-parts f own [] this).0)
 
-    -- all atoms of the position, from its own and those of the positions that it asks
+    -- all atoms of the position, from its own and those of the positions that it depends on
     all_of : (f : Atom → Bool) → every f (atoms_of T (found ++ q ∷ [])) ≡ true
         → every f (flat_map (λ k. atoms T k) kids) ≡ true → every f (atoms T q) ≡ true
     all_of f g h =
         let (old, this) = parts f g in
-        ap (λ xs. every f xs) (asks q) ∙ every-append f own (flat_map (λ k. atoms T k) kids) this h
+        ap (λ xs. every f xs) (asks q) ∙ every_joined f own (flat_map (λ k. atoms T k) kids) this h
 
     -- what is waiting of lesser rank than v, where it has greater rank than the new one
     asked_first : (f : Atom → Bool) (v : ℕ)
@@ -195,13 +186,13 @@ module _ (T : List Position) (ranks : List ℕ) (e : is_table T ranks ≡ true) 
           let below : get_or ranks q 0 < get_or ranks v 0 = ltb-true _ _ l in
           let (asked, others) =
           asked_first f v (all-weaker _ _ kids (λ k m. omega (arith, m, below)) (falls q)) h in
-          every-append f (atoms T q) (flat_map (λ k. atoms T k) (lower ranks v waiting)) (all_of f g asked) others
+          every_joined f (atoms T q) (flat_map (λ k. atoms T k) (lower ranks v waiting)) (all_of f g asked) others
       go false l = refl
 
     itself : Covers T ranks (found ++ q ∷ []) (kids ++ waiting) q
     itself f g h = all_of f g (asked_first f q (falls q) h).0
 
-  -- none is waiting
+  -- where no position is waiting, all that the position depends on are found
   pub search-end : (p : ℕ) (found : List ℕ) → IsSearch T ranks p found [] → AreReached T p found
   search-end p found s = record {
     within = s.within;

@@ -16,10 +16,10 @@ use Rattle.name_laws.specs.Plans.{Plan, IsPlan, is_leaf, has_place, asks_earlier
 use Rattle.name_laws.specs.Rooms.{truth_at, is_right, leaf_holds}
 use Rattle.name_laws.proofs.Tests.{every-has}
 use Rattle.name_laws.proofs.Unfolded.{asks_name-same, name_holds-asks}
-use Rattle.position_laws.proofs.Lists.{every-weaker}
+use Rattle.list_laws.proofs.Elements.{every-weaker}
 use Rattle.list_laws.proofs.Tests.{beq-true}
 use Rattle.list_laws.proofs.Booleans.{eq-beq}
-use Rattle.list_laws.proofs.Every.{every-append}
+use Rattle.list_laws.proofs.Every.{every_joined}
 
 -- leaves
 
@@ -84,14 +84,14 @@ module _ (T : List Position) (truth : Atom → Bool) where
   pub right-more : (room : List Bool) (qs : List ℕ) (p : ℕ) (b : Bool) → p < length room → b ≡ name_holds T truth p
       → every (is_right T truth room) qs ≡ true → every (is_right T truth (set room p b)) (qs ++ p ∷ []) ≡ true
   right-more room qs p b l e h =
-      every-append _ qs (p ∷ []) (every-weaker _ _ qs (λ q k. right-set room p b q l e k) h)
+      every_joined _ qs (p ∷ []) (every-weaker _ _ qs (λ q k. right-set room p b q l e k) h)
       (and_from (is_right T truth (set room p b) p) true (right-itself room p b l e) refl)
 
   pub right-at : (room : List Bool) (qs : List ℕ) (q : ℕ) → every (is_right T truth room) qs ≡ true
       → has_place qs q ≡ true → truth_at room q ≡ name_holds T truth q
   right-at room qs q h e = beq-true _ _ (every-has (is_right T truth room) qs q h e)
 
--- position i asks those that are seen or before it
+-- position i depends on those that are seen or before it
 earlier-at : (T : List Position) (seen ps : List ℕ) (i : ℕ) → asks_earlier T seen ps ≡ true → i < length ps
     → every (has_place (seen ++ take i ps)) (asked_of_string (position_at T (get_or ps i 0))) ≡ true
 earlier-at T seen [] i h l = absurd (omega (arith, l))
@@ -120,7 +120,7 @@ module _ (T : List Position) (ok : IsTable T) (truth : Atom → Bool) where
       (ap (λ bs. leaf_holds (position_at T at) (get_or bs k false)) same
       ∙ leaf-told T truth (λ q. name_holds T truth q) leaves k h l ∙ sym (name_holds-asks T ok truth at))
 
-  -- another holds as it asks those before it
+  -- another holds by what holds of those before it
   pub inner-right : (room : List Bool) (seen ps : List ℕ) (i p : ℕ) → asks_earlier T seen ps ≡ true
       → i < length ps → p ≡ get_or ps i 0 → every (is_right T truth room) (seen ++ take i ps) ≡ true
       → asks_name truth (truth_at room) (position_at T p) ≡ name_holds T truth p
@@ -166,12 +166,12 @@ pub true-itself : (w : List ℕ) (xs : List Atom) → AreTrue (λ a. is_true a w
 true-itself w [] = tt
 true-itself w (a ∷ xs) = (refl, true-itself w xs)
 
--- by the plan's order, what stands at its position after both passes is whether it holds
+-- by the plan's order, what is at its position after both passes is whether it holds
 pub root-inside : (T : List Position) (plan : Plan) → IsPlan T plan → plan.root < length T
 root-inside T plan h =
     ltb-true plan.root (length T)
     (every-has (λ q. nat_lt q (length T)) (plan.leaves ++ plan.inner) plan.root
-    (every-append _ plan.leaves plan.inner h.leaves_within h.inner_within) h.has_root)
+    (every_joined _ plan.leaves plan.inner h.leaves_within h.inner_within) h.has_root)
 
 pub root-told : (T : List Position) (truth : Atom → Bool) (plan : Plan) (root : ℕ) (leaves inner : List ℕ)
     (truths before after : List Bool) → IsPlan T plan → root ≡ plan.root → leaves ≡ plan.leaves

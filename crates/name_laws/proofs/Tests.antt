@@ -5,7 +5,7 @@ use Rattle.std.specs.List.Sorted.{IsPermutation}
 use Rattle.std.proofs.lemmas.Bool.{and_parts, and_from, or_cases, or_left, or_right, true≢false}
 use Rattle.std.proofs.lemmas.List.Sorted.{list_any-IsPermutation}
 use Rattle.documents.specs.Tests.{every, some}
-use Rattle.position_laws.proofs.Lists.{some-append, every-weaker}
+use Rattle.list_laws.proofs.Elements.{some-append, every-weaker}
 use Rattle.name_laws.specs.Plans.{has_place}
 use Rattle.list_laws.proofs.Numbers.{nat_eq-refl}
 

@@ -1,10 +1,11 @@
--- In a table a position holds of a name as it asks, and its atoms are its own and those of the positions that it asks.
+-- In a table a position holds of a name where what it requires is met, and its atoms are its own and those of the
+-- positions that it depends on.
 use Rattle.std.proofs.Common.{◌≡◌, ℕ, zero, suc, ◌<◌, List, [], ◌∷◌, ◌++◌, flat_map, length, Bool, not, refl, ap, arith}
 use Rattle.std.specs.List.{AllByRecursion}
 use Rattle.word_states.specs.Atom.{Atom}
 use Rattle.positions.specs.Position.{Position, Same, Not, All, Any, One, position_at, in_place}
 use Rattle.positions.specs.Holds.{IsTable}
-use Rattle.position_laws.proofs.Lists.{all-weaker, every-same, some-same, exactly_one-same, flat_map-same}
+use Rattle.list_laws.proofs.Elements.{all-weaker, every-same, some-same, exactly_one-same, flat_map-same}
 use Rattle.name_truths.specs.NameTruth.{asked_of_string, own_atoms, atoms_within, atoms, asks_name, name_within, name_holds}
 
 -- what is required of a string is required in place
@@ -17,7 +18,7 @@ asked-in_place P (Any qs) h = h
 asked-in_place P (One qs) h = h
 asked-in_place P _ h = tt
 
--- a position asks the same where those that it asks hold alike
+-- a position requires the same where those that it depends on hold alike
 pub asks_name-same : (truth : Atom → Bool) (here here' : ℕ → Bool) (P : Position)
     → AllByRecursion (λ q. here q ≡ here' q) (asked_of_string P) → asks_name truth here P ≡ asks_name truth here' P
 asks_name-same truth here here' (Same q) h = h.0
@@ -28,7 +29,7 @@ asks_name-same truth here here' (One qs) h = exactly_one-same here here' qs h
 asks_name-same truth here here' _ h = refl
 
 module _ (T : List Position) (ok : IsTable T) where
-  -- those that a position asks are of lesser rank
+  -- those that a position depends on are of lesser rank
   lower : (p n : ℕ) → ok.rank p < suc n → AllByRecursion (λ q. ok.rank q < n) (asked_of_string (position_at T p))
   lower p n l =
       asked-in_place _ (position_at T p)

@@ -1,10 +1,10 @@
--- A position that is found takes what it asks from what isn't seen yet.
+-- A position that is found takes what it depends on from what isn't seen yet.
 use Rattle.std.proofs.Common.{◌≡◌, ℕ, zero, suc, ◌+◌, ◌<◌, List, [], ◌∷◌, ◌++◌, length, Bool, true, false, ◌||◌, cond, nat_eq, nat_lt, refl, ap, ap₂, sym, ◌∙◌, subst, arith}
 use Rattle.std.proofs.lemmas.Bool.{or_right, cond-true, cond-false, and_parts, ltb-true, ne_eqb}
 use Rattle.std.proofs.lemmas.List.{length-append}
 use Rattle.documents.specs.Tests.{every}
 use Rattle.positions.specs.Position.{Position, position_at}
-use Rattle.position_laws.proofs.Lists.{some-append}
+use Rattle.list_laws.proofs.Elements.{some-append}
 use Rattle.name_truths.specs.NameTruth.{asked_of_string}
 use Rattle.name_laws.specs.Plans.{has_place}
 use Rattle.name_laws.specs.Searches.{unseen}
@@ -55,7 +55,7 @@ unseen-found found q k (suc j) (P ∷ Ps) new e l =
       unseen-found found q (suc k) j Ps new (omega (arith, e)) (omega (arith, l)),
     )
 
--- one that is found takes one of those that wait, and gives those that it asks for what wasn't seen
+-- one that is found takes one of those that wait, and gives those that it depends on, of what wasn't seen
 pub fewer-left : (T : List Position) (q : ℕ) (found keys W waiting next : List ℕ) (P : Position)
     → has_place found q ≡ false → q < length T → waiting ≡ q ∷ W → keys ≡ found ++ q ∷ [] → P ≡ position_at T q
     → next ≡ asked_of_string P ++ W

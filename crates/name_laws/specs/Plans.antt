@@ -24,7 +24,7 @@ is_leaf _ = false
 abbrev pub has_place : List ℕ → ℕ → Bool
 has_place qs q = some (nat_eq q) qs
 
--- each position asks only such as are seen before it
+-- each position depends only on such as are seen before it
 abbrev pub asks_earlier : List Position → List ℕ → List ℕ → Bool
 asks_earlier T seen [] = true
 asks_earlier T seen (p ∷ ps) =
@@ -38,7 +38,7 @@ pub record IsPlan (T : List Position) (plan : Plan) : Type 0 where
   -- leaves are those that are an atom
   pub leaves_only : every (λ q. is_leaf (position_at T q)) plan.leaves ≡ true
   pub inner_only : every (λ q. not (is_leaf (position_at T q))) plan.inner ≡ true
-  -- the others ask leaves and those before them
+  -- the others depend on leaves and those before them
   pub ordered : asks_earlier T plan.leaves plan.inner ≡ true
 
 -- the atoms of positions, one after another

@@ -1,4 +1,4 @@
--- What stands in the room of a plan: at its place, whether a position holds.
+-- What is in the room of a plan: at its place, whether a position holds.
 use Rattle.std.specs.Prelude.{ℕ, List, Bool, false, not, get_or}
 use Rattle.std.specs.Bool.{beq}
 use Rattle.word_states.specs.Atom.{Atom}

@@ -1,4 +1,4 @@
--- How the positions that a position asks are found, those that are waiting being a stack.
+-- How the positions that a position depends on are found, those that are waiting being a stack.
 use Rattle.std.specs.Prelude.{◌≡◌, ℕ, suc, ◌+◌, List, [], ◌∷◌, ◌++◌, flat_map, length, Bool, true, cond, nat_lt, get_or}
 use Rattle.std.specs.List.{AllByRecursion}
 use Rattle.documents.specs.Tests.{every}
@@ -36,7 +36,7 @@ pub record IsSearch (T : List Position) (ranks : List ℕ) (p : ℕ) (found wait
   pub atoms : SameMentions (atoms_of T found ++ flat_map (λ q. atoms T q) waiting) (atoms T p)
   pub covered : AllByRecursion (Covers T ranks found waiting) found
 
--- how many positions the positions from place k on ask that weren't found
+-- how many positions those from place k on depend on that weren't found
 abbrev pub unseen : List ℕ → ℕ → List Position → ℕ
 unseen found k [] = 0
 unseen found k (P ∷ Ps) =

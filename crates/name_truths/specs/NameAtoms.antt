@@ -27,7 +27,7 @@ formula_atoms T (F.Is n) = W.Words (n ∷ []) ∷ []
 formula_atoms T (F.In s) = set_atoms s
 formula_atoms T (F.Holds p) = atoms T p
 
--- where it says anything of names
+-- the atoms of what a position says of names, none where it says nothing
 abbrev pub position_atoms : List Position → Option NameFormula → List Atom
 position_atoms T None = []
 position_atoms T (Some f) = formula_atoms T f

@@ -7,7 +7,7 @@ use Rattle.word_states.specs.Atom as W
 use Rattle.word_states.specs.Atom.{Atom, is_true}
 use Rattle.positions.specs.Position.{Position, True, False, Same, Not, All, Any, One, Types, Words, Match, LengthMin, LengthMax, position_at}
 
--- the positions that a position asks of the same string: a dependency asks for none, since a string is no object
+-- the positions that a position depends on at the same string: a dependency has none, since a string is no object
 abbrev pub asked_of_string : Position → List ℕ
 asked_of_string (Same q) = q ∷ []
 asked_of_string (Not q) = q ∷ []
@@ -16,7 +16,7 @@ asked_of_string (Any qs) = qs
 asked_of_string (One qs) = qs
 asked_of_string _ = []
 
--- the atom that a position itself is: every word has no characters at least, so that asks for none; that a word is no
+-- the atom that a position itself is: every word has no characters at least, so that needs none; that a word is no
 -- longer than n is that it hasn't n and one more
 abbrev pub own_atoms : Position → List Atom
 own_atoms (Words ws) = W.Words ws ∷ []
@@ -39,7 +39,7 @@ atoms T p = atoms_within T (length T) p
 abbrev pub are_all_known : (Atom → Bool) → List Atom → Bool
 are_all_known knows xs = every knows xs
 
--- and those of some positions
+-- the atoms of some positions are known, with so many steps
 abbrev pub are_known : (Atom → Bool) → List Position → ℕ → List ℕ → Bool
 are_known knows T n qs = every (λ q. are_all_known knows (atoms_within T n q)) qs
 
@@ -48,7 +48,7 @@ abbrev pub AreTrue : (Atom → Bool) → List ℕ → List Atom → Type 0
 AreTrue truth w [] = Unit {0}
 AreTrue truth w (a ∷ xs) = (truth a ≡ is_true a w) × AreTrue truth w xs
 
--- what a position asks of a string whose atoms have these truths; `here` tells which positions hold of it
+-- what a position requires of a string whose atoms have these truths; `here` says which positions hold of it
 module _ (truth : Atom → Bool) (here : ℕ → Bool) where
   abbrev pub asks_name : Position → Bool
   asks_name True = true

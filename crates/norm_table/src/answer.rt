@@ -6,7 +6,8 @@ use js_guard::{Guarded, guard};
 use js_json::{JsonFault, read_json};
 use js_keywords::SchemaFault;
 use js_normal::normalise;
-use js_schema::{Schema, read_schema};
+use js_reader::read_schema;
+use js_schema::Schema;
 use std::alloc::Global;
 
 /// The text of the core table of a schema, given as JSON text.

@@ -20,7 +20,7 @@ use Rattle.normal_forms.specs.Values.{of_kind, value_node}
 abbrev pub kinds_of : List TypeName → List Kind
 kinds_of ts = P.filter (λ t. some (λ n. K.same_kind t (kind_named n)) ts) all_kinds
 
--- each once, where it stands first
+-- each once, where it comes first
 abbrev pub once_among : {A : Type 0} → (A → A → Bool) → List A → List A → List A
 once_among same done [] = []
 once_among same done (x ∷ xs) =
@@ -62,7 +62,7 @@ truths false true = value_node (boolean true)
 truths true false = value_node (boolean false)
 truths false false = nothing
 
--- the values of an `enum` by kinds; lists and objects stand one by one
+-- the values of an `enum` by kinds; lists and objects come one by one
 abbrev pub groups : List Document → Maker
 groups ds =
     both (cond (some is_null ds) (node (Types (Null ∷ []))) nothing)

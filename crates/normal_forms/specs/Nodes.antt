@@ -17,7 +17,7 @@ nothing n = record { added = []; named = [] }
 abbrev pub node : Position → Maker
 node P n = record { added = P ∷ []; named = n ∷ [] }
 
--- an entry stands in the table already: it is named, and nothing is appended
+-- an entry is in the table already: it is named, and nothing is appended
 abbrev pub entry : ℕ → Maker
 entry e n = record { added = []; named = e ∷ [] }
 
@@ -47,7 +47,7 @@ abbrev pub each : {A : Type 0} → (A → Maker) → List A → Maker
 each f [] = nothing
 each f (x ∷ xs) = both (f x) (each f xs)
 
--- where it is there
+-- the maker of an option, nothing where there is none
 abbrev pub if_some : {A : Type 0} → (A → Maker) → Option A → Maker
 if_some f None = nothing
 if_some f (Some x) = f x

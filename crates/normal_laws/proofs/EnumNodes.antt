@@ -10,7 +10,7 @@ use Rattle.documents.specs.Kind.{Null, Boolean, Number, Text, same_kind}
 use Rattle.documents.specs.Document.{Document, null, boolean, number, string, array, object, is_document, kind_of}
 use Rattle.documents.specs.Measures.{at_number, at_string, same_document}
 use Rattle.positions.specs.Position.{Position, Any, Types, NumIn, Words}
-use Rattle.position_laws.proofs.Lists.{some-append}
+use Rattle.list_laws.proofs.Elements.{some-append}
 use Rattle.normal_forms.specs.Nodes.{Maker, nothing, node, both, above, each}
 use Rattle.normal_forms.specs.Values.{value_node}
 use Rattle.normal_forms.specs.KeywordNodes.{once, is_null, truth_in, number_in, word_in, is_container, one_of_kind, truths, groups}

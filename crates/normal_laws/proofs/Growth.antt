@@ -1,4 +1,4 @@
--- What is appended names what stands before it: of the same document its own nodes and the entries that apply in place,
+-- What is appended names what comes before it: of the same document its own nodes and the entries that apply in place,
 -- of parts any position before it.
 use Rattle.std.proofs.Common.{◌≡◌, ℕ, suc, ◌+◌, ◌<◌, ◌≤◌, ◌⊎◌, inl, inr, List, [], ◌∷◌, ◌++◌, length, true, refl, sym, subst, arith, add-zero}
 use Rattle.std.specs.List.{AllByRecursion}

@@ -1,4 +1,4 @@
--- What the nodes of an array's value ask of an array: that it has the same elements, one by one.
+-- What the nodes of an array's value require of an array: that it has the same elements, one by one.
 use Rattle.std.proofs.Common.{◌≡◌, ℕ, suc, List, [], ◌∷◌, length, Bool, true, false, ◌&&◌, nat_le, refl, ap, sym, ◌∙◌, arith}
 use Rattle.documents.specs.Document.{Document, Items, no_items, item, elements}
 use Rattle.documents.specs.Measures.{meets_in_order, same_document, same_items}

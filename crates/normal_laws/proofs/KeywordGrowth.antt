@@ -1,4 +1,4 @@
--- The nodes of an object's keywords name what stands before them, and have their ranges.
+-- The nodes of an object's keywords name what comes before them, and have their ranges.
 use Rattle.std.proofs.Common.{◌≡◌, ℕ, ℤ, pos, negsuc, ◌+ℤ◌, ◌-ℤ◌, ◌^◌, ◌-◌, ◌<◌, int_le, nat_lt, List, [], ◌∷◌, Bool, true, false, not, Option, Some, None, refl, arith, cond, filter}
 use Rattle.std.proofs.lemmas.Bool.{and_parts, and_from}
 use Rattle.std.specs.List.{AllByRecursion, filter_map}
@@ -306,7 +306,7 @@ module _ (In : ℕ → Type 0) (first : ℕ) (some_entry : 0 < first) (below_fir
         (grows-known (λ es. node (One es)) all In k.one_of here.one_of (λ es h. naming (One es) h tt refl))
         (grows-known (λ e. node (Not e)) one In k.not here.negated (λ e h. naming (Not e) h tt refl))))
 
-    -- the nodes of keywords name only entries and nodes that stand before them
+    -- the nodes of keywords name only entries and nodes that come before them
     pub keywords_grow : IsGrown (keyword_nodes tree_of k)
     keywords_grow =
         two (any_nodes tree_of k) _ anys_grow (two (number_nodes tree_of k) _ numbers_grow

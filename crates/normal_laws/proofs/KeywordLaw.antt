@@ -13,7 +13,7 @@ use Rattle.schemas.specs.Entry.{Keywords}
 use Rattle.schemas.specs.Schema.{if_there, meets}
 use Rattle.draft06.specs.Names.{each_asks, where_present}
 use Rattle.draft06.specs.EntryValidity.{asks_any, asks_number, asks_string, asks_array, asks_object, asks_keywords, has_type, items_ask, rest_asks, need_asks, is_other}
-use Rattle.position_laws.proofs.Lists.{every-append}
+use Rattle.list_laws.proofs.Elements.{every-append}
 use Rattle.positions.specs.Position.{Position, All, Any, One, Not, Types, NumMin, NumMax, Multiple, Match, LengthMin, LengthMax, Contains, CountMin, CountMax, MembersOf, Named, Matching, Has, PropsMin, PropsMax, NamesIn}
 use Rattle.positions.specs.Holds.{asks}
 use Rattle.normal_forms.specs.Nodes.{Maker, node, both, above, each, if_some}
@@ -26,8 +26,6 @@ use Rattle.normal_laws.proofs.EnumNodes.{enum_makes}
 use Rattle.normal_laws.proofs.KeywordNodes as N
 
 -- ---- tests in any order
-last_first : (a b c : Bool) → (a && (b && c)) ≡ ((b && c) && a)
-last_first a b c = and_comm a (b && c)
 
 backwards : (a b c : Bool) → (a && (b && c)) ≡ (c && (b && a))
 backwards true true true = refl
@@ -438,7 +436,7 @@ module _ (T : List Position) (holds : ℕ → Document → Bool) (meaning : IsMe
   makes-there f ps ok None h m = makes-nothing T holds meaning
   makes-there f ps ok (Some x) h m = m x h
 
-  -- one node that asks what the test says
+  -- one node that requires what the test says
   makes-plain : {A : Type 0} (P : A → Position) (t : A → Document → Bool) (o : Option A)
       → ((x : A) (J : Document) → is_document J ≡ true → asks (λ q. holds q J) holds (P x) J ≡ t x J)
       → Makes T holds (if_some (λ x. node (P x)) o) (one_test t o)

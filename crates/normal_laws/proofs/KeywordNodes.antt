@@ -1,4 +1,4 @@
--- What the nodes of each keyword ask: what the keyword asks.
+-- What the nodes of each keyword require: what the keyword asks.
 use Rattle.std.proofs.Common.{◌≡◌, ℕ, List, [], ◌∷◌, length, drop, Bool, true, ◌&&◌, ◌||◌, not, Option, Some, None, refl, ap, sym, ◌∙◌}
 use Rattle.std.proofs.Math.Bool.{and-true, and_comm, or-false}
 use Rattle.std.proofs.lemmas.Bool.{and_parts}
@@ -14,7 +14,7 @@ use Rattle.schemas.specs.Schema.{if_there}
 use Rattle.draft06.specs.Names.{keys, is_additional, each_asks, where_present}
 use Rattle.draft06.specs.EntryValidity.{kind_named, has_type, items_ask, rest_asks, need_asks}
 use Rattle.draft06_laws.proofs.Lists.{all_drop}
-use Rattle.position_laws.proofs.Lists.{some-map}
+use Rattle.list_laws.proofs.Elements.{some-map}
 use Rattle.positions.specs.Position as Q
 use Rattle.positions.specs.Position.{Position, Pattern, True, All, Any, One, Not, Depends, Types, Contains, MembersOf, Named, Matching, Others, Has, NamesIn}
 use Rattle.positions.specs.Holds.{asks, in_set}
@@ -230,7 +230,7 @@ module _ (T : List Position) (holds : ℕ → Document → Bool) (meaning : IsMe
   abbrev pub named_test : (List ℕ → List ℕ → Bool) → List ℕ × ℕ → Document → Bool
   named_test goes n = members_test (goes n.0) n.1
 
-  -- the nodes of listed names ask of members what the names' schemas ask of those that they go for
+  -- the nodes of listed names require of members what the names' schemas ask of those that they go for
   pub named_pass : (goes : List ℕ → List ℕ → Bool) (ns : List (List ℕ × ℕ)) (J : Document)
       → all_pass (tests_of (named_test goes) ns) J ≡ at_object (each_asks goes below ns) J
   named_pass goes [] null = refl

@@ -32,7 +32,7 @@ module _ (T : List Position) (holds : ℕ → Document → Bool) (meaning : IsMe
   pub makes-nothing : Makes T holds nothing []
   makes-nothing n s = tt
 
-  -- a node makes the test that its position asks
+  -- a node makes the test of what its position requires
   pub makes-node : (P : Position) (p : Document → Bool)
       → ((J : Document) → is_document J ≡ true → asks (λ q. holds q J) holds P J ≡ p J)
       → Makes T holds (node P) (p ∷ [])
@@ -75,7 +75,7 @@ module _ (T : List Position) (holds : ℕ → Document → Bool) (meaning : IsMe
   some-met [] (p ∷ ps) a J d = absurd a
   some-met (q ∷ qs) [] a J d = absurd a
 
-  -- a node that asks all that was made
+  -- a node that requires all that was made
   pub makes-all : (f : Maker) (ps : List (Document → Bool)) → Makes T holds f ps
       → Makes T holds (above All f) (all_pass ps ∷ [])
   makes-all f ps a = makes-above All (all_pass ps) f ps a (λ qs m J d. every-met qs ps m J d)

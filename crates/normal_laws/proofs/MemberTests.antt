@@ -1,4 +1,4 @@
--- What the nodes of an object's value ask of an object: that it has the same members.
+-- What the nodes of an object's value require of an object: that it has the same members.
 use Rattle.std.proofs.Common.{◌≡◌, ℕ, subst, List, [], ◌∷◌, Bool, true, false, ◌&&◌, ◌||◌, not, map, refl, ap, sym, ◌∙◌, true≢false, arith, nat_eq, nat_lt}
 use Rattle.std.proofs.Math.Bool.{and-false}
 use Rattle.std.proofs.lemmas.Bool.{and_parts, and_from}
@@ -11,7 +11,7 @@ use Rattle.list_laws.proofs.Tests.{same_word-refl, same_word-true}
 abbrev pub Named : Type 0
 Named = List (List ℕ × Document)
 
--- names that differ are not the same, whichever stands first
+-- names that differ are not the same, whichever comes first
 pub same_word-before : (v w : List ℕ) → comes_before v w ≡ true → same_word v w ≡ false
 same_word-before v w h = by_test (same_word v w) refl where
   by_test : (b : Bool) → same_word v w ≡ b → b ≡ false

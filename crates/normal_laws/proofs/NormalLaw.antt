@@ -17,7 +17,7 @@ use Rattle.draft06_laws.specs.Ranks.{FallInPlace}
 use Rattle.draft06_laws.proofs.EntryLocal.{asks_same}
 use Rattle.draft06_laws.proofs.EntryLaws.{entry_valid-asks, ranked, parts_below, IsEntry, named_in_place}
 use Rattle.levels.proofs.LevelsLaws.{weaker}
-use Rattle.position_laws.proofs.Lists.{all-both}
+use Rattle.list_laws.proofs.Elements.{all-both}
 use Rattle.positions.specs.Position.{Position, position_at}
 use Rattle.positions.specs.Holds.{asks}
 use Rattle.normal_forms.specs.Nodes.{after}
@@ -26,7 +26,7 @@ use Rattle.normal_laws.specs.Making.{Stands, IsMeaning}
 use Rattle.normal_laws.proofs.MakingLemmas.{stands-append, every-met}
 use Rattle.normal_laws.proofs.KeywordLaw.{keyword_tests, keywords_pass, keywords_make}
 
--- what stands after other positions
+-- what comes after other positions
 stands_after : (A B : List Position) → Stands (A ++ B) (length A) B
 stands_after A [] = tt
 stands_after A (x ∷ B) =
@@ -125,7 +125,7 @@ module _ (tree_of : List ℕ → Tree) (es : List Entry)
   unfolding table_of
   position_is e l = entry_at tree_of (length es) es (all_nodes tree_of (length es) es) e l
 
-  -- one step: the position of an entry asks what its form asks
+  -- one step: the position of an entry requires what its form asks
   pub entry_asks : (below : ℕ → Document → Bool)
       → ((q : ℕ) (K : Document) → is_document K ≡ true → holds q K ≡ below q K)
       → (e : ℕ) (J : Document) → e < length es → is_document J ≡ true
@@ -152,7 +152,7 @@ module _ (tree_of : List ℕ → Tree) (es : List Entry) (table : is_table es �
   abbrev valid : ℕ → Document → Bool
   valid = entry_valid (λ t. finds (tree_of t)) es
 
-  -- what is required of a part: of a document what its position asks, and of what is none what validity asks
+  -- what is required of a part: of a document what its position requires, and of what is none what validity requires
   abbrev of_part : ℕ → Document → Bool
   of_part q K = cond (is_document K) (holds q K) (valid q K)
 

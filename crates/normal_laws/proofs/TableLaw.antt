@@ -17,17 +17,17 @@ use Rattle.levels.specs.Within.{RankedWithin}
 use Rattle.schemas.specs.Guarded.{edges, are_ranks}
 use Rattle.schemas.specs.Weight.{most_weight}
 use Rattle.schema_laws.proofs.Ranks.{are_ranks-length}
-use Rattle.position_laws.proofs.Lists.{all-both}
+use Rattle.list_laws.proofs.Elements.{all-both}
 use Rattle.normal_laws.proofs.NormalLaw.{in_range-at, length-entry_positions}
 use Rattle.positions.specs.Position.{Position, in_place, of_parts, names_below, in_range, ranks_fall, is_table}
 use Rattle.normal_forms.specs.Nodes.{Nodes, after}
 use Rattle.normal_forms.specs.NormalForm.{form_nodes, entry_position, entry_positions, all_nodes, node_rank, entry_rank, numbered, node_ranks, table_of, ranks_of}
 use Rattle.normal_laws.proofs.Growth.{Grown, MayName}
 use Rattle.normal_laws.proofs.KeywordGrowth.{keywords_grow}
-use Rattle.list_laws.proofs.Every.{every-append}
+use Rattle.list_laws.proofs.Every.{every_joined}
 use Rattle.position_laws.proofs.Joined.{ranks_fall-append}
 
--- the ranks stand in the list from n on
+-- the ranks are in the list from n on
 abbrev RanksAt : List ℕ → ℕ → List ℕ → Type 0
 RanksAt RS n [] = Unit {0}
 RanksAt RS n (y ∷ ys) = (get_or RS n 0 ≡ y) × RanksAt RS (suc n) ys
@@ -157,9 +157,6 @@ module _ (tree_of : List ℕ → Tree) (RS : List ℕ) (L first : ℕ) (some_ent
       → get_or RS i 0 ≡ node_rank r i
   known_ranks r n e f b i l k = rank_in RS r n (form_nodes tree_of f n).added b.nodes i l k
 
-  may_in : (r n m q : ℕ) → IsLower r q → May r n m q
-  may_in r n m q h = inr h
-
   entry_falls : (r n e : ℕ) (f : Form) → IsBlock r n e f
       → every (λ q. nat_lt (get_or RS q 0) (get_or RS e 0))
       (in_place (entry_position tree_of f (form_nodes tree_of f n)))
@@ -236,7 +233,7 @@ module _ (tree_of : List ℕ → Tree) (RS : List ℕ) (L first : ℕ) (some_ent
   unfolding IsBlocks
   blocks_named rk n e [] b = refl
   blocks_named rk n e (f ∷ fs) b =
-      every-append (names_below L) (form_nodes tree_of f.form n).added
+      every_joined (names_below L) (form_nodes tree_of f.form n).added
       (all_nodes tree_of (after n (form_nodes tree_of f.form n)) fs)
       (nodes_named (rk e) n n (form_nodes tree_of f.form n).added b.0.later (omega arith) b.0.room
       (grown (rk e) n e f.form b.0).0)
@@ -247,7 +244,7 @@ module _ (tree_of : List ℕ → Tree) (RS : List ℕ) (L first : ℕ) (some_ent
   unfolding IsBlocks
   blocks_ranged rk n e [] b = refl
   blocks_ranged rk n e (f ∷ fs) b =
-      every-append in_range (form_nodes tree_of f.form n).added
+      every_joined in_range (form_nodes tree_of f.form n).added
       (all_nodes tree_of (after n (form_nodes tree_of f.form n)) fs)
       (nodes_ranged (rk e) n n (form_nodes tree_of f.form n).added (grown (rk e) n e f.form b.0).0)
       (blocks_ranged rk (after n (form_nodes tree_of f.form n)) (suc e) fs b.1)
@@ -440,14 +437,14 @@ module _ (tree_of : List ℕ → Tree) where
     all_named : every (names_below L) (table_of tree_of es) ≡ true
     unfolding table_of
     all_named =
-        every-append (names_below L) heads rest
+        every_joined (names_below L) heads rest
         (heads_named tree_of RS L (length es) some_entry rk (length es) 0 es blocks)
         (blocks_named tree_of RS L (length es) some_entry rk (length es) 0 es blocks)
 
     all_ranged : every in_range (table_of tree_of es) ≡ true
     unfolding table_of
     all_ranged =
-        every-append in_range heads rest
+        every_joined in_range heads rest
         (heads_ranged tree_of RS L (length es) some_entry (length es) es)
         (blocks_ranged tree_of RS L (length es) some_entry rk (length es) 0 es blocks)
 

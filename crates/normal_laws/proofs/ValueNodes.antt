@@ -14,7 +14,7 @@ use Rattle.positions.specs.Holds.{asks, at_boolean}
 use Rattle.normal_forms.specs.Nodes.{Maker, node, both, above, the_one}
 use Rattle.normal_forms.specs.Values.{of_kind, but_last, last_of, items_of, value_node, item_nodes, member_nodes, member_of, no_others}
 use Rattle.draft06_laws.proofs.Lists.{all_drop}
-use Rattle.position_laws.proofs.Lists.{every-append}
+use Rattle.list_laws.proofs.Elements.{every-append}
 use Rattle.normal_laws.specs.Making.{all_pass, IsMeaning, AreMet, Makes}
 use Rattle.normal_laws.proofs.MakingLemmas.{makes-nothing, makes-node, makes-both, makes-above, makes-all}
 use Rattle.normal_laws.proofs.ItemTests.{item_tests, items_same}

@@ -45,11 +45,11 @@ abbrev listed : List (List ℤ) → List (List ℤ) → Group
 listed ss ts =
     record { low = None; high = None; multiples = []; not_multiples = []; sets = ss; not_sets = ts }
 
--- the group that asks nothing
+-- the group that requires nothing
 abbrev pub any_number : Group
 any_number = bounded None None
 
--- the group that asks that alone
+-- the group that requires that alone
 abbrev pub group_of : Ask → Group
 group_of (AtLeast n) = bounded (Some n) None
 group_of (AtMost n) = bounded None (Some n)
@@ -71,7 +71,7 @@ lesser None b = b
 lesser (Some m) None = Some m
 lesser (Some m) (Some n) = Some (cond (int_le m n) m n)
 
--- the group that asks what both ask
+-- the group that requires what both require
 abbrev pub both : Group → Group → Group
 both g h = record {
   low = greater g.low h.low;
@@ -82,7 +82,7 @@ both g h = record {
   not_sets = g.not_sets ++ h.not_sets;
 }
 
--- all that a set asks, in its order
+-- all that a set requires, in its order
 abbrev pub number_group : List Position → List Signed → Group
 number_group T [] = any_number
 number_group T (x ∷ S) = both (group_of (ask_at T x)) (number_group T S)

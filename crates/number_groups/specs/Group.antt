@@ -1,4 +1,4 @@
--- A number group, and what it asks of a whole number of any size.
+-- A number group, and what it requires of a whole number of any size.
 use Rattle.std.specs.Prelude.{ℕ, ◌^◌, nat_lt, nat_le, List, Bool, true, false, not, ◌&&◌, ◌||◌, Option, Some, None, ℤ, int_le, int_lt, unsigned_abs}
 use Rattle.std.specs.List.{list_all, list_any}
 use Rattle.documents.specs.Numbers.{has}

@@ -8,7 +8,7 @@ use Rattle.frames.specs.Frame.{In, Frame, list_at, is_at_end}
 use Rattle.frames.specs.Plan.{Member, Plan, count_in, used, with_members, size, need}
 use Rattle.expansions.specs.SortedMembers.{sorted}
 use Rattle.list_laws.specs.In.{IsIn}
-use Rattle.list_laws.proofs.Lists.{every_at, every_from, in_left, in_right, in_append, in_flat_map}
+use Rattle.list_laws.proofs.Lists.{every_at, every_from, in_left, in_right, from_append, in_flat_map}
 use Rattle.frame_laws.proofs.Occurrences.{cells_of, times_append, cells_append}
 use Rattle.object_laws.proofs.SortedMembersLaws.{sorted_members, in_sorted, sorted_in}
 use Rattle.frame_laws.proofs.Arranged.{at_list}
@@ -22,7 +22,7 @@ use Rattle.object_laws.proofs.Sets.{AreArranged}
 use Rattle.cell_laws.specs.RightCells.{AreWords}
 use Rattle.object_laws.proofs.Names.{name_is, named_from, in_named, named_length, Fit, named_of, named_apart, named_fit, sorted_length, depth_below}
 
--- documents that meet what stands at their members
+-- documents that meet what is at their members
 module _ (T : List Position) (frame : Frame) (d : ℕ) where
   pub record IsFor (c : ℕ) (ds : List Signed) (J : Document) : Type 0 where
     pub good : is_document J ≡ true
@@ -148,7 +148,7 @@ module _ (T : List Position) (S : List Signed) (C : Cells) (laws : AreWords T C)
         (m.served, subst (λ z. IsFor T frame d z m.served v.1) (sym e) f),
       ))
       (λ j. (b.cells v j, ([], b.for v j)))
-      (in_append v (with_cells q.members Js) fs i)
+      (from_append v (with_cells q.members Js) fs i)
 
   -- a member of the object
   entry_from : (m : List ℕ × Document) → IsIn m (entries (sorted es))

@@ -20,8 +20,8 @@ use Rattle.frames.specs.Plan.{Member, Plan, empty_plan, count_in, used, with_mem
 use Rattle.expansions.specs.SortedMembers.{sorted}
 use Rattle.list_laws.specs.In.{IsIn, Distinct}
 use Rattle.list_laws.proofs.Lists.{every_at, every_from, in_map, from_map, in_right}
-use Rattle.list_laws.proofs.Pigeons.{range_distinct}
-use Rattle.list_laws.proofs.Counts.{distinct_filter}
+use Rattle.list_laws.proofs.Pigeons.{Distinct-range}
+use Rattle.list_laws.proofs.Counts.{Distinct-filter}
 use Rattle.frame_laws.proofs.Arranged.{Meets}
 use Rattle.frame_laws.proofs.CompletePlans.{IsComplete, complete_is, empty_kept}
 use Rattle.frame_laws.proofs.FewMembers as F
@@ -58,8 +58,8 @@ module _ (T : List Position) (ok : IsTable T) (S : List Signed) (C : Cells) (law
   frame = object_frame T C S
 
   once : Distinct (object_frame T C S).cells
-  once = distinct_filter (is_allowed T C S) (range_with_len 0 (length C.vectors))
-      (range_distinct 0 (length C.vectors))
+  once = Distinct-filter (is_allowed T C S) (range_with_len 0 (length C.vectors))
+      (Distinct-range 0 (length C.vectors))
 
   count_le : (c : ℕ) (ms : List Member) → count_in c ms ≤ length ms
   count_le c [] = omega arith

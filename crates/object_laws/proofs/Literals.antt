@@ -1,5 +1,5 @@
--- An object meets a literal exactly where its count is within the literal's bounds, its members stand in cells that
--- the literal doesn't bar and meet what it asks of each, and some member serves it where it asks for one.
+-- An object meets a literal exactly where its count is within the literal's bounds, its members are in cells that
+-- the literal doesn't bar and meet what it requires of each, and some member serves it where it requires one.
 use Rattle.std.proofs.Common.{◌≡◌, ℕ, suc, ◌≤◌, Bool, true, false, ◌||◌, not, List, length, None, refl, ap, arith}
 use Rattle.std.proofs.lemmas.Bool.{and_parts, and_from, or_parts, or_from, leb-true, leb-false, le-leb, lt-leb, not-false, not-true}
 use Rattle.documents.specs.Tests.{every, some, same_word}
@@ -15,7 +15,7 @@ use Rattle.list_laws.proofs.Lists.{every_at, every_from}
 use Rattle.cells.specs.Cells.{meets_formula}
 use Rattle.name_truths.specs.NameAtoms.{formula_of}
 use Rattle.frames.specs.ObjectFrame.{plus_lower, minus_lower, plus_below, minus_below, plus_bars, minus_bars, plus_wants, minus_wants, minus_inside, plus_each, minus_serving}
-use Rattle.list_laws.proofs.Tests.{some_find, some_from, some_none, none_at, every_fails}
+use Rattle.list_laws.proofs.Tests.{some_find, some_from, none_from, none_at, every_fails}
 
 module _ (T : List Position) (here : ℕ → Bool) (ms : Members) where
   abbrev pub Says : Position → List ℕ → Bool
@@ -119,6 +119,7 @@ module _ (T : List Position) (here : ℕ → Bool) (ms : Members) where
 
   -- towards an object that meets it
 
+  -- where an object has what a literal that is to hold says, the literal's position holds of it
   pub from_plus : (P : Position) → plus_choices Object P ≡ None → plus_wrong Object P ≡ false → IsPlus P
       → Asks P ≡ true
   from_plus (Types ts) c w k = not-false (some (same_kind Object) ts) w
@@ -145,6 +146,7 @@ module _ (T : List Position) (here : ℕ → Bool) (ms : Members) where
   from_plus (Depends h q) c w k = cc
   from_plus _ c w k = refl
 
+  -- where an object has what a literal that isn't to hold says, the literal's position doesn't hold of it
   pub from_minus : (P : Position) → minus_choices Object P ≡ None → minus_wrong Object P ≡ false → IsMinus P
       → not (Asks P) ≡ true
   from_minus (Types ts) c w k = ap not w
@@ -161,7 +163,7 @@ module _ (T : List Position) (here : ℕ → Bool) (ms : Members) where
               every_at (λ m. not (in_set s m.0) || holds T q m.1) m (entries ms) e i in
               let g' : (not (in_set s m.0) || holds T q m.1) ≡ false =
               or_from (not (in_set s m.0)) (holds T q m.1) (ap not h) g in cc
-  from_minus (Has w) c e k = ap not (some_none (λ m. same_word w m.0) (entries ms) (λ m i. k.allowed m i))
+  from_minus (Has w) c e k = ap not (none_from (λ m. same_word w m.0) (entries ms) (λ m i. k.allowed m i))
   from_minus (PropsMin m) c w k = ap not k.high
   from_minus (PropsMax m) c w k = ap not (lt-leb n m k.low)
   from_minus (NamesIn q) c w k =

@@ -42,7 +42,7 @@ times_on c x xs ys = go (nat_eq x c) where
   go false = refl
 
 module _ (C : Cells) where
-  -- the value that stands under a name, and which name of its cell that is
+  -- the value that is under a name, and which name of its cell that is
   pub record IsNamed (before : List ℕ) (vs : List (ℕ × Document)) (m : List ℕ × Document) : Type 0 where
     pub value : ℕ × Document
     pub is_value : IsIn value vs

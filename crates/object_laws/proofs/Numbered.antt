@@ -1,5 +1,5 @@
 -- The members of an object by number, as an arrangement of the frame of its set.
-use Rattle.std.proofs.Common.{◌≡◌, ℕ, zero, suc, ◌<◌, ◌≤◌, inl, inr, Bool, true, false, ◌&&◌, cond, List, [], ◌∷◌, map, flat_map, length, nat_lt, Option, Some, None, refl, ap, sym, ◌∙◌, subst, arith}
+use Rattle.std.proofs.Common.{◌≡◌, ℕ, zero, suc, ◌<◌, ◌≤◌, inl, inr, Bool, true, false, ◌&&◌, cond, List, [], ◌∷◌, map, length, nat_lt, Option, Some, None, refl, ap, sym, ◌∙◌, subst, arith}
 use Rattle.std.proofs.lemmas.Bool.{and_parts, ltb-true}
 use Rattle.std.proofs.lemmas.List.{length-map}
 use Rattle.std.specs.Option.{is_none}
@@ -84,7 +84,7 @@ arrangement T cell es = record {
   met = λ j x. met (λ p. holds T p (entry_at es j).1) x;
 }
 
--- no more different names are in a cell than its bound tells
+-- no more different names are in a cell than its bound says
 abbrev pub AreBounds : List Position → Cells → (ℕ → Option ℕ) → Type 0
 AreBounds T C bounds = (c b : ℕ) → bounds c ≡ Some b → (ws : List (List ℕ)) → Distinct ws
     → ((w : List ℕ) → IsIn w ws → IsOf T C c w) → length ws ≤ b
@@ -163,21 +163,3 @@ module _ (T : List Position) (ok : IsTable T) (S : List Signed) (C : Cells) (bou
     capped = capped;
     formed = λ j l h e. formed j l e;
   }
-
-  -- the converse: where the arrangement is arranged, the entries are
-  pub are_arranged : IsArranged T (object_frame_with bounds rooms T C S) (arrangement T (cell_of T C) (entries ms))
-      → AreArranged T (object_frame_with bounds rooms T C S) (cell_of T C) (entries ms)
-  are_arranged k = record {
-    low = k.low;
-    high = k.high;
-    cells = λ m i. let (j, l, q) = in_at m (entries ms) i in
-        let (c, e, h) = k.rest j l (omega arith) in
-        subst (λ z. IsIn (cell_of T C z.0) (object_frame_with bounds rooms T C S).cells) q
-        (subst (λ z. IsIn z (object_frame_with bounds rooms T C S).cells) (cell_same c (cell_of T C (Name j)) e) h);
-    each = λ m i. let (j, l, q) = in_at m (entries ms) i in
-        subst (λ z. meets T (flat_map ((object_frame_with bounds rooms T C S).each (In (cell_of T C z.0))) S)
-        z.1 ≡ true) q (k.each j l);
-    served = λ d i. let (j, l, e, f) = k.served d i in (entry_at (entries ms) j, at_in (entries ms) j l, e, f);
-  } where
-    cell_same : (a b : ℕ) → In b ≡ In a → a ≡ b
-    cell_same a b e = cc

@@ -1,4 +1,4 @@
--- An object meets the literals of a set exactly where its members are arranged as the set's frame asks.
+-- An object meets the literals of a set exactly where its members are arranged as the set's frame requires.
 use Rattle.std.proofs.Common.{◌≡◌, ℕ, ◌≤◌, inl, inr, ⊎_elim, Bool, true, false, ◌&&◌, not, List, [], ◌∷◌, flat_map, length, Option, None, refl, ap, sym, ◌∙◌, subst, arith}
 use Rattle.std.proofs.lemmas.Bool.{and_parts, or_parts, or_from, not-true}
 use Rattle.documents.specs.Tests.{every, is_scalar}
@@ -11,15 +11,15 @@ use Rattle.goals.specs.Signed.{Signed, Plus, Minus, met, meets}
 use Rattle.goals.specs.Choices.{choices, is_wrong}
 use Rattle.frames.specs.Frame.{In, Frame, is_at_end}
 use Rattle.list_laws.specs.In.{IsIn}
-use Rattle.list_laws.proofs.Lists.{every_at, every_from, from_flat_map, in_flat_map, to_filter}
+use Rattle.list_laws.proofs.Lists.{every_at, every_from, from_flat_map, in_flat_map, in_filter}
 use Rattle.cells.specs.Cells.{Cells, cell_of, truth, says}
 use Rattle.frames.specs.ObjectFrame.{lower_at, lower, below_at, below, plus_bars, minus_bars, bars, is_allowed, is_demand, minus_inside, inside, plus_each, each, serving, object_frame_with}
-use Rattle.list_laws.proofs.Tests.{some_none, none_at, from_filter, in_range}
+use Rattle.list_laws.proofs.Tests.{none_from, none_at, from_filter, in_range}
 use Rattle.cell_laws.specs.RightCells.{AreCells}
 use Rattle.object_laws.proofs.Literals.{IsPlus, IsMinus, is_plus, is_minus, from_plus, from_minus}
 use Rattle.frame_laws.proofs.Ends.{lesser_end}
 
--- members arranged as a frame asks, with the cells of their names
+-- members arranged as a frame requires, with the cells of their names
 pub record AreArranged (T : List Position) (frame : Frame) (cell : List ℕ → ℕ) (es : List (List ℕ × Document)) : Type
     0 where
   pub low : frame.lower ≤ length es
@@ -126,9 +126,9 @@ module _ (T : List Position) (ok : IsTable T) (S : List Signed) (C : Cells) (law
     arranged bounds rooms = record {
       low = lower_from T S (length (entries ms)) low_at;
       high = below_from T S (length (entries ms)) high_at;
-      cells = λ m j. to_filter (is_allowed T C S) (Cell m.0) _
+      cells = λ m j. in_filter (is_allowed T C S) (Cell m.0) _
           (in_range (length C.vectors) (Cell m.0) (laws.known m.0 (scalar_names ms good m j)))
-          (ap not (some_none (bars T C (Cell m.0)) S (λ x i. unbarred m j x i)));
+          (ap not (none_from (bars T C (Cell m.0)) S (λ x i. unbarred m j x i)));
       each = λ m j. every_from _ (flat_map (each T C (In (Cell m.0))) S) (λ y i.
           let (x, a, b) = from_flat_map (each T C (In (Cell m.0))) y S i in
           every_at _ y (each T C (In (Cell m.0)) x) (each_at m j x a) b);
@@ -157,7 +157,7 @@ module _ (T : List Position) (ok : IsTable T) (S : List Signed) (C : Cells) (law
           ∙ unbarred_at m j (Plus p) i;
       each = λ m j. ap (λ b. meets T (plus_each b (position_at T p)) m.1) (sym (exact_at (Plus p) m i j))
           ∙ each_of m j (Plus p) i;
-      served = λ w. let (m, j, h, g) = k.served (Plus p) (to_filter (is_demand T) (Plus p) S i w) in
+      served = λ w. let (m, j, h, g) = k.served (Plus p) (in_filter (is_demand T) (Plus p) S i w) in
           (m, j, sym (exact_at (Plus p) m i j) ∙ h);
     }
 
@@ -167,7 +167,7 @@ module _ (T : List Position) (ok : IsTable T) (S : List Signed) (C : Cells) (law
       high = below_to T S (length (entries ms)) k.high (Minus p) i;
       allowed = λ m j. ap (λ b. minus_bars b (position_at T p)) (sym (exact_at (Minus p) m i j))
           ∙ unbarred_at m j (Minus p) i;
-      served = λ w. let (m, j, h, g) = k.served (Minus p) (to_filter (is_demand T) (Minus p) S i w) in
+      served = λ w. let (m, j, h, g) = k.served (Minus p) (in_filter (is_demand T) (Minus p) S i w) in
           (m, j, ap (λ b. minus_inside b (position_at T p)) (sym (exact_at (Minus p) m i j)) ∙ h, g);
     }
 

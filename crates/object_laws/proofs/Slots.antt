@@ -27,7 +27,7 @@ pile_other (suc n) c e before ne = pile_other n c e (c ∷ before) ne ∙ go (na
   go true p = absurd (ne (eqb-true c e p))
   go false p = refl
 
--- fillers stand in different cells
+-- fillers are in different cells
 module _ (T : List Position) (frame : Frame) (q : Plan) where
   cells_differ : (cs : List ℕ) → Distinct cs → Distinct (map (λ f. f.cell) (flat_map (filler_at T frame q) cs))
   cells_differ [] d = tt

@@ -1,8 +1,8 @@
 -- Members with different names, put in order, are members of an object: the same ones.
-use Rattle.std.proofs.Common.{◌≡◌, ℕ, max, ◌⊎◌, inl, inr, ⊎_elim, Bool, true, false, ◌&&◌, cond, List, [], ◌∷◌, refl, ap, ap₂, sym, arith}
+use Rattle.std.proofs.Common.{◌≡◌, ℕ, ◌⊎◌, inl, inr, ⊎_elim, Bool, true, false, ◌&&◌, cond, List, [], ◌∷◌, refl, ap, ap₂, sym, arith}
 use Rattle.std.proofs.lemmas.Bool.{and_parts, and_from, cases_lt, cases_eq}
 use Rattle.documents.specs.Tests.{every, comes_before, is_scalar}
-use Rattle.documents.specs.Document.{Document, Members, no_members, member, entries, depth, members_depth, is_document, is_before, are_members}
+use Rattle.documents.specs.Document.{Document, Members, no_members, member, entries, is_document, is_before, are_members}
 use Rattle.documents.proofs.NameOrder.{smaller_first, same_first}
 use Rattle.expansions.specs.SortedMembers.{put, sorted}
 use Rattle.list_laws.specs.In.{IsIn}
@@ -104,12 +104,3 @@ sorted_members [] a f = refl
 sorted_members (m ∷ ms) a f =
     put_members m.0 m.1 (sorted ms) f.0 f.1 (sorted_members ms a.1 f.2)
     (λ (d, i). a.0 (m.0, d) (in_sorted (m.0, d) ms i) refl)
-
-put_depth : (k : List ℕ) (d : Document) (ms : Members) → members_depth (put k d ms) ≡ max (depth d) (members_depth ms)
-put_depth k d no_members = refl
-put_depth k d (member l e ms) = go (comes_before k l) (put_depth k d ms) where
-  go : (t : Bool) → members_depth (put k d ms) ≡ max (depth d) (members_depth ms)
-      → members_depth (cond t (member k d (member l e ms)) (member l e (put k d ms))) ≡ max (depth d)
-      (max (depth e) (members_depth ms))
-  go true h = refl
-  go false h = omega (arith, h)

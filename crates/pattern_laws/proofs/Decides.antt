@@ -4,7 +4,7 @@
 use Rattle.std.proofs.lemmas.Bool.{cases_eq, cases_lt, and_parts, and_from, or_cases, or_left, or_right, ltb-true, ltb-false, lt-ltb, le-ltb, eqb-true, eq-eqb}
 use Rattle.std.proofs.Common.{zero-add, suc-add, ◌≡◌, ℕ, zero, suc, ◌+◌, ◌-◌, ◌<◌, ◌≤◌, inl, inr, ⊎_elim, Bool, true, false, ◌&&◌, cond, not, nat_lt, nat_eq, List, [], ◌∷◌, length, slice_index, flat_map, Option, Some, None, IfSome, IsTrue, ◌↔◌, refl, sym, subst, arith}
 use Rattle.list_laws.specs.In.{IsIn}
-use Rattle.list_laws.proofs.Lists.{in_left, in_right, in_append, in_flat_map, from_flat_map}
+use Rattle.list_laws.proofs.Lists.{in_left, in_right, from_append, in_flat_map, from_flat_map}
 use Rattle.patterns.specs.CharSet.{has}
 use Rattle.patterns.specs.Tree.{Tree, Trees, empty, one_of, at_start, at_end, in_turn, either, repeated, no_trees, tree}
 use Rattle.patterns.specs.Match.{Repeats, Matches, MatchesInTurn, MatchesOne, IsFoundIn}
@@ -189,7 +189,7 @@ mutual
   sound_some no_trees w i j h = absurd h
   sound_some (tree r rs) w i j h =
       ⊎_elim (λ a. inl (sound r w i j a)) (λ b. inr (sound_some rs w i j b))
-      (in_append j (ends r w i) (ends_of_one rs w i) h)
+      (from_append j (ends r w i) (ends_of_one rs w i) h)
 
 mutual
   pub complete : (r : Tree) (w : List ℕ) (i j : ℕ) → i ≤ length w → Matches r w i j → IsIn j (ends r w i)

@@ -1,6 +1,6 @@
 //! Laws about patterns: the test that decides matching is the match relation, and a set has one list of ranges.
 //!
-//! Each law that other crates rely on is the contract of a function here, which does nothing. Their proofs stand in
+//! Each law that other crates rely on is the contract of a function here, which does nothing. Their proofs are in
 //! `proofs`, and so do the lemmas that crates above cite.
 #![tactic(auto)]
 

@@ -1,6 +1,6 @@
 //! Reads patterns from standard input, one a line, and prints the tree or the first fault of each.
 //!
-//! A line that begins with `set ` asks for a set instead: of `set [a-c]` it prints the number of members, the first
+//! A line that begins with `set ` requests a set instead: of `set [a-c]` it prints the number of members, the first
 //! one, and the sets of the others. Of `order [a-c]` it prints up to eight members in the order in which words are
 //! made. `tests/patterns` compares what is printed of patterns with a JavaScript engine.
 #![tactic(auto)]
@@ -116,7 +116,7 @@ fn write_order(out: &mut String, set: &CharSet) -> anyhow::Result<()> {
     Ok(out.push_str("..")?)
 }
 
-/// What a line asks of a class.
+/// What a line requests of a class.
 #[derive(Clone, Copy)]
 enum Question {
     Members,

@@ -1,4 +1,4 @@
--- What a position asks is local, so in a table each position holds as it asks.
+-- What a position requires is local, so in a table each position holds where what it requires is met.
 use Rattle.std.proofs.Common.{◌≡◌, ℕ, ◌<◌, ◌&&◌, ◌||◌, List, Bool, length, drop, not, refl, ap, ap₂, arith}
 use Rattle.std.specs.List.{AllByRecursion}
 use Rattle.std.proofs.lemmas.List.{length-map}
@@ -10,10 +10,10 @@ use Rattle.positions.specs.Position.{Position, Same, Not, All, Any, One, Depends
 use Rattle.positions.specs.Position.{position_at, in_place, of_parts}
 use Rattle.positions.specs.Holds.{asks, in_set, holds, IsTable}
 use Rattle.position_laws.specs.Join.{renamed}
-use Rattle.position_laws.proofs.Lists.{all-weaker, all-everywhere, every-same, some-same, exactly_one-same, every-map, some-map, exactly_one-map}
+use Rattle.list_laws.proofs.Elements.{all-weaker, all-everywhere, every-same, some-same, exactly_one-same, every-map, some-map, exactly_one-map}
 use Rattle.position_laws.proofs.Parts.{elements-depth, entries-depth, all-drop, meets_in_order-same, meets_in_order-map, every_in-same}
 
--- a position asks the same where this document agrees on its in-place names, and its parts on the names of parts
+-- a position requires the same where this document agrees on its in-place names, and its parts on the names of parts
 module _ (here here' : ℕ → Bool) (below below' : ℕ → Document → Bool) (Q : ℕ → Type 0) where
   pub asks-same : (P : Position) (J : Document)
       → AllByRecursion (λ q. here q ≡ here' q) (in_place P)
@@ -49,7 +49,7 @@ module _ (here here' : ℕ → Bool) (below below' : ℕ → Document → Bool) 
   asks-same (NamesIn q) _ h n b = refl
   asks-same _ J h n b = refl
 
--- a renamed position asks of the new numbers what it asks of the old ones
+-- a renamed position requires of the new numbers what it requires of the old ones
 pub asks-renamed : (f : ℕ → ℕ) (here : ℕ → Bool) (below : ℕ → Document → Bool) (P : Position) (J : Document)
     → asks here below (renamed f P) J ≡ asks (λ q. here (f q)) (λ q. below (f q)) P J
 asks-renamed f here below (All qs) J = every-map here f qs
@@ -61,7 +61,7 @@ asks-renamed f here below (Items qs r) (array ds) =
 asks-renamed f here below (Items qs r) _ = refl
 asks-renamed f here below _ J = refl
 
--- what the positions of a list ask is local in their in-place names
+-- what the positions of a list require is local in their in-place names
 asks-local : (T : List Position)
     → IsLocal (λ here below p. asks here below (position_at T p)) (λ p. in_place (position_at T p))
 asks-local T here here' below below' p J h b =

@@ -10,7 +10,7 @@ use Rattle.positions.specs.Position.{Position, True, All, Any, One, Items}
 use Rattle.positions.specs.Position.{position_at, in_place, of_parts, names_below, in_range, ranks_fall, is_table}
 use Rattle.positions.specs.Holds.{asks, holds, IsTable}
 use Rattle.position_laws.specs.Join.{renamed, moved, joined}
-use Rattle.position_laws.proofs.Lists.{all-weaker, all-both, all-everywhere, all-every, every-same, every-map, every-append, every-weaker}
+use Rattle.list_laws.proofs.Elements.{all-weaker, all-both, all-everywhere, all-every, every-same, every-map, every-append, every-weaker}
 use Rattle.position_laws.proofs.Asks.{asks-same, asks-renamed, holds-asks}
 use Rattle.position_laws.proofs.Tables.{is_table-length, is_table-below, is_table-range, is_table-fall, is_table-IsTable, names_below-all}
 
@@ -173,7 +173,7 @@ is_table-joined A B ra rb a b =
 
 -- each position keeps its meaning
 
--- a table that stands in another one under other names holds there of the same documents
+-- a table that is in another one under other names holds there of the same documents
 module _ (S T : List Position) (f : ℕ → ℕ) (inner : IsTable S) (outer : IsTable T)
     (placed : (p : ℕ) → p < length S → position_at T (f p) ≡ renamed f (position_at S p)) where
   embedded : (d n p : ℕ) (J : Document) → depth J < d → inner.rank p < n → p < length S

@@ -1,5 +1,4 @@
 pub mod SameKind
-pub mod Lists
 pub mod Parts
 pub mod Counts
 pub mod Asks

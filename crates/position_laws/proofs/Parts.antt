@@ -3,7 +3,7 @@ use Rattle.std.proofs.Common.{◌≡◌, ℕ, zero, suc, ◌<◌, List, [], ◌�
 use Rattle.std.specs.List.{AllByRecursion}
 use Rattle.documents.specs.Measures.{meets_in_order, every_in}
 use Rattle.documents.specs.Document.{Document, array, object, Items, no_items, item, Members, no_members, member, elements, entries, depth, items_depth, members_depth}
-use Rattle.position_laws.proofs.Lists.{all-weaker, every-same}
+use Rattle.list_laws.proofs.Elements.{all-weaker, every-same}
 
 -- depth
 

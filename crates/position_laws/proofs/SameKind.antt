@@ -11,6 +11,7 @@ same_kind-refl K.Text = refl
 same_kind-refl K.Array = refl
 same_kind-refl K.Object = refl
 
+-- kinds that pass the test are equal
 pub same_kind-true : (t u : Kind) → same_kind t u ≡ true → t ≡ u
 same_kind-true K.Null K.Null e = refl
 same_kind-true K.Boolean K.Boolean e = refl

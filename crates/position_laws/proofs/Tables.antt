@@ -6,7 +6,7 @@ use Rattle.documents.specs.Tests.{every}
 use Rattle.positions.specs.Position.{Position, False, position_at, in_place, of_parts, names_below, in_range, ranks_fall, is_table}
 use Rattle.positions.specs.Holds.{IsTable}
 use Rattle.position_laws.proofs.Counts.{passing, passing-bound, passing-less}
-use Rattle.position_laws.proofs.Lists.{all-weaker, all-both, every-all}
+use Rattle.list_laws.proofs.Elements.{all-weaker, all-both, every-all}
 
 -- positions of a list
 

@@ -7,6 +7,6 @@ use Rattle.positions.specs.Position.{Position, speaks_of}
 abbrev pub is_untyped : Position → Bool
 is_untyped P = is_none (speaks_of P)
 
--- no position is typed: all that such a table asks of a document is its kind
+-- no position is typed: all that such a table requires of a document is its kind
 abbrev pub is_plain : List Position → Bool
 is_plain T = every is_untyped T

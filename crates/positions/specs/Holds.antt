@@ -29,7 +29,7 @@ abbrev pub at_boolean : (Bool → Bool) → Document → Bool
 at_boolean p (boolean b) = p b
 at_boolean p _ = true
 
--- what a position asks of a document: `here` tells what the document meets, `below` what its elements, its members'
+-- what a position requires of a document: `here` says what the document meets, `below` what its elements, its members'
 -- values and, as strings, its members' names meet
 abbrev pub asks : (here : ℕ → Bool) (below : ℕ → Document → Bool) → Position → Document → Bool
 asks here below True J = true

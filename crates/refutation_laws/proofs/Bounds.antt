@@ -11,8 +11,8 @@ use Rattle.word_laws.proofs.States.{same_laws}
 use Rattle.positions.specs.Position.{Position}
 use Rattle.goals.specs.Signed.{Signed}
 use Rattle.list_laws.specs.In.{IsIn}
-use Rattle.list_laws.proofs.Tests.{from_filter, from_range, every_below}
-use Rattle.list_laws.proofs.Lists.{to_filter}
+use Rattle.list_laws.proofs.Tests.{from_filter, from_range, every-range}
+use Rattle.list_laws.proofs.Lists.{in_filter}
 use Rattle.cells.specs.Cells.{Cells, naming, vector, place, cells}
 use Rattle.cell_laws.specs.Counting.{sum_to, asked_by}
 use Rattle.cell_laws.proofs.Groups.{width}
@@ -125,7 +125,7 @@ module _ (T : List Position) (S : List Signed) (L : List (List ℕ)) (rows : Are
     labels_right =
         and_from (nat_eq (length (labels c)) (length L)) _
         (eq-eqb (length (labels c)) (length L) (length-map L (label_of T Found c)))
-        (every_below (keeps T (atoms_of_names T S) L (stated Stated) Found c (labels c)) (length L) (λ r l.
+        (every-range (keeps T (atoms_of_names T S) L (stated Stated) Found c (labels c)) (length L) (λ r l.
         le-leb (asked_by (class_count (atoms_of_names T S)) (width_of (atoms_of_names T S)) (stated Stated)
         (has_row T (atoms_of_names T S) L (stated Stated) Found c) (label c) r) (label c r)
         (let e = asked_equal r l in omega (arith, e))))
@@ -172,7 +172,7 @@ module _ (T : List Position) (S : List Signed) (L : List (List ℕ)) (rows : Are
       (bound_done c (length cs) m bs cite (h c (inl refl)) u l)
       ∙ bounds_done cite (suc c) cs ((c, labels c) ∷ bs) r (omega arith) (λ d i. h d (inr i)) ds ms
 
-  -- what they say
+  -- what the stated bounds say
 
   stack_has : (cs : List ℕ) (bs : List Bound) (c : ℕ) → (bounds_of bs c ≡ Some (label c 0)) ⊎ IsIn c cs
       → bounds_of (stack cs bs) c ≡ Some (label c 0)
@@ -241,7 +241,7 @@ module _ (T : List Position) (S : List Signed) (L : List (List ℕ)) (rows : Are
   pub bounds_agree : (c : ℕ) → IsIn c Own.cells → bounds_of (stack (capped Own) []) c ≡ Own.cap c
   bounds_agree c i = go (nat_lt (length (Found.words c)) most_words) refl where
     some_in : is_some (Own.cap c) ≡ true → IsIn c (capped Own)
-    some_in e = to_filter (λ c. is_some (Own.cap c)) c Own.cells i e
+    some_in e = in_filter (λ c. is_some (Own.cap c)) c Own.cells i e
 
     go : (b : Bool) → nat_lt (length (Found.words c)) most_words ≡ b
         → bounds_of (stack (capped Own) []) c ≡ cond b (Some (length (Found.words c))) None

@@ -14,7 +14,7 @@ use Rattle.frames.specs.ArrayFrame.{array_frame}
 use Rattle.finders.specs.Strings.{string_atoms}
 use Rattle.finders.specs.Names.{atoms_of_names}
 use Rattle.list_laws.specs.In.{IsIn}
-use Rattle.list_laws.proofs.Lists.{in_append, from_map, from_flat_map}
+use Rattle.list_laws.proofs.Lists.{from_append, from_map, from_flat_map}
 use Rattle.certificate_lines.specs.Line as L
 use Rattle.certificate_lines.specs.Line.{Line, Ending, ShortEntry}
 use Rattle.verdicts.specs.Leaves.{crossed}
@@ -49,7 +49,7 @@ module _ (number : List Signed → Option ℕ) where
   fine_more l ls h more k (inr i) = more k i
 
   fine_both : (xs ys : List Line) → Fine xs → Fine ys → Fine (xs ++ ys)
-  fine_both xs ys a b l i = ⊎_elim (λ x. a l x) (λ y. b l y) (in_append l xs ys i)
+  fine_both xs ys a b l i = ⊎_elim (λ x. a l x) (λ y. b l y) (from_append l xs ys i)
 
   fine_each : {A : Type 0} (f : A → List Line) (xs : List A) → ((x : A) → IsIn x xs → Fine (f x))
       → Fine (flat_map f xs)

@@ -15,6 +15,7 @@ module _ (T : List Position) (cite : ℕ → List Signed → Bool) where
   abbrev pub DoAll : List Duty → List Line → Type 0
   DoAll es ls = (ds : List Duty) (ms : List Line) → run T cite (es ++ ds) (ls ++ ms) ≡ run T cite ds ms
 
+  -- a line does its duty where the lines behind it do all duties that it leaves
   pub line_does : (d : Duty) (l : Line) (es : List Duty) (ls : List Line) → after T cite d l ≡ Ok es → DoAll es ls
       → Does d (l ∷ ls)
   line_does d l es ls e h ds ms = ap (λ r. and_then (λ xs. run T cite (xs ++ ds) (ls ++ ms)) r) e ∙ h ds ms

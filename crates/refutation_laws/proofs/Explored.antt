@@ -7,7 +7,7 @@ use Rattle.positions.specs.Position.{Position}
 use Rattle.goals.specs.Signed.{Signed, same_signed, comes_before, add, add_all}
 use Rattle.goals.specs.Goal.{follow, is_always, followed, clashes, form}
 use Rattle.list_laws.specs.In.{IsIn}
-use Rattle.list_laws.proofs.Lists.{every_from, in_append, in_flat_map, from_flat_map}
+use Rattle.list_laws.proofs.Lists.{every_from, from_append, in_flat_map, from_flat_map}
 use Rattle.alternatives.specs.Alternative.{Alternative, named_by, named, places}
 use Rattle.alternatives.specs.Limit.{LimitKind, Width, Places, Goals, Total, most_width, most_places}
 use Rattle.alternatives.specs.Expansion.{Expansion, expansion_of, first_limit, with_limit, is_wide, nothing, keep, keep_all}
@@ -31,7 +31,7 @@ narrow_both : (xs ys : List Alternative) → AreNarrow xs → AreNarrow ys → A
 narrow_both xs ys a b h i =
     let (x, j, k) = from_flat_map named_by h (xs ++ ys) i in
     ⊎_elim (λ u. a h (in_flat_map named_by h x xs u k)) (λ u. b h (in_flat_map named_by h x ys u k))
-    (in_append x xs ys j)
+    (from_append x xs ys j)
 
 narrow_kept : (e : Expansion) (r : Result (List Alternative) LimitKind) → AreNarrow e.alternatives
     → AreNarrow (keep e r).alternatives

@@ -6,7 +6,7 @@ use Rattle.documents.specs.Kind.{Kind, all_kinds}
 use Rattle.documents.specs.Tests.{every}
 use Rattle.positions.specs.Position.{Position}
 use Rattle.positions.specs.Holds.{IsTable}
-use Rattle.position_laws.proofs.Lists.{all-weaker, all-every}
+use Rattle.list_laws.proofs.Elements.{all-weaker, all-every}
 use Rattle.goals.specs.Signed.{Signed, Plus, position_of, opposite, has, comes_before, is_rising, add_all}
 use Rattle.goals.specs.Choices.{choices}
 use Rattle.goals.specs.Tree.{Step, Clash, Wrong, Rule, Saturated, steps_from, steps, branches}

@@ -17,7 +17,7 @@ use Rattle.positions.specs.Position.{Position}
 use Rattle.goals.specs.Signed.{Signed}
 use Rattle.cells.specs.Cells.{Cells, naming, vector, same_vector, vectors_of}
 use Rattle.list_laws.specs.In.{IsIn}
-use Rattle.list_laws.proofs.Lists.{in_get, from_map}
+use Rattle.list_laws.proofs.Lists.{get_or-in, from_map}
 use Rattle.list_laws.proofs.Tests.{from_filter, from_range}
 use Rattle.frames.specs.Frame.{Frame, is_at_end}
 use Rattle.frames.specs.Plan.{Plan, empty_plan, size, ends, plan_steps}
@@ -131,7 +131,7 @@ grown_short atoms (suc n) w i =
           (λ j. let l = h w j in omega (arith, l))
           (λ j.
           let (c, k, q) = from_map (λ c. get_or G n [] ++ c ∷ []) w (class_firsts atoms) j in
-          let l = h (get_or G n []) (in_get G n [] (ltb-true n (length G) e)) in
+          let l = h (get_or G n []) (get_or-in G n [] (ltb-true n (length G) e)) in
           let a : length w ≡ length (get_or G n []) + 1 = ap length q ∙ length-append (get_or G n []) (c ∷ []) in
           omega (arith, l, a))
           (M.mentions_only (have_same_state atoms) (same_laws atoms) G (longer (class_firsts atoms) (get_or G n [])) w

@@ -11,7 +11,7 @@ use Rattle.frames.specs.Frame.{Place, In, Frame, is_at_end}
 use Rattle.frames.specs.Plan.{Plan, Member, plan, member, empty_plan, serve_head, serve_member, servers, options, has_room, heads_from, size, placed, goal_of, clash_from, first_clash, PlanStep, Split, steps, ends, plan_steps}
 use Rattle.frame_laws.proofs.FewMembers.{ends_append, unless_same, some_end}
 use Rattle.list_laws.specs.In.{IsIn}
-use Rattle.list_laws.proofs.Lists.{in_append, from_map, from_flat_map}
+use Rattle.list_laws.proofs.Lists.{from_append, from_map, from_flat_map}
 use Rattle.certificate_lines.specs.Line as L
 use Rattle.certificate_lines.specs.Line.{Line, Ending}
 use Rattle.verdicts.specs.Duties.{Form, OfArrays, OfObjects, heads_placed}
@@ -49,7 +49,7 @@ option_is frame d p q i = ⊎_elim
       heads = refl;
       members = let l = length-serve_member d p.members n in omega (arith, l);
     }))
-    (in_append q (map (λ n. plan (serve_head d p.heads n) p.members) (range_with_len 0 (length p.heads)))
+    (from_append q (map (λ n. plan (serve_head d p.heads n) p.members) (range_with_len 0 (length p.heads)))
     (map (λ n. plan p.heads (serve_member d p.members n)) (servers frame d 0 p.members)) a))
     (λ a. let (c, j, e) =
     from_map (λ c. plan p.heads (p.members ++ member c (d ∷ []) ∷ [])) q
@@ -58,7 +58,7 @@ option_is frame d p q i = ⊎_elim
       heads = refl;
       members = let l = length-append p.members (member c (d ∷ []) ∷ []) in omega (arith, l);
     }))
-    (in_append q
+    (from_append q
     (map (λ n. plan (serve_head d p.heads n) p.members) (range_with_len 0 (length p.heads))
     ++ map (λ n. plan p.heads (serve_member d p.members n)) (servers frame d 0 p.members))
     (map (λ c. plan p.heads (p.members ++ member c (d ∷ []) ∷ []))
@@ -121,7 +121,7 @@ module _ (rename : ℕ → ℕ) (low : (k : ℕ) → rename k < 100000) where
   fit_more l ls h more k (inr i) = more k i
 
   pub fit_both : (xs ys : List Line) → AllFit xs → AllFit ys → AllFit (xs ++ ys)
-  fit_both xs ys a b l i = ⊎_elim (λ x. a l x) (λ y. b l y) (in_append l xs ys i)
+  fit_both xs ys a b l i = ⊎_elim (λ x. a l x) (λ y. b l y) (from_append l xs ys i)
 
   pub fit_each : {A : Type 0} (f : A → List Line) (xs : List A) → ((x : A) → IsIn x xs → AllFit (f x))
       → AllFit (flat_map f xs)

@@ -10,7 +10,7 @@ use Rattle.goals.specs.Goal.{form}
 use Rattle.goal_laws.proofs.Signs.{same_signed-true}
 use Rattle.goal_laws.proofs.Forms.{form-IsFormed}
 use Rattle.list_laws.specs.In.{IsIn}
-use Rattle.list_laws.proofs.Lists.{every_at, every_from, in_append, from_map}
+use Rattle.list_laws.proofs.Lists.{every_at, every_from, from_append, from_map}
 use Rattle.certificate_lines.specs.Line as L
 use Rattle.certificate_lines.specs.Line.{Line}
 use Rattle.certificate_lines.specs.Text.{is_line, is_short, lines_text, IsText}
@@ -61,7 +61,7 @@ good_more l ls h more k (inl q) = subst IsGood (sym q) h
 good_more l ls h more k (inr i) = more k i
 
 good_both : (xs ys : List Line) → AreGood xs → AreGood ys → AreGood (xs ++ ys)
-good_both xs ys a b l i = ⊎_elim (λ x. a l x) (λ y. b l y) (in_append l xs ys i)
+good_both xs ys a b l i = ⊎_elim (λ x. a l x) (λ y. b l y) (from_append l xs ys i)
 
 good_text : (ls : List Line) → AreGood ls → IsText (lines_text ls) ls
 good_text ls h = record {

@@ -7,7 +7,7 @@ use Rattle.std.specs.Cmp.{nat_eq_equiv}
 use Rattle.word_states.specs.Mention.{mention, mention_all}
 use Rattle.word_laws.proofs.Mentions as M
 use Rattle.list_laws.specs.In.{IsIn, Distinct}
-use Rattle.list_laws.proofs.Lists.{in_left, in_get, in_at}
+use Rattle.list_laws.proofs.Lists.{in_left, get_or-in, in-get_or}
 use Rattle.list_laws.proofs.Pigeons.{pigeon}
 use Rattle.cell_laws.proofs.Lists.{distinct_append}
 use Rattle.finders.specs.RowsFound.{grow}
@@ -60,7 +60,7 @@ module _ (extend : ℕ → List ℕ) (n : ℕ) (some : 0 < n)
         first = let (Y, q) = h.first in (Y ++ X, p ∙ ap (λ z. z ++ X) q);
         below = λ k x. ⊎_elim
             (λ y. h.below k y)
-            (λ y. small (get_or L i 0) k (h.below (get_or L i 0) (in_get L i 0 l)) y)
+            (λ y. small (get_or L i 0) k (h.below (get_or L i 0) (get_or-in L i 0 l)) y)
             (M.mentions_only nat_eq nat_eq_equiv L (extend (get_or L i 0)) k x);
         apart = distinct_mentions L (extend (get_or L i 0)) h.apart;
         origin = λ k x. ⊎_elim (λ y. h.origin k y) (λ y. inr (get_or L i 0, y))
@@ -108,5 +108,5 @@ module _ (extend : ℕ → List ℕ) (n : ℕ) (some : 0 < n)
 
   pub listed_closed : (k j : ℕ) → IsIn k (Grown n) → IsIn j (extend k) → IsIn j (Grown n)
   listed_closed k j i x =
-      let (r, l, e) = in_at (Grown n) k 0 i in
+      let (r, l, e) = in-get_or (Grown n) k 0 i in
       (grown n).closed r j (let f = few_listed in omega (arith, l, f)) l (subst (λ z. IsIn j (extend z)) e x)

@@ -201,6 +201,7 @@ module _ (form : Form) (T : List Position) (frame : Frame) (cite : ℕ → List 
       (λ q i. plans_do left q (λ r j. h r (subst (λ ss. IsIn r (complete ss)) (sym e)
       (in_complete_of (steps T frame left) r q (options frame d p) i j))))))
 
+  -- where each complete plan's line shows that nothing fits it, the lines of all plans do the frame's duty
   pub plan_does : ((q : Plan) → IsIn q (complete (plan_steps T frame))
       → Shows form T frame cite q [] (complete_line number form T frame q))
       → Does T cite (plan_duty form Stated) (plan_lines number form T frame)

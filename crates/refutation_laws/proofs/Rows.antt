@@ -39,7 +39,7 @@ place_left same x (y ∷ L) X h = go (same x y) h (place_left same x L X) where
   go true h more = refl
   go false h more = ap (λ z. 1 + z) (more h)
 
--- a word that the list hasn't stands behind it
+-- a word that the list hasn't comes behind it
 place_next : {A : Type 0} (same : A → A → Bool) (laws : IsEquivalence same) (x : A) (L X : List A)
     → list_any (same x) L ≡ false → position_or_len (same x) (L ++ x ∷ X) ≡ length L
 place_next same laws x [] X h = ap (λ b. cond (not b) (1 + position_or_len (same x) X) 0) (laws.refl x)
@@ -217,6 +217,7 @@ module _ (T : List Position) (cite : ℕ → List Signed → Bool) (u : Purpose)
       omega (arith, n, c)))
       ∙ rows_from (K ++ x ∷ []) X y (e ∙ sym (append_assoc K (x ∷ []) (y ∷ X))) ds ms
 
+  -- the lines of all rows leave what is to be shown once the table has all rows
   pub rows_done : (ds : List Duty) (ms : List Line)
       → run T cite (Of begin_table ∷ ds) (row_lines (atoms_for T u S) L ++ ms)
       ≡ run T cite (after_rows T u S (whole_table (atoms_for T u S) L rows) ∷ ds) ms

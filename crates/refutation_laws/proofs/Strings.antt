@@ -14,7 +14,7 @@ use Rattle.word_laws.proofs.RowLaws.{rows_words, all_end, row_zero}
 use Rattle.word_laws.proofs.Classes.{firsts_scalar}
 use Rattle.positions.specs.Position.{Position}
 use Rattle.goals.specs.Signed.{Signed}
-use Rattle.list_laws.proofs.Lists.{in_get, in_at, length-end}
+use Rattle.list_laws.proofs.Lists.{get_or-in, in-get_or, length-end}
 use Rattle.cell_laws.proofs.Rows.{target_in, leads_on, one_row, first_row}
 use Rattle.frames.specs.Frame.{is_at_end}
 use Rattle.alternatives.specs.Limit.{LimitKind, most_states}
@@ -35,7 +35,7 @@ use Rattle.refutations.specs.StatedRows.{rows_of, row_lines}
 use Rattle.refutations.specs.StringLines.{length_lines, string_lines}
 use Rattle.refutation_laws.proofs.Does.{Does}
 use Rattle.refutation_laws.proofs.Rows.{whole_table, rows_done}
-use Rattle.list_laws.proofs.Tests.{every_below}
+use Rattle.list_laws.proofs.Tests.{every-range}
 use Rattle.frame_laws.proofs.Ends.{at_end_up}
 
 -- rows of atoms that pass no limit
@@ -67,10 +67,10 @@ module _ (atoms : List Atom) (L : List (List ℕ)) (rows : AreRows atoms L) wher
   target_short r k l m =
       let v = get_or L r [] in
       let f = get_or (class_firsts atoms) k 0 in
-      let s = all_end v f (rows_words atoms L rows v (in_get L r [] l))
-      (firsts_scalar atoms f (in_get (class_firsts atoms) k 0 m)) in
+      let s = all_end v f (rows_words atoms L rows v (get_or-in L r [] l))
+      (firsts_scalar atoms f (get_or-in (class_firsts atoms) k 0 m)) in
       let h = word_row atoms L rows (v ++ f ∷ []) s in
-      let (j, n, e) = in_at L h.first [] h.is_in in
+      let (j, n, e) = in-get_or L h.first [] h.is_in in
       let same = subst (λ z. have_same_state atoms (v ++ f ∷ []) z ≡ true) e h.is_same in
       let q = one_row atoms L rows (v ++ f ∷ []) (target_in atoms L r k) j (leads_on atoms L rows r k l m) (n, same) in
       let here : length h.first ≤ length (v ++ f ∷ []) = short h.first (v ++ f ∷ []) h.no_later in
@@ -89,8 +89,8 @@ module _ (atoms : List Atom) (L : List (List ℕ)) (rows : AreRows atoms L) wher
       (eq-eqb (length (map length L)) (length L) (length-map L length))
       (and_from (nat_eq (get_or (map length L) 0 0) 0) _
       (eq-eqb (get_or (map length L) 0 0) 0 (get_or-map length L 0 [] 0 some_rows ∙ ap length (row_zero atoms L rows)))
-      (every_below one_up (length L) (λ r l.
-      every_below (λ k. nat_le (get_or (map length L) (stated (whole_table atoms L rows) r k) 0)
+      (every-range one_up (length L) (λ r l.
+      every-range (λ k. nat_le (get_or (map length L) (stated (whole_table atoms L rows) r k) 0)
       (suc (get_or (map length L) r 0))) (class_count atoms) (λ k m.
       le-leb (get_or (map length L) (stated (whole_table atoms L rows) r k) 0) (suc (get_or (map length L) r 0))
       (up r k l m)))))
@@ -146,7 +146,7 @@ module _ (T : List Position) (S : List Signed) where
           go v false p q = cc q
 
     past : least_past T S (whole_table (string_atoms T S) L rows) (map length L) ≡ true
-    past = every_below
+    past = every-range
         (λ r. not (is_wanted T S (get_or L r [])) || is_at_end (get_or (map length L) r 0) (below T S)) (length L)
         (λ r l. go r l (is_wanted T S (get_or L r [])) refl) where
           go : (r : ℕ) → r < length L → (b : Bool) → is_wanted T S (get_or L r []) ≡ b
@@ -155,7 +155,7 @@ module _ (T : List Position) (S : List Signed) where
           go r l true e =
               ap (λ n. is_at_end n (below T S)) (get_or-map length L r [] 0 l)
               ∙ wanted_long (get_or L r [])
-              (rows_words (string_atoms T S) L rows (get_or L r []) (in_get L r [] l)) e
+              (rows_words (string_atoms T S) L rows (get_or L r []) (get_or-in L r [] l)) e
 
     least_done : (cite : ℕ → List Signed → Bool)
         → after T cite (OfLeast S (whole_table (string_atoms T S) L rows)) (C.Least (map length L)) ≡ Ok []

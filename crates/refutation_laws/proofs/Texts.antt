@@ -93,6 +93,7 @@ module _ (rename : ℕ → ℕ) (low : (k : ℕ) → rename k < 100000) where
         omega (arith, a, decimal_five r l, decimal_five c m)),
   )
 
+  -- the line of a row is in the grammar where its targets are small and not too many
   pub row_fits : (ts : List ℕ) → ((t : ℕ) → IsIn t ts → t < 100000) → length ts ≤ 65536 → Fits (L.Row ts)
   row_fits ts h l = (
     every_from is_small ts (λ t i. small t 100000 (h t i) (omega arith)),

@@ -27,7 +27,7 @@ module _ (expansion : List Signed → Expansion) (f : Found) where
   abbrev pub found_refutation : List Position → List Line
   found_refutation T = certificate f.goals (goal_lines unmet_number T)
 
--- of a root that clashes: no goal is listed
+-- the certificate of a root that clashes: no goal is listed
 abbrev pub empty_certificate : List Line
 empty_certificate = L.Version ∷ L.Goals 0 ∷ L.End ∷ []
 

@@ -1,9 +1,9 @@
--- Groups are put together in any grouping, and the group that asks nothing changes none.
+-- Groups are put together in any grouping, and the group that requires nothing changes none.
 use Rattle.std.proofs.Common.{◌≡◌, ℤ, int_le, cond, Option, Some, None, refl, ap, ◌∙◌, arith}
 use Rattle.std.proofs.lemmas.Int.{ints}
-use Rattle.std.proofs.lemmas.List.{append_assoc, append-nil}
+use Rattle.std.proofs.lemmas.List.{append_assoc}
 use Rattle.number_groups.specs.Group.{Group}
-use Rattle.number_finder.specs.SetGroup.{any_number, greater, lesser, both}
+use Rattle.number_finder.specs.SetGroup.{greater, lesser, both}
 
 greater-more : (m k n : ℤ) → cond (int_le (cond (int_le m k) k m) n) n (cond (int_le m k) k m)
     ≡ cond (int_le m (cond (int_le k n) n k)) (cond (int_le k n) n k) m
@@ -35,21 +35,3 @@ both-assoc f g h =
     let ss = append_assoc f.sets g.sets h.sets in
     let ts = append_assoc f.not_sets g.not_sets h.not_sets in
     cc
-
-greater-none : (a : Option ℤ) → greater a None ≡ a
-greater-none None = refl
-greater-none (Some m) = refl
-
-lesser-none : (a : Option ℤ) → lesser a None ≡ a
-lesser-none None = refl
-lesser-none (Some m) = refl
-
-pub both-none : (g : Group) → both g any_number ≡ g
-both-none g =
-    let h = both g any_number in
-    ap (λ z. record h { low = z }) (greater-none g.low)
-    ∙ ap (λ z. record h { low = g.low; high = z }) (lesser-none g.high)
-    ∙ ap (λ z. record h { low = g.low; high = g.high; multiples = z }) (append-nil g.multiples)
-    ∙ ap (λ z. record g { not_multiples = z; sets = h.sets; not_sets = h.not_sets }) (append-nil g.not_multiples)
-    ∙ ap (λ z. record g { sets = z; not_sets = h.not_sets }) (append-nil g.sets)
-    ∙ ap (λ z. record g { not_sets = z }) (append-nil g.not_sets)

@@ -1,4 +1,4 @@
--- A whole number meets the group of a set exactly where it is all that the set asks.
+-- A whole number meets the group of a set exactly where it is all that the set requires.
 use Rattle.std.proofs.Common.{◌≡◌, ℤ, int_le, List, [], ◌∷◌, Bool, true, false, not, ◌&&◌, ◌||◌, cond, Option, Some, None, refl, ap, ◌∙◌, arith, sym}
 use Rattle.std.specs.List.{list_all, list_any}
 use Rattle.std.proofs.lemmas.Int.{ints}
@@ -88,6 +88,7 @@ met_one n (OneOf ns) g =
 met_one n (NoneOf ns) g = at_listed (has ns n) _ (list_any (λ m. is_multiple m n) g.not_multiples) _
 met_one n Nothing g = refl
 
+-- a number meets the group of a set exactly where it meets what each literal requires
 pub is_met-number_group : (T : List Position) (S : List Signed) (n : ℤ)
     → is_met (number_group T S) n ≡ every (λ x. is_asked n (ask_at T x)) S
 is_met-number_group T [] n = refl

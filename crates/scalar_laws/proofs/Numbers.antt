@@ -26,7 +26,7 @@ use Rattle.number_finder.specs.SetGroup.{plus_ask, minus_ask, ask_at, number_gro
 use Rattle.number_finder.specs.NumbersOf.{answer_of, numbers_of}
 use Rattle.scalar_laws.proofs.Groups.{is_asked, is_met-number_group}
 
--- a literal that isn't wrong asks of a number what it asks of whole numbers
+-- a literal that isn't wrong requires of a number what it requires of whole numbers
 module _ (here : ℕ → Bool) (below : ℕ → Document → Bool) (n : ℤ) where
   plus_met : (P : Position) → plus_choices K.Number P ≡ None → plus_wrong K.Number P ≡ false
       → is_asked n (plus_ask P) ≡ true → asks here below P (number n) ≡ true

@@ -7,8 +7,9 @@ use Rattle.schemas.specs.Keyword.{Shape, TypeWords, AnyValues, AnyValue, WholeNu
 use Rattle.schemas.specs.SubSchemas.{in_list, in_list_or_one, members_under, in_map, unless_list, needs_under, in_needs, in_value, in_member, in_members}
 use Rattle.schemas.specs.Fault.{Rules}
 use Rattle.schemas.specs.Walk.{root_id, place_with, place_of, referred, object_children, children}
-use Rattle.schema_laws.specs.Values.{IsIn, inside, of_items, of_members, values_from}
-use Rattle.schema_laws.proofs.Members.{in_left, in_right, in_append}
+use Rattle.list_laws.specs.In.{IsIn}
+use Rattle.schema_laws.specs.Values.{inside, of_items, of_members, values_from}
+use Rattle.list_laws.proofs.Lists.{in_left, in_right, from_append}
 use Rattle.schema_laws.proofs.ValuesLaws.{values_values, value_in}
 
 elements-in : (c : Place) (p : Pointer) (i : ℕ) (vs : Items) → IsIn c (elements_under p i vs) → IsIn c (of_items p i vs)
@@ -108,7 +109,7 @@ in_members-in c ms p (member k v rest) h = ⊎_elim
     (λ l. in_left c (values_from (p ++ k ∷ []) v) (of_members p rest)
     (in_member-in c (read_shape ms k) (p ++ k ∷ []) v l))
     (λ r. in_right c (values_from (p ++ k ∷ []) v) (of_members p rest) (in_members-in c ms p rest r))
-    (in_append c (in_member (read_shape ms k) (p ++ k ∷ []) v) (in_members ms p rest) h)
+    (from_append c (in_member (read_shape ms k) (p ++ k ∷ []) v) (in_members ms p rest) h)
 
 module _ {P R : Type 0} (rules : Rules P R) (root : Json) where
   place_with-in : (c : Place) (p : Pointer) (v : Option Json) → value_at p root ≡ v → IsIn c (place_with p v)

@@ -6,7 +6,7 @@ use Rattle.std.specs.List.{IsDistinct, AllByRecursion}
 use Rattle.std.specs.Set.{is_member}
 use Rattle.std.proofs.lemmas.Map.Made.{length-le_from_is_member}
 use Rattle.schemas.specs.Places.{Pointer, Place, same_pointer, has_place}
-use Rattle.schema_laws.specs.Values.{IsIn}
+use Rattle.list_laws.specs.In.{IsIn}
 use Rattle.schema_laws.specs.Walking.{pointers}
 use Rattle.schema_laws.proofs.Pointers.{same_pointer-eq, same_pointer-equivalence}
 use Rattle.schema_laws.proofs.Members.{has_place-in}

@@ -8,11 +8,11 @@ use Rattle.schemas.specs.Fault.{Rules, TooLarge, or_else}
 use Rattle.schemas.specs.Walk.{places}
 use Rattle.schemas.specs.Weight.{weight}
 use Rattle.schemas.specs.Reading.{member_fault, members_fault, object_fault, fault_at, fault_with, fault_after, first_fault}
-use Rattle.schema_laws.specs.Values.{IsIn}
+use Rattle.list_laws.specs.In.{IsIn}
 use Rattle.schema_laws.specs.Walking.{weights}
 use Rattle.list_laws.proofs.Tests.{same_word-true}
 
--- neither of two
+-- where none of two faults is the first, there is neither
 pub neither : {A : Type 0} (x y : Option A) → or_else x y ≡ None → (x ≡ None) × (y ≡ None)
 neither None y h = (refl, h)
 neither (Some a) y h = absurd (none-some a (sym h))

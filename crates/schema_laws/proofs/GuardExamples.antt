@@ -126,7 +126,7 @@ at_once-told : IsLeastCycle at_once (0 ∷ [])
 unfolding leads
 at_once-told = (from_root at_once 0 refl, next at_once 0 0 0 0 refl)
 
--- of two ways back that are as short, the one through the lesser number, in whatever order they stand
+-- of two ways back that are as short, the one through the lesser number, in whatever order they come
 abbrev two_ways : List (List ℕ)
 two_ways = (1 ∷ []) ∷ (3 ∷ 2 ∷ []) ∷ (0 ∷ []) ∷ (0 ∷ []) ∷ []
 

@@ -1,4 +1,4 @@
--- Where the schemas in a keyword's value stand among the places of a schema. With it a keyword that is given by entries
+-- Where the schemas in a keyword's value are among the places of a schema. With it a keyword that is given by entries
 -- has the meaning of its value.
 use Rattle.std.proofs.Common.{◌≡◌, ℕ, List, [], ◌∷◌, ◌++◌, Bool, true, false, cond, inl, Some, None, Ok, codes, slice_get, refl, sym, subst}
 use Rattle.std.proofs.lemmas.Option.{none-some, same_Some}
@@ -11,8 +11,9 @@ use Rattle.schemas.specs.SubSchemas.{in_member, in_members}
 use Rattle.schemas.specs.Fault.{Rules}
 use Rattle.schemas.specs.Walk.{root_id, place_of, place_with, object_children, children, places}
 use Rattle.schemas.specs.Entries.{number_of}
-use Rattle.schema_laws.specs.Values.{IsIn, names_differ}
-use Rattle.schema_laws.proofs.Members.{in_left, in_right}
+use Rattle.list_laws.specs.In.{IsIn}
+use Rattle.schema_laws.specs.Values.{names_differ}
+use Rattle.list_laws.proofs.Lists.{in_left, in_right}
 use Rattle.schema_laws.proofs.Numbers.{child_at_number}
 use Rattle.list_laws.proofs.Tests.{same_word-true}
 

@@ -5,7 +5,8 @@ use Rattle.schemas.specs.Places.{Pointer, Place, same_pointer, has_place}
 use Rattle.schemas.specs.Fault.{Rules}
 use Rattle.schemas.specs.Walk.{children, places}
 use Rattle.schemas.specs.Entries.{number_of}
-use Rattle.schema_laws.specs.Values.{IsIn, names_differ}
+use Rattle.list_laws.specs.In.{IsIn}
+use Rattle.schema_laws.specs.Values.{names_differ}
 use Rattle.schema_laws.proofs.Pointers.{same_pointer-eq}
 use Rattle.schema_laws.proofs.ChildrenLaws.{children-in}
 use Rattle.schema_laws.proofs.ValueAt.{one_value}

@@ -10,6 +10,7 @@ pub same_pointer-refl : (p : Pointer) → same_pointer p p ≡ true
 same_pointer-refl [] = refl
 same_pointer-refl (t ∷ p) = and_from (same_word t t) (same_pointer p p) (same_word-refl t) (same_pointer-refl p)
 
+-- pointers that pass the test are equal
 pub same_pointer-eq : (p q : Pointer) → same_pointer p q ≡ true → p ≡ q
 same_pointer-eq [] [] h = refl
 same_pointer-eq [] (u ∷ q) h = absurd (true≢false (sym h))

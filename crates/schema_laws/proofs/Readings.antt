@@ -25,7 +25,7 @@ module _ {P R : Type 0} (rules : Rules P R) (root : Json) where
   weights-append [] ds = omega arith
   weights-append (c ∷ cs) ds = let h = weights-append cs ds in omega (arith, h)
 
-  -- the first fault of places that stand one after another
+  -- the first fault of places that come one after another
   pub fault_after-append : (before : ℕ) (cs ds : List Place)
       → fault_after rules root before (cs ++ ds)
       ≡ or_else (fault_after rules root before cs) (fault_after rules root (before + weights cs) ds)

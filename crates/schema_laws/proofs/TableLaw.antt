@@ -14,7 +14,7 @@ use Rattle.schemas.specs.Reading.{fault_at, first_fault}
 use Rattle.schemas.specs.Entry.{Entry}
 use Rattle.schemas.specs.Entries.{number_of, referred_form, reference_form, object_form, form_at, entry_at, entries_at}
 use Rattle.schemas.specs.Schema.{names_below, form_in_range, total_size, is_table}
-use Rattle.schema_laws.specs.Values.{IsIn}
+use Rattle.list_laws.specs.In.{IsIn}
 use Rattle.schema_laws.specs.Sound.{IsSound}
 use Rattle.schema_laws.proofs.WellFormedLaws.{values_well_formed}
 use Rattle.schema_laws.proofs.Walks.{all_places}

@@ -11,7 +11,7 @@ use Rattle.schemas.specs.Walk.{root_id, place_with, place_of, object_children, c
 use Rattle.schemas.specs.Entry.{Form, Asks}
 use Rattle.schemas.specs.Entries.{number_of, field, one_number, list_numbers, items_part, named_numbers, needs_of, all_needs, rest_number, keywords_of, referred_form, reference_form, object_form, form_at}
 use Rattle.schemas.specs.Schema.{lists, one, all, of_items, of_names, of_need, of_needs, in_place, of_parts, names_below}
-use Rattle.schema_laws.specs.Values.{IsIn}
+use Rattle.list_laws.specs.In.{IsIn}
 use Rattle.schema_laws.specs.Sound.{IsSound}
 use Rattle.schema_laws.proofs.Shapes.{IsShaped, is_shaped, read_shape-of}
 use Rattle.schema_laws.proofs.KeywordLaws.{keyword-children}

@@ -6,9 +6,10 @@ use Rattle.documents.specs.Tests.{same_word}
 use Rattle.documents.specs.Json.{Json, null, boolean, number, not_whole, string, array, object, Items, no_items, item, Members, no_members, member, lookup, elements}
 use Rattle.documents.specs.Place.{index_of, child_at, value_at}
 use Rattle.schemas.specs.Places.{Pointer, Place, index_token}
-use Rattle.schema_laws.specs.Values.{IsIn, inside, of_items, of_members, values_from, names_differ, names_differ_in, members_differ}
+use Rattle.list_laws.specs.In.{IsIn}
+use Rattle.schema_laws.specs.Values.{inside, of_items, of_members, values_from, names_differ, names_differ_in, members_differ}
 use Rattle.schema_laws.proofs.Tokens.{index_of-token}
-use Rattle.schema_laws.proofs.Members.{in_append}
+use Rattle.list_laws.proofs.Lists.{from_append}
 use Rattle.list_laws.proofs.Tests.{same_word-refl, same_word-true}
 
 -- the place lies below p, at what a pointer leads to in v
@@ -115,7 +116,7 @@ mutual
       let both = and_parts (names_differ v) (names_differ_in vs) d in ⊎_elim
       (λ l. first_item p i v vs c (below_inside (p ++ index_token i ∷ []) v c both.0 l))
       (λ r. later_item p i v vs c (below_items p (suc i) vs c both.1 r))
-      (in_append c (inside (p ++ index_token i ∷ []) v) (of_items p (suc i) vs) h)
+      (from_append c (inside (p ++ index_token i ∷ []) v) (of_items p (suc i) vs) h)
 
   below_members : (p : Pointer) (ms : Members) (c : Place) → members_differ ms ≡ true → IsIn c (of_members p ms)
       → IsAtMember p ms c
@@ -127,7 +128,7 @@ mutual
       let rest = and_parts (names_differ v) (members_differ ms) both.1 in ⊎_elim
       (λ l. first_member p k v ms c (same_word-refl k) (below_inside (p ++ k ∷ []) v c rest.0 l))
       (λ r. later_member p k v ms c both.0 (below_members p ms c rest.1 r))
-      (in_append c (inside (p ++ k ∷ []) v) (of_members p ms) h)
+      (from_append c (inside (p ++ k ∷ []) v) (of_members p ms) h)
 
 pub value_at-in : (root : Json) (c : Place) → names_differ root ≡ true → IsIn c (values_from [] root)
     → value_at c.0 root ≡ Some c.1

@@ -5,12 +5,13 @@ use Rattle.documents.specs.Tests.{same_word}
 use Rattle.documents.specs.Json.{Json, null, boolean, number, not_whole, string, array, object, Items, no_items, item, Members, no_members, member, lookup, elements, count, items_count, members_count}
 use Rattle.documents.specs.Place.{index_of, child_at, value_at}
 use Rattle.schemas.specs.Places.{Pointer, Place, index_token}
-use Rattle.schema_laws.specs.Values.{IsIn, inside, of_items, of_members, values_from}
+use Rattle.list_laws.specs.In.{IsIn}
+use Rattle.schema_laws.specs.Values.{inside, of_items, of_members, values_from}
 use Rattle.schema_laws.proofs.Tokens.{index_token-of}
-use Rattle.schema_laws.proofs.Members.{in_left, in_right, in_append}
+use Rattle.list_laws.proofs.Lists.{in_left, in_right, from_append}
 use Rattle.list_laws.proofs.Tests.{same_word-true}
 
--- as many as are counted
+-- there are as many values as are counted
 mutual
   pub length-inside : (p : Pointer) (v : Json) → suc (length (inside p v)) ≡ count v
   length-inside p null = refl
@@ -60,7 +61,7 @@ mutual
       (inside_inside (p ++ index_token i ∷ []) v q w c l k))
       (λ r. in_right c (inside (p ++ index_token i ∷ []) v) (of_items p (suc i) vs)
       (inside_items p (suc i) vs q w c r k))
-      (in_append (q, w) (inside (p ++ index_token i ∷ []) v) (of_items p (suc i) vs) h))
+      (from_append (q, w) (inside (p ++ index_token i ∷ []) v) (of_items p (suc i) vs) h))
 
   inside_members : (p : Pointer) (ms : Members) (q : Pointer) (w : Json) (c : Place) → IsIn (q, w) (of_members p ms)
       → IsIn c (inside q w) → IsIn c (of_members p ms)
@@ -70,7 +71,7 @@ mutual
   inside_members p (member n v ms) q w c (inr h) k = inr (⊎_elim
       (λ l. in_left c (inside (p ++ n ∷ []) v) (of_members p ms) (inside_inside (p ++ n ∷ []) v q w c l k))
       (λ r. in_right c (inside (p ++ n ∷ []) v) (of_members p ms) (inside_members p ms q w c r k))
-      (in_append (q, w) (inside (p ++ n ∷ []) v) (of_members p ms) h))
+      (from_append (q, w) (inside (p ++ n ∷ []) v) (of_members p ms) h))
 
 -- so what is among the values of a value that is in another
 pub values_values : (p : Pointer) (v : Json) (q : Pointer) (w : Json) (c : Place) → IsIn (q, w) (values_from p v)

@@ -5,10 +5,12 @@ use Rattle.documents.specs.Json.{Json, count}
 use Rattle.schemas.specs.Places.{Pointer, Place, same_pointer, has_place}
 use Rattle.schemas.specs.Fault.{Rules}
 use Rattle.schemas.specs.Walk.{children, walk, places}
-use Rattle.schema_laws.specs.Values.{IsIn, values_from}
+use Rattle.list_laws.specs.In.{IsIn}
+use Rattle.schema_laws.specs.Values.{values_from}
 use Rattle.schema_laws.specs.Walking.{rest, IsWalking, AreAllPlaces}
 use Rattle.schema_laws.proofs.Pointers.{same_pointer-eq}
-use Rattle.schema_laws.proofs.Members.{in_left, in_right, in_append, has_place-in}
+use Rattle.list_laws.proofs.Lists.{in_left, in_right, from_append}
+use Rattle.schema_laws.proofs.Members.{has_place-in}
 use Rattle.schema_laws.proofs.Distinct.{has_place-append, distinct_places, length-le_from_distinct}
 use Rattle.schema_laws.proofs.ValuesLaws.{length-inside}
 use Rattle.schema_laws.proofs.ChildrenLaws.{children-in}
@@ -63,7 +65,7 @@ module _ {P R : Type 0} (rules : Rules P R) (root : Json) where
     distinct = w.distinct;
     within = λ z k. w.within z (⊎_elim
         (λ l. in_left z done (c ∷ waiting) l) (λ r. in_right z done (c ∷ waiting) (inr r))
-        (in_append z done waiting k));
+        (from_append z done waiting k));
     covers = λ z d k l. fewer d.0 (w.covers z d k l);
     covers_root = fewer [] w.covers_root;
   }
@@ -78,7 +80,7 @@ module _ {P R : Type 0} (rules : Rules P R) (root : Json) where
   in_done_or_next : (done : List Place) (c z : Place) → IsIn z (done ++ c ∷ []) → IsIn z done ⊎ (z ≡ c)
   in_done_or_next done c z h =
       ⊎_elim (λ l. inl l) (λ r. ⊎_elim (λ e. inr e) (λ k. absurd k) r)
-      (in_append z done (c ∷ []) h)
+      (from_append z done (c ∷ []) h)
 
   in_waiting : (done waiting : List Place) (c z : Place) → IsIn z done ⊎ (z ≡ c) → IsIn z (done ++ c ∷ waiting)
   in_waiting done waiting c z (inl h) = in_left z done (c ∷ waiting) h
@@ -119,8 +121,8 @@ module _ {P R : Type 0} (rules : Rules P R) (root : Json) where
     distinct = distinct_places done c w.distinct h;
     within = λ z k. ⊎_elim (λ l. known z (in_done_or_next done c z l))
         (λ r. ⊎_elim (λ l. children-in rules root c z (known c (inr refl)) l)
-        (λ m. w.within z (in_right z done (c ∷ waiting) (inr m))) (in_append z (children rules root c) waiting r))
-        (in_append z (done ++ c ∷ []) (children rules root c ++ waiting) k);
+        (λ m. w.within z (in_right z done (c ∷ waiting) (inr m))) (from_append z (children rules root c) waiting r))
+        (from_append z (done ++ c ∷ []) (children rules root c ++ waiting) k);
     covers = λ z d k l. covered z d (in_done_or_next done c z k) l;
     covers_root = more done waiting c [] w.covers_root;
   }

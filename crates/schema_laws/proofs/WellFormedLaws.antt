@@ -10,8 +10,9 @@ use Rattle.documents.proofs.Parts.{member_parts}
 use Rattle.schemas.specs.Places.{Pointer, Place, index_token}
 use Rattle.schemas.specs.Entries.{document_of, items_of, members_of, word, listed}
 use Rattle.schemas.specs.Schema.{is_word, is_ascending, are_keys}
-use Rattle.schema_laws.specs.Values.{IsIn, inside, of_items, of_members, values_from}
-use Rattle.schema_laws.proofs.Members.{in_append}
+use Rattle.list_laws.specs.In.{IsIn}
+use Rattle.schema_laws.specs.Values.{inside, of_items, of_members, values_from}
+use Rattle.list_laws.proofs.Lists.{from_append}
 
 mutual
   inside_well_formed : (p : Pointer) (v : Json) (c : Place) → is_json v ≡ true → IsIn c (inside p v)
@@ -29,7 +30,7 @@ mutual
       let both = and_parts (is_json v) (are_items vs) h in ⊎_elim
       (λ l. inside_well_formed (p ++ index_token n ∷ []) v c both.0 l)
       (λ r. items_well_formed p (suc n) vs c both.1 r)
-      (in_append c (inside (p ++ index_token n ∷ []) v) (of_items p (suc n) vs) i)
+      (from_append c (inside (p ++ index_token n ∷ []) v) (of_items p (suc n) vs) i)
 
   members_well_formed : (p : Pointer) (ms : Members) (c : Place) → are_members ms ≡ true → IsIn c (of_members p ms)
       → is_json c.1 ≡ true
@@ -40,7 +41,7 @@ mutual
       let parts = member_parts k v ms h in ⊎_elim
       (λ l. inside_well_formed (p ++ k ∷ []) v c parts.value l)
       (λ r. members_well_formed p ms c parts.others r)
-      (in_append c (inside (p ++ k ∷ []) v) (of_members p ms) i)
+      (from_append c (inside (p ++ k ∷ []) v) (of_members p ms) i)
 
 pub values_well_formed : (p : Pointer) (v : Json) (c : Place) → is_json v ≡ true → IsIn c (values_from p v)
     → is_json c.1 ≡ true

@@ -1,11 +1,7 @@
 -- All values in a JSON value, with their places.
-use Rattle.std.specs.Prelude.{◌≡◌, ℕ, suc, ◌⊎◌, Bool, true, ◌&&◌, is_none, List, [], ◌∷◌, ◌++◌}
+use Rattle.std.specs.Prelude.{ℕ, suc, Bool, true, ◌&&◌, is_none, List, [], ◌∷◌, ◌++◌}
 use Rattle.documents.specs.Json.{Json, array, object, Items, no_items, item, Members, no_members, member, lookup}
 use Rattle.schemas.specs.Places.{Pointer, Place, index_token}
-
-abbrev pub IsIn : {A : Type 0} → A → List A → Type 0
-IsIn x [] = ⊥
-IsIn x (y ∷ ys) = (x ≡ y) ⊎ IsIn x ys
 
 -- the values in the value at p, in pre-order
 abbrev mutual

@@ -7,7 +7,8 @@ use Rattle.schemas.specs.Fault.{Rules}
 use Rattle.schemas.specs.Walk.{children, walk, places}
 use Rattle.schemas.specs.Weight.{weight}
 use Rattle.schemas.specs.Reading.{fault_after}
-use Rattle.schema_laws.specs.Values.{IsIn, values_from}
+use Rattle.list_laws.specs.In.{IsIn}
+use Rattle.schema_laws.specs.Values.{values_from}
 
 abbrev pub pointers : List Place → List Pointer
 pointers cs = map (λ c. c.0) cs
@@ -25,7 +26,7 @@ module _ {P R : Type 0} (rules : Rules P R) (root : Json) where
   pub record IsWalking (done waiting : List Place) : Type 0 where
     -- the places are those that are done, and those that the walk goes on to
     pub places_are : places rules root ≡ done ++ rest done waiting
-    -- each of them once
+    -- each place is done once
     pub distinct : IsDistinct same_pointer (pointers done)
     -- all of them are values of the file, each at its place
     pub within : (c : Place) → IsIn c (done ++ waiting) → IsIn c (values_from [] root)

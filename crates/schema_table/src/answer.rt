@@ -21,7 +21,7 @@ pub(crate) fn answer(alloc: Global, schema: &str, document: &str) -> Result<Stri
     }
 }
 
-/// What stands between tabs, each in a line of its own.
+/// What is between tabs, each in a line of its own.
 fn lines(alloc: Global, text: &str) -> Result<String, Memory> {
     let mut lines = String::new(alloc);
     for line in text.split('\t') {

@@ -77,7 +77,7 @@ single :
 unfolding places walk shape_of index_token
 single = refl
 
--- names with what they need or ask for
+-- names with what they need or require
 named :
     entries (object (("dependencies", object (("a", list (text "b" ∷ text "b" ∷ [])) ∷ ("c", J.boolean true) ∷ []))
     ∷ ("patternProperties", object (("y", J.boolean true) ∷ []))

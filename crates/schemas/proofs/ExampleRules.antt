@@ -45,7 +45,7 @@ pub data Bad : Type 0 where
   Missing : Bad
   NoSchema : Bad
 
--- the tokens of a pointer's text without escapes, each after a `/`; the first list is what stands before the first one
+-- the tokens of a pointer's text without escapes, each after a `/`; the first list is what comes before the first one
 abbrev pub add : ℕ → List ℕ × Pointer → List ℕ × Pointer
 add c x = cond (nat_eq c 47) ([], x.0 ∷ x.1) (c ∷ x.0, x.1)
 
@@ -53,7 +53,7 @@ abbrev pub tokens : List ℕ → List ℕ × Pointer
 tokens [] = ([], [])
 tokens (c ∷ w) = add c (tokens w)
 
--- what stands before and after the first `#`
+-- what comes before and after the first `#`
 abbrev pub cut : List ℕ → List ℕ × List ℕ
 cut [] = ([], [])
 cut (c ∷ w) = cond (nat_eq c 35) ([], w) (c ∷ (cut w).0, (cut w).1)

@@ -95,7 +95,7 @@ id_beside_reference :
 unfolding places walk shape_of index_token
 id_beside_reference = refl
 
--- a reference may lead into what is no schema where it stands, as an element of `enum`, and it is read there
+-- a reference may lead into what is no schema where it is, as an element of `enum`, and it is read there
 inside_unread :
     fault (object (("enum", list (object (("type", text "frob") ∷ []) ∷ number 0 ∷ []))
     ∷ ("not", object (("$ref", text "#/enum/0") ∷ [])) ∷ []))

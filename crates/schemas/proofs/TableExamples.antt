@@ -10,7 +10,7 @@ use Rattle.schemas.specs.Entry.{Listed, Each, Names, Keywords, Entry, Always, Re
 use Rattle.schemas.specs.Schema.{is_ascending, is_table, in_place, of_parts, form_size}
 use Rattle.schemas.proofs.ExampleRules.{Bad, path, object, list, text, number, entries}
 
--- the keywords stand in the order of their names
+-- the keywords are in the order of their names
 ascending : is_ascending (map (λ k. k.0) keywords) ≡ true
 ascending = refl
 

@@ -64,7 +64,7 @@ once :
 unfolding places walk shape_of index_token
 once = refl
 
--- an object that is no schema where it stands may be one for a reference; both come to what is in it
+-- an object that is no schema where it is may be one for a reference; both come to what is in it
 two_parents :
     pointers (object (("allOf", list (object (("$ref", text "#/properties") ∷ []) ∷ []))
     ∷ ("properties", object (("a", object []) ∷ ("not", J.boolean true) ∷ []))
@@ -124,7 +124,7 @@ weighs_values_over :
 unfolding places walk shape_of index_token
 weighs_values_over = refl
 
--- members' names weigh nothing; schemas weigh at their own places, and as one value where they stand
+-- members' names weigh nothing; schemas weigh at their own places, and as one value where they are
 weighs_map :
     fault_up_to 26 (object (("properties", object (("a", object (("type", text "null") ∷ [])) ∷ []))
     ∷ []))

@@ -60,7 +60,7 @@ type_named w =
     type_in ((codes "null", Null) ∷ (codes "boolean", Boolean) ∷ (codes "object", Object) ∷ (codes "array", Array)
     ∷ (codes "number", Number) ∷ (codes "string", Text) ∷ (codes "integer", Integer) ∷ []) w
 
--- the types of a word, or of a list of words, as they stand
+-- the types of a word, or of a list of words, as they are
 abbrev pub types_of : Json → List TypeName
 types_of (array vs) = filter_map (λ v. type_named (word v)) (elements vs)
 types_of v = filter_map (λ w. type_named (word w)) (v ∷ [])
@@ -74,7 +74,7 @@ number_of (c ∷ cs) p = cond (same_pointer p c.0) zero (suc (number_of cs p))
 abbrev pub field : {A : Type 0} → Members → List ℕ → (List ℕ → Json → A) → Option A
 field ms k f = option_map (f k) (lookup k ms)
 
--- the schemas of an object at p by their numbers, where `entry_of` tells the number of a place
+-- the schemas of an object at p by their numbers, where `entry_of` gives the number of a place
 module _ (entry_of : Pointer → ℕ) (p : Pointer) where
   -- the schema that is the value of the keyword
   abbrev pub one_number : List ℕ → Json → ℕ
@@ -162,7 +162,7 @@ module _ {P R : Type 0} (rules : Rules P R) (root : Json) where
   abbrev pub entry_at : (Pointer → ℕ) → Place → Entry
   entry_at entry_of c = entry c.0 (form_at entry_of c)
 
-  -- the entries of some places, numbered as they stand
+  -- the entries of some places, numbered as they are
   abbrev pub entries_at : List Place → List Entry
   entries_at cs = map (entry_at (number_of cs)) cs
 

@@ -18,13 +18,13 @@ pub data ItemsPart : Type 0 where
   Each : ℕ → ItemsPart
   Listed : List ℕ → ItemsPart
 
--- what the presence of a name asks for: other names, or a schema of the whole object
+-- what the presence of a name requires: other names, or a schema of the whole object
 pub data Needs : Type 0 where
   Names : List (List ℕ) → Needs
   Whole : ℕ → Needs
 
 -- a field is None exactly where the object hasn't that keyword, and `additional_items` also where `items` is no list.
--- Names and patterns stand in the order of names
+-- Names and patterns are in the order of names
 pub record Keywords : Type 0 where
   pub types : Option (List TypeName)
   pub enumeration : Option (List Document)
@@ -88,7 +88,7 @@ no_keywords = record {
   not = None;
 }
 
--- everything, nothing, what another entry accepts, or what all the keywords ask for
+-- everything, nothing, what another entry accepts, or what all the keywords require
 pub data Form : Type 0 where
   Always : Form
   Never : Form

@@ -10,7 +10,7 @@ use Rattle.schemas.specs.Keyword.{Shape, TypeWords, AnyValues, AnyValue, WholeNu
 pub data Fault (P R : Type 0) : Type 0 where
   -- the value at this place is no object and no boolean
   NotASchema : Pointer → Fault P R
-  -- the value isn't what that keyword asks for
+  -- the value isn't what that keyword requires
   WrongShape : List ℕ → Pointer → Fault P R
   -- a number isn't whole; is not above 0; is below 0
   NotWhole : Pointer → Fault P R
@@ -72,7 +72,7 @@ module _ {P R : Type 0} (rules : Rules P R) where
   abbrev pub pattern_fault : List ℕ → Option P
   pattern_fault w = result_err (rules.pattern w)
 
-  -- the value of the keyword k, which stands at p, by the shape that is required
+  -- the value of the keyword k, which is at p, by the shape that is required
   abbrev pub types_fault : List ℕ → Pointer → Json → Option (Fault P R)
   types_fault k p (array vs) = option_map (WrongShape k) (first_failing is_type_word p 0 vs)
   types_fault k p v = unless (is_type_word v) (WrongShape k p)

@@ -1,4 +1,4 @@
--- Places in a JSON value, each known by its pointer (RFC 6901). Which value stands at one is in `documents`.
+-- Places in a JSON value, each known by its pointer (RFC 6901). Which value is at one is in `documents`.
 use Rattle.std.specs.Prelude.{ℕ, suc, List, [], ◌∷◌, ◌++◌, Bool, true, false, ◌&&◌}
 use Rattle.std.specs.Fmt.{digits_onto}
 use Rattle.documents.specs.Tests.{same_word, some}
@@ -8,7 +8,7 @@ use Rattle.documents.specs.Json.{Json, Items, no_items, item}
 abbrev pub Pointer : Type 0
 Pointer = List (List ℕ)
 
--- a value, and where it stands
+-- a value, and where it is
 abbrev pub Place : Type 0
 Place = Pointer × Json
 

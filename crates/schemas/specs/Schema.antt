@@ -91,7 +91,7 @@ need_words (Whole e) = true
 abbrev pub are_needs : List (List ℕ × Needs) → Bool
 are_needs ns = are_keys ns && every (λ n. need_words n.1) ns
 
--- `additionalItems` stands beside a list
+-- `additionalItems` is beside a list
 abbrev pub fits_items : Option ItemsPart → Option ℕ → Bool
 fits_items items None = true
 fits_items (Some (Listed es)) (Some e) = true

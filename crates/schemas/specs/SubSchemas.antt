@@ -37,7 +37,7 @@ abbrev pub in_needs : Pointer → Json → List Place
 in_needs p (object ms) = needs_under p ms
 in_needs p _ = []
 
--- in the value of a keyword of that shape, which stands at that pointer
+-- in the value of a keyword of that shape, which is at that pointer
 abbrev pub in_value : Shape → Pointer → Json → List Place
 in_value Schema p v = (p, v) ∷ []
 in_value SchemaOrList p v = in_list_or_one p v

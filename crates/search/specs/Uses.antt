@@ -21,7 +21,7 @@ module _ (has : ℕ → Bool) where
   added_fillers n (f ∷ fs) =
       cond (has f.goal) (repeated f.slot (min n f.room) f.goal ++ added_fillers (n - f.room) fs) (added_fillers n fs)
 
-  -- its members, and the fillers that it needs
+  -- the members of an alternative, and the fillers that it needs
   abbrev pub contents_of : Numbered → List NumberedPlaced
   contents_of a = a.members ++ added_fillers a.need a.fillers
 
@@ -34,7 +34,7 @@ abbrev pub round_before : Option (ℕ × ℕ) → ℕ
 round_before None = 0
 round_before (Some a) = before a.0
 
--- its alternative
+-- the alternative of a goal's answer
 abbrev pub chosen_in : List Numbered → Option (ℕ × ℕ) → Option Numbered
 chosen_in bs None = None
 chosen_in bs (Some a) = slice_get bs a.1

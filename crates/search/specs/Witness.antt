@@ -21,12 +21,12 @@ abbrev pub sorted : List (List ℕ × ℕ) → List (List ℕ × ℕ)
 sorted [] = []
 sorted (m ∷ ms) = put m.0 m.1 (sorted ms)
 
--- where a goal stands in a list of goals
+-- where a goal is in a list of goals
 abbrev pub place_in : List ℕ → ℕ → ℕ
 place_in [] n = 0
 place_in (m ∷ ms) n = cond (nat_eq n m) 0 (suc (place_in ms n))
 
--- the part of a shape and what stands in it, with the words of the branch; `place` numbers goals
+-- the part of a shape and what is in it, with the words of the branch; `place` numbers goals
 module _ (words : ℕ → ℕ → List ℕ) (place : ℕ → ℕ) where
   abbrev pub named : NumberedPlaced → List ℕ × ℕ
   named p = (slot_name words p.slot, place p.goal)

@@ -1,14 +1,14 @@
--- The parts of a goal one after another: what one contains stands before it.
+-- The parts of a goal one after another: what one contains comes before it.
 use Rattle.std.proofs.Common.{◌≡◌, ◌≢◌, ℕ, zero, suc, ◌+◌, ◌<◌, ◌⊎◌, inl, inr, List, [], ◌∷◌, ◌++◌, map, filter, length, take, get_or, set, get_or-set_same, get_or-set_other, true, false, cond, nat_eq, Option, Some, None, slice_get, refl, ap, ap₂, sym, ◌∙◌, subst, arith, true≢false, eq-eqb}
 use Rattle.std.proofs.lemmas.Bool.Decides.{eqb_tells}
 use Rattle.std.proofs.lemmas.List.{take_more, map-append}
 use Rattle.documents.specs.Kind.{Kind}
 use Rattle.goals.specs.Signed.{Signed}
 use Rattle.list_laws.specs.In.{IsIn, Distinct}
-use Rattle.list_laws.proofs.Lists.{in_append}
-use Rattle.list_laws.proofs.Counts.{distinct_filter}
+use Rattle.list_laws.proofs.Lists.{from_append}
+use Rattle.list_laws.proofs.Counts.{Distinct-filter}
 use Rattle.cell_laws.proofs.Lists.{distinct_append}
-use Rattle.list_laws.proofs.Pigeons.{range_distinct}
+use Rattle.list_laws.proofs.Pigeons.{Distinct-range}
 use Rattle.shared_documents.specs.Part as P
 use Rattle.shared_documents.specs.Part.{Part, names_below, first_forward}
 use Rattle.alternatives.specs.Alternative.{Shape, Null, Truth, Number, Text, Elements, Members}
@@ -31,12 +31,12 @@ order_distinct expansion f zero = tt
 order_distinct expansion f (suc r) =
     distinct_append (in_order expansion f r) (filter (is_added expansion f r) (numbers expansion f))
     (order_distinct expansion f r)
-    (distinct_filter (is_added expansion f r) (numbers expansion f) (range_distinct 0 (length f.goals)))
+    (Distinct-filter (is_added expansion f r) (numbers expansion f) (Distinct-range 0 (length f.goals)))
     (λ n i j. true≢false (sym (has_order expansion f r n i) ∙ (from_added expansion f r n j).1))
 
 pub used_distinct : (expansion : List Signed → Expansion) (f : Found) (n : ℕ) → Distinct (used_goals expansion f n)
 used_distinct expansion f n =
-    distinct_filter (uses expansion f (length f.goals) n) (in_order expansion f (length f.goals))
+    Distinct-filter (uses expansion f (length f.goals) n) (in_order expansion f (length f.goals))
     (order_distinct expansion f (length f.goals))
 
 -- places
@@ -131,6 +131,7 @@ module _ (words : List Signed → Kind → ℕ → ℕ → ℕ → List ℕ) (ex
         (rise_to expansion f e.q (length f.goals) p.goal (let few = e.few in omega (arith, few)) w.round_has))
         (omega (arith, b, at))))
 
+    -- what holds of the parts below place i holds below place i + 1, with the part of the next goal
     pub made_on : (i : ℕ) (made more : List Part) (places next : List ℕ) (o : ℕ) → i < length Used → o ≡ get_or Used i 0
         → o < length places → Made i made places
         → more ≡ made ++ part words expansion f (λ m. get_or places m 0) o ∷ []
@@ -144,7 +145,7 @@ module _ (words : List Signed → Kind → ℕ → ℕ → ℕ → List ℕ) (ex
           ∙ ap (map (part words expansion f (place_in (used_goals expansion f n)))) (sym (take_more Used i 0 l));
       numbers = λ m j.
           ap (λ z. get_or z m 0) k
-          ∙ go m (eqb_tells m o) (in_append m (take i Used) (get_or Used i 0 ∷ [])
+          ∙ go m (eqb_tells m o) (from_append m (take i Used) (get_or Used i 0 ∷ [])
           (subst (λ z. IsIn m z) (take_more Used i 0 l) j));
     } where
       own : place_in (used_goals expansion f n) o ≡ i

@@ -21,7 +21,7 @@ use Rattle.search_laws.proofs.Settled.{rise_to}
 use Rattle.search_laws.proofs.Answers.{Enters, Least, answer_least}
 use Rattle.std.proofs.Math.Bool.{or-false}
 
--- what stands at a slot, with the document of its goal
+-- what is at a slot, with the document of its goal
 abbrev pub placed_document : (ℕ → Document) → NumberedPlaced → Slot × Document
 placed_document D p = (p.slot, D p.goal)
 
@@ -211,7 +211,7 @@ module _ (words : List Signed → Kind → ℕ → ℕ → ℕ → List ℕ) (ex
   document_over : (q n : ℕ) → Round q n ≡ false → Doc (suc q) n ≡ Over q (slice_get f.goals n)
   document_over q n e = ap (λ b. cond b (Doc q n) (Over q (slice_get f.goals n))) e
 
-  -- what stands in an alternative, with the documents of round q
+  -- what is in an alternative, with the documents of round q
   abbrev pub By : ℕ → List Signed → Numbered → Document
   By q g a = by_shape (words g a.kind a.branch) a.shape
       (map (placed_document (document words expansion f q)) (contents_of (round expansion f q) a))

@@ -1,5 +1,6 @@
 pub mod Numbers
 pub mod Whole
+pub mod First
 pub mod Rounds
 pub mod Rise
 pub mod Settled

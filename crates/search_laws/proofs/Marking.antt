@@ -5,7 +5,7 @@ use Rattle.std.proofs.lemmas.Bool.{and_parts, and_from, or_cases, or_left, or_ri
 use Rattle.documents.specs.Tests.{some}
 use Rattle.goals.specs.Signed.{Signed}
 use Rattle.list_laws.specs.In.{IsIn}
-use Rattle.list_laws.proofs.Lists.{in_append, in_right}
+use Rattle.list_laws.proofs.Lists.{from_append, in_right}
 use Rattle.list_laws.proofs.Tests.{some_find, some_from}
 use Rattle.alternatives.specs.Expansion.{Expansion}
 use Rattle.search.specs.Explored.{Found}
@@ -28,7 +28,7 @@ drop_front zero xs ys l = refl
 drop_front (suc n) [] ys l = absurd (omega (arith, l))
 drop_front (suc n) (x ∷ xs) ys l = drop_front n xs ys (omega (arith, l))
 
--- what stands at a place of a list is in it
+-- what is at a place of a list is in it
 pub in_at : {A : Type 0} (xs : List A) (j : ℕ) (d : A) → j < length xs → IsIn (get_or xs j d) xs
 in_at xs j d l = at_rest [] xs j d (omega arith) l
 
@@ -81,7 +81,7 @@ module _ (expansion : List Signed → Expansion) (f : Found) (n : ℕ)
                 s,
               )
 
-  -- what contains the goal at place j stands behind it
+  -- what contains the goal at place j comes behind it
   holder_behind : (j h : ℕ) (p : NumberedPlaced) → j < length Order → uses expansion f Count n h ≡ true
       → IsIn p (contents expansion f h) → p.goal ≡ get_or Order j 0 → IsIn h (drop (suc j) Order)
   holder_behind j h p l u i s =
@@ -101,7 +101,7 @@ module _ (expansion : List Signed → Expansion) (f : Found) (n : ℕ)
       (subst (λ z. IsIn h z) (sym (drop_front (suc j) (in_order expansion f e.q) b.rest (omega (arith, front))))
       (in_right h (drop (suc j) (in_order expansion f e.q)) b.rest
       (rest_of (in_order expansion f e.q) b.rest
-      (in_append h (in_order expansion f e.q) b.rest (subst (λ z. IsIn h z) split (order_has expansion f Count h r)))
+      (from_append h (in_order expansion f e.q) b.rest (subst (λ z. IsIn h z) split (order_has expansion f Count h r)))
       (λ k. true≢false (sym (has_order expansion f e.q h k) ∙ x.before)))))
     where
       go : (xs ys : List ℕ) → Order ≡ xs ++ ys → (length xs ≤ j → ⊥) → j < length xs
@@ -114,7 +114,7 @@ module _ (expansion : List Signed → Expansion) (f : Found) (n : ℕ)
       rest_of xs ys (inl k) lacks = absurd (lacks k)
       rest_of xs ys (inr k) lacks = k
 
-  -- the mark of the goal at a place tells whether it is used
+  -- the mark of the goal at a place says whether it is used
   pub mark_tells : (j : ℕ) → j < length Order
       → marked (drop (suc j) Order) (get_or Order j 0) ≡ uses expansion f Count n (get_or Order j 0)
   mark_tells j l = same_test (marked (drop (suc j) Order) o) (uses expansion f Count n o) forth back where

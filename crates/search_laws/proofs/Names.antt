@@ -6,7 +6,7 @@ use Rattle.documents.specs.Tests.{every, some, same_word}
 use Rattle.goals.specs.Signed.{Signed}
 use Rattle.list_laws.specs.In.{IsIn}
 use Rattle.list_laws.proofs.Lists.{in_left, in_right, from_flat_map}
-use Rattle.list_laws.proofs.Tests.{some_none, none_at, same_word_comm}
+use Rattle.list_laws.proofs.Tests.{none_from, none_at, same_word_comm}
 use Rattle.alternatives.specs.Alternative.{Slot, Index, Name, Shape, Null, Truth, Number, Text, Elements, Members, Placed, Filler, Alternative}
 use Rattle.alternatives.specs.Slots.{capacity, cell_at, word_at, has_room, has_text, has_words, next_slot, slots_from, slots_of, same_slot, are_different, has_different_slots, has_different_words, fits_slot, has_fitting_slots}
 use Rattle.alternatives.specs.Expansion.{Expansion}
@@ -16,8 +16,8 @@ use Rattle.search.specs.Rounds.{NumberedPlaced, Numbered, with_member, with_fill
 use Rattle.search.specs.Uses.{repeated, added_fillers, contents_of}
 use Rattle.search.specs.Witness.{named}
 use Rattle.search_laws.proofs.Built.{number_as}
-use Rattle.list_laws.proofs.Every.{every-append}
-use Rattle.position_laws.proofs.Lists.{every-map}
+use Rattle.list_laws.proofs.Every.{every_joined}
+use Rattle.list_laws.proofs.Elements.{every-map}
 
 -- a list with some elements left out
 pub data Sub {A : Type 0} : List A → List A → Type 0 where
@@ -160,7 +160,7 @@ every_flat : {A B : Type 0} (p : B → Bool) (h : A → List B) (q : A → Bool)
 every_flat p h q [] k e = refl
 every_flat p h q (x ∷ xs) k e =
     let (a, b) = and_parts (q x) (every q xs) e in
-    every-append p (h x) (flat_map h xs) (k x a) (every_flat p h q xs k b)
+    every_joined p (h x) (flat_map h xs) (k x a) (every_flat p h q xs k b)
 
 module _ (cells : List (List (List ℕ))) where
   slots_room : (s : Slot) (n : ℕ) → has_room cells s n ≡ true → every (λ s. has_room cells s 1) (slots_from s n) ≡ true
@@ -181,7 +181,7 @@ module _ (cells : List (List (List ℕ))) where
       let (x, fs) = and_parts (has_text cells a.shape && every (λ m. has_room cells m.slot 1) a.members)
       (every (λ f. has_room cells f.slot f.room) a.fillers) e in
       let (t, ms) = and_parts (has_text cells a.shape) (every (λ m. has_room cells m.slot 1) a.members) x in
-      every-append (λ s. has_room cells s 1) (map (λ m. m.slot) a.members) (flat_map (λ f. slots_from f.slot
+      every_joined (λ s. has_room cells s 1) (map (λ m. m.slot) a.members) (flat_map (λ f. slots_from f.slot
       f.room) a.fillers)
       (every-map (λ s. has_room cells s 1) (λ (m : Placed). m.slot) a.members ∙ ms)
       (every_flat (λ s. has_room cells s 1) (λ f. slots_from f.slot f.room) (λ f. has_room cells f.slot f.room)
@@ -205,7 +205,7 @@ cell_in (ws ∷ cells) zero k l = in_left (get_or ws k []) ws (flat_map (λ word
 cell_in (ws ∷ cells) (suc c) k l =
     in_right (word_at cells c k) ws (flat_map (λ words. words) cells) (cell_in cells c k l)
 
--- of two lists joined
+-- two lists without repeats, of which no element is in both
 record Both {A : Type 0} (same : A → A → Bool) (xs ys : List A) : Type 0 where
   left : are_different same xs ≡ true
   right : are_different same ys ≡ true
@@ -221,7 +221,7 @@ different_append same (x ∷ xs) ys e =
     record {
       left = and_from (not (some (same x) xs)) (are_different same xs)
           (not_from (some (same x) xs)
-          (some_none (same x) xs (λ y i. none_at (same x) y (xs ++ ys) n (in_left y xs ys i)))) more.left;
+          (none_from (same x) xs (λ y i. none_at (same x) y (xs ++ ys) n (in_left y xs ys i)))) more.left;
       right = more.right;
       across = λ u v i j. go u v n more.across i j;
     }
@@ -335,7 +335,7 @@ all_fit : (a : Alternative) → has_fitting_slots a ≡ true → every (fits_slo
 all_fit a e =
     let (ms, fs) = and_parts (every (λ m. fits_slot a.shape m.slot) a.members)
     (every (λ f. fits_slot a.shape f.slot) a.fillers) e in
-    every-append (fits_slot a.shape) (map (λ m. m.slot) a.members) (flat_map (λ f. slots_from f.slot f.room) a.fillers)
+    every_joined (fits_slot a.shape) (map (λ m. m.slot) a.members) (flat_map (λ f. slots_from f.slot f.room) a.fillers)
     (every-map (fits_slot a.shape) (λ (m : Placed). m.slot) a.members ∙ ms)
     (every_flat (fits_slot a.shape) (λ f. slots_from f.slot f.room) (λ f. fits_slot a.shape f.slot) a.fillers
     (λ f h. slots_fit a.shape f.slot f.room h) fs)
@@ -360,7 +360,7 @@ numbered_from gs bs a i =
       go b j (Some ns) e (inl s) = record { alternative = b; members = ns; is_in = j; numbers = e; is = s }
       go b j (Some ns) e (inr n) = absurd n
 
--- what stands at a place of a list is in it
+-- what is at a place of a list is in it
 pub get_in : {A : Type 0} (xs : List A) (i : ℕ) (x : A) → slice_get xs i ≡ Some x → IsIn x xs
 get_in [] i x e = cc
 get_in (y ∷ xs) zero x e = inl (some_same e) where

@@ -25,7 +25,7 @@ pub same_goal_itself : (g : List Signed) → same_goal g g ≡ true
 same_goal_itself [] = refl
 same_goal_itself (x ∷ g) = and_from (same_signed x x) (same_goal g g) (same_signed-itself x) (same_goal_itself g)
 
--- the number of a goal is where it stands
+-- the number of a goal is where it is
 pub number_at : (gs : List (List Signed)) (g : List Signed) (n : ℕ) → number_in gs g ≡ Some n
     → slice_get gs n ≡ Some g
 number_at [] g n e = cc

@@ -8,7 +8,7 @@ use Rattle.documents.specs.Document as D
 use Rattle.documents.specs.Document.{Document, items_of, members_of}
 use Rattle.goals.specs.Signed.{Signed}
 use Rattle.list_laws.specs.In.{IsIn}
-use Rattle.list_laws.proofs.Lists.{every_from, to_filter}
+use Rattle.list_laws.proofs.Lists.{every_from, in_filter}
 use Rattle.list_laws.proofs.Tests.{from_filter}
 use Rattle.shared_documents.specs.Part as P
 use Rattle.shared_documents.specs.Part.{Part, part_at, names_below}
@@ -170,7 +170,7 @@ module _ (words : List Signed → Kind → ℕ → ℕ → ℕ → List ℕ) (ex
   abbrev Place : ℕ → ℕ
   Place m = place_in (used_goals expansion f n) m
 
-  -- a goal of a round stands before one that the round lacks
+  -- a goal of a round comes before one that the round lacks
   place_before : (q c m : ℕ) → q ≤ Count → uses expansion f Count n c ≡ true → Round q c ≡ true → Round q m ≡ false
       → Place c < Place m
   place_before q c m l u e h =
@@ -182,7 +182,7 @@ module _ (words : List Signed → Kind → ℕ → ℕ → ℕ → List ℕ) (ex
       q) b.rest
       in
       let left : place_in (low ++ high) c < length low =
-      place_left c low high (to_filter (uses expansion f Count n) c (in_order expansion f q) (order_has expansion f
+      place_left c low high (in_filter (uses expansion f Count n) c (in_order expansion f q) (order_has expansion f
       q c e) u)
       in
       let right : length low ≤ place_in (low ++ high) m =
@@ -197,7 +197,7 @@ module _ (words : List Signed → Kind → ℕ → ℕ → ℕ → List ℕ) (ex
 
   pub used_in : (m : ℕ) → uses expansion f Count n m ≡ true → Round Count m ≡ true → IsIn m Goals
   used_in m u e =
-      to_filter (uses expansion f Count n) m (in_order expansion f Count) (order_has expansion f Count m e) u
+      in_filter (uses expansion f Count n) m (in_order expansion f Count) (order_has expansion f Count m e) u
 
   pub in_used : (m : ℕ) → IsIn m Goals → (uses expansion f Count n m ≡ true) × (Round Count m ≡ true)
   in_used m i =

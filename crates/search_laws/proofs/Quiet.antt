@@ -3,7 +3,7 @@ use Rattle.std.proofs.Common.{◌≡◌, ℕ, zero, suc, ◌+◌, ◌-◌, ◌�
 use Rattle.std.proofs.lemmas.List.{append-nil}
 use Rattle.documents.specs.Tests.{some}
 use Rattle.goals.specs.Signed.{Signed}
-use Rattle.list_laws.proofs.Tests.{some_none}
+use Rattle.list_laws.proofs.Tests.{none_from}
 use Rattle.alternatives.specs.Expansion.{Expansion}
 use Rattle.search.specs.Explored.{Found}
 use Rattle.search.specs.Rounds.{round, answer}
@@ -49,7 +49,7 @@ module _ (expansion : List Signed → Expansion) (f : Found) (r : ℕ)
   last_same (suc k) =
       ap (λ z. last_within expansion f z) (suc-add k r)
       ∙ ap (λ b. cond b (suc (k + r)) (last_within expansion f (k + r)))
-      (some_none (is_added expansion f (k + r)) (numbers expansion f)
+      (none_from (is_added expansion f (k + r)) (numbers expansion f)
       (λ n i. nothing_added (k + r) n (omega arith)))
       ∙ last_same k
 

@@ -21,6 +21,7 @@ use Rattle.search.specs.Explored.{Found, number_in, is_listed}
 use Rattle.search.specs.Rounds.{numbered, is_met, alternatives_at, alternatives_of, test_or, by_number, round}
 use Rattle.search.specs.Documents.{of_number, of_alternative, of_goal, document}
 use Rattle.goals.specs.Tree.{first}
+use Rattle.search_laws.proofs.First.{first_met}
 use Rattle.search_laws.proofs.Numbers.{number_at, numbered_met, met_agree}
 use Rattle.search_laws.proofs.Whole.{Whole}
 use Rattle.expansions.specs.DocumentOf.{by_branch}
@@ -97,16 +98,6 @@ module _ (T : List Position) (ok : IsTable T) (words : Kind → List Signed → 
 
   abbrev Has : ℕ → ℕ → Document → Type 0
   Has r n J = (g : List Signed) × (slice_get f.goals n ≡ Some g) × IsMade T r g J
-
-  first_met : (p : Alternative → Bool) (bs : List Alternative) → some p bs ≡ true
-      → (a : Alternative) × (first p bs ≡ Some a) × IsIn a bs × (p a ≡ true)
-  first_met p [] e = cc
-  first_met p (b ∷ bs) e = go (p b) refl e (first_met p bs) where
-    go : (t : Bool) → p b ≡ t → (t || some p bs) ≡ true
-        → (some p bs ≡ true → (a : Alternative) × (first p bs ≡ Some a) × IsIn a bs × (p a ≡ true))
-        → (a : Alternative) × (cond t (Some b) (first p bs) ≡ Some a) × IsIn a (b ∷ bs) × (p a ≡ true)
-    go true h e more = (b, refl, inl refl, h)
-    go false h e more = let (a, x, y, z) = more e in (a, x, inr y, z)
 
   module _ (r : ℕ) (before : (n : ℕ) → Round r n ≡ true → Has r n (Doc r n)) where
     abbrev Can' : List Signed → Bool

@@ -7,10 +7,10 @@ use Rattle.std.proofs.lemmas.List.Elements.{filter-append}
 use Rattle.documents.specs.Tests.{every, some}
 use Rattle.goals.specs.Signed.{Signed}
 use Rattle.list_laws.specs.In.{IsIn, Distinct}
-use Rattle.list_laws.proofs.Lists.{every_at, in_left, in_right, in_append, to_filter}
+use Rattle.list_laws.proofs.Lists.{every_at, in_left, in_right, from_append, in_filter}
 use Rattle.list_laws.proofs.Tests.{some_find, some_from, from_filter, in_range}
-use Rattle.list_laws.proofs.Counts.{distinct_filter}
-use Rattle.list_laws.proofs.Pigeons.{range_distinct}
+use Rattle.list_laws.proofs.Counts.{Distinct-filter}
+use Rattle.list_laws.proofs.Pigeons.{Distinct-range}
 use Rattle.alternatives.specs.Alternative.{Slot}
 use Rattle.alternatives.specs.Slots.{next_slot}
 use Rattle.alternatives.specs.Expansion.{Expansion}
@@ -20,7 +20,7 @@ use Rattle.search.specs.Uses.{repeated, added_fillers, contents_of, numbers, sat
 use Rattle.search_laws.proofs.Rise.{rises, answer_round}
 use Rattle.search_laws.proofs.Settled.{settled, rise_to}
 use Rattle.search_laws.proofs.Answers.{Enters, Least, answer_least, before_too, added_low}
-use Rattle.list_laws.proofs.Every.{every-append}
+use Rattle.list_laws.proofs.Every.{every_joined}
 use Rattle.list_laws.proofs.Booleans.{and_not-parts}
 
 -- lists
@@ -85,14 +85,14 @@ module _ (has : ℕ → Bool) where
         (repeated f.slot (min n f.room) f.goal ++ added_fillers has (n - f.room) fs)
         (added_fillers has n fs)) ≡ true
     go true e x y =
-        every-append (λ p. has p.goal) (repeated f.slot (min n f.room) f.goal)
+        every_joined (λ p. has p.goal) (repeated f.slot (min n f.room) f.goal)
         (added_fillers has (n - f.room) fs) (repeated_has f.slot (min n f.room) f.goal e) y
     go false e x y = x
 
   pub contents_have : (a : Numbered) → is_met has a ≡ true → every (λ p. has p.goal) (contents_of has a) ≡ true
   contents_have a e =
       let (m, r) = and_parts (every (λ m. has m.goal) a.members) (nat_le a.need (rooms has a.fillers)) e in
-      every-append (λ p. has p.goal) a.members (added_fillers has a.need a.fillers) m (fillers_have a.need a.fillers)
+      every_joined (λ p. has p.goal) a.members (added_fillers has a.need a.fillers) m (fillers_have a.need a.fillers)
 
 module _ (expansion : List Signed → Expansion) (f : Found) where
   abbrev Round : ℕ → ℕ → Bool
@@ -162,20 +162,6 @@ module _ (expansion : List Signed → Expansion) (f : Found) where
   uses_itself zero n = eq-eqb n n refl
   uses_itself (suc k) n =
       or_left (nat_eq n n) (some (λ p. uses expansion f k p.goal n) (contents expansion f n)) (eq-eqb n n refl)
-
-  uses_more : (k n m : ℕ) → Uses k n m ≡ true → Uses (suc k) n m ≡ true
-  uses_more zero n m e = or_left (nat_eq n m) (some (λ p. uses expansion f zero p.goal m) (contents expansion f n)) e
-  uses_more (suc k) n m e =
-      go (or_cases (nat_eq n m) (some (λ p. uses expansion f k p.goal m) (contents expansion f n)) e)
-      (λ x. uses_more k x m) where
-        go : (nat_eq n m ≡ true) ⊎ (some (λ p. uses expansion f k p.goal m) (contents expansion f n) ≡ true)
-            → ((x : ℕ) → Uses k x m ≡ true → Uses (suc k) x m ≡ true) → Uses (suc (suc k)) n m ≡ true
-        go (inl a) more = or_left (nat_eq n m) (some (λ p. uses expansion f (suc k) p.goal m) (contents expansion f
-            n)) a
-        go (inr a) more =
-            let (p, i, u) = some_find (λ p. uses expansion f k p.goal m) (contents expansion f n) a in
-            or_right (nat_eq n m) (some (λ p. uses expansion f (suc k) p.goal m) (contents expansion f n))
-            (some_from (λ p. uses expansion f (suc k) p.goal m) p (contents expansion f n) i (more p.goal u))
 
   uses_next : (k n h : ℕ) (p : NumberedPlaced) → Uses k n h ≡ true → IsIn p (contents expansion f h)
       → Uses (suc k) n p.goal ≡ true
@@ -272,7 +258,7 @@ module _ (expansion : List Signed → Expansion) (f : Found) where
 
   pub in_added : (r n : ℕ) → Round (suc r) n ≡ true → Round r n ≡ false → IsIn n (Added r)
   in_added r n e h =
-      to_filter (is_added expansion f r) n (numbers expansion f) (in_range Count n (added_low expansion f (suc r) n e))
+      in_filter (is_added expansion f r) n (numbers expansion f) (in_range Count n (added_low expansion f (suc r) n e))
       (added_from (Round (suc r) n) (Round r n) e h)
 
   pub from_added : (r n : ℕ) → IsIn n (Added r) → (Round (suc r) n ≡ true) × (Round r n ≡ false)
@@ -291,12 +277,12 @@ module _ (expansion : List Signed → Expansion) (f : Found) where
   -- each goal of the order is a goal of the round
   pub has_order : (r n : ℕ) → IsIn n (Order r) → Round r n ≡ true
   has_order zero n i = absurd i
-  has_order (suc r) n i = go (in_append n (Order r) (Added r) i) (has_order r n) where
+  has_order (suc r) n i = go (from_append n (Order r) (Added r) i) (has_order r n) where
     go : IsIn n (Order r) ⊎ IsIn n (Added r) → (IsIn n (Order r) → Round r n ≡ true) → Round (suc r) n ≡ true
     go (inl j) more = rises expansion f r n (more j)
     go (inr j) more = (from_added r n j).0
 
-  -- past a round stand goals that it lacks
+  -- past a round come goals that it lacks
   pub record Beyond (q r : ℕ) : Type 0 where
     pub rest : List ℕ
     pub is : Order r ≡ Order q ++ rest
@@ -314,7 +300,7 @@ module _ (expansion : List Signed → Expansion) (f : Found) where
         rest = b.rest ++ Added (k + q);
         is = ap (λ z. Order z) (suc-add k q) ∙ ap (λ l. l ++ Added (k + q)) b.is ∙ append_assoc (Order q) b.rest
             (Added (k + q));
-        later = λ m i. go b.rest m (in_append m b.rest (Added (k + q)) i) b.later;
+        later = λ m i. go b.rest m (from_append m b.rest (Added (k + q)) i) b.later;
       }
     where
       go : (rest : List ℕ) (m : ℕ) → IsIn m rest ⊎ IsIn m (Added (k + q))
@@ -357,6 +343,6 @@ module _ (expansion : List Signed → Expansion) (f : Found) where
 
       one : filter (uses expansion f Count n) (Added e.q) ≡ n ∷ []
       one = filter_one (uses expansion f Count n) n (Added e.q)
-          (distinct_filter (is_added expansion f e.q) (numbers expansion f) (range_distinct 0 Count))
+          (Distinct-filter (is_added expansion f e.q) (numbers expansion f) (Distinct-range 0 Count))
           (in_added e.q n x.has x.before) (used_itself n)
           (λ m i u. itself m i (used_below Count Count n m h e u))

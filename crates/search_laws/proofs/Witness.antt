@@ -40,6 +40,7 @@ module _ (F : Finders) (T : List Position) (ok : IsTable T)
     pub at : slice_get f.goals n ≡ Some goal
     pub made : IsMade T k goal J
 
+  -- the parts of a goal that round k has first are a document of depth at most k that meets it
   pub witness_made : (n k i : ℕ) → satisfied (expansion T (leaf F T)) f n ≡ Some (k, i)
       → IsWitness n k (unshared (parts (by_branch T (words_of F)) (expansion T (leaf F T)) f n)
       (place_in (used_goals (expansion T (leaf F T)) f n) n))

@@ -9,6 +9,7 @@ pub no_words : (cell count : ℕ) → count ≡ 0 → [] ≡ take count (cell_at
 no_words cell zero e = refl
 no_words cell (suc n) e = absurd (omega (arith, e))
 
+-- the words requested of the cell are none or the one word
 pub one_word : (cell count : ℕ) → cell < 1 → count ≤ capacity (cell_at cells cell) → (count ≡ 0 → ⊥)
     → chars (codes "a") ∷ [] ≡ take count (cell_at cells cell)
 one_word zero zero l k n = absurd (n refl)

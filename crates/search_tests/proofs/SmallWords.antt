@@ -20,6 +20,7 @@ letter_c = chars-IsAscii (codes "c") (search rules)
 letter_d : chars (codes "d") ≡ 100 ∷ []
 letter_d = chars-IsAscii (codes "d") (search rules)
 
+-- any words requested of cell 1 are the word "a" alone
 pub first_a : (cell count : ℕ) (v : List ℕ) → cell ≡ 1 → count ≤ capacity (cell_at cells cell) → count ≢ 0
     → v ≡ chars (codes "a") → v ∷ [] ≡ take count (cell_at cells cell)
 first_a zero count v e l n h = absurd (omega (arith, e))

@@ -7,6 +7,7 @@ use Rattle.finders.specs.Names.{cells_of}
 use Rattle.js_automaton.specs.declared.automaton.Automaton.{Automaton}
 use Rattle.js_objects.specs.Steps.{IsOfNames, cells_by}
 
+-- the cells that were found have the cell, and as many of its names as are requested
 pub names-there : (T : List Position) (S X : List Signed) (a : Automaton) → X ≡ S → IsOfNames T X a → (C : Cells)
     → C ≡ cells_by T X a → (cell count len most : ℕ) → len ≡ length C.vectors → cell < len
     → most ≡ min 65537 (length (C.words cell)) → count ≤ most

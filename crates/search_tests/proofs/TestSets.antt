@@ -11,6 +11,7 @@ is_in T x l = go x.plus where
   go true = lt-ltb x.pos.0 (length T) l
   go false = lt-ltb x.pos.0 (length T) l
 
+-- a list in the table is in the table with one more signed position of it
 pub in_table_more : (T : List Position) (xs : List Signed) (x : Signed) → are_in_table T (map signed_view xs) ≡ true
     → x.pos.0 < length T → are_in_table T (map signed_view (xs ++ x ∷ [])) ≡ true
 in_table_more T [] x h l = and_from (is_in_table T (signed_view x)) true (is_in T x l) refl

@@ -61,6 +61,6 @@ module _ (P : Alternative → Bool) (of_null : P null ≡ true) (of_array : (g :
     go true h = of_either r.has_null r.elements
     go false h = h
 
--- it takes each goal
+-- the expander of rows takes each goal
 pub takes_all : (rs : List Row) (g : List Signed) → every (λ h. true) (named (answer_to rs g).alternatives) ≡ true
 takes_all rs g = every_from (λ h. true) (named (answer_to rs g).alternatives) (λ h i. refl)

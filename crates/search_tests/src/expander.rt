@@ -1,4 +1,4 @@
-//! Expansions of goals of one table, with the values worked out by hand from what each kind asks.
+//! Expansions of goals of one table, with the values worked out by hand from what each kind requires.
 
 ghost use Rattle.std.specs.Prelude.{◌≡◌, length, true, IfOk, OnOk, map};
 ghost use Rattle.expander_laws.specs.Expander.{takes};
@@ -130,7 +130,7 @@ fn has_one_element(alternative: &Alternative) -> bool {
         && x.pos == Pos(3)
 }
 
-/// What asks nothing has a document of each kind, in the order of kinds.
+/// What requires nothing has a document of each kind, in the order of kinds.
 #[test]
 fn all_kinds(rt: HostRuntime) -> Result<(), Fail> {
     let core = table(rt.alloc())?;

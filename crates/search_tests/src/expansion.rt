@@ -14,7 +14,7 @@ use js_expansion::{
 use std::alloc::Global;
 use std::test::Fail;
 
-/// Each goal asks for an object with a member `a` that meets the same goal.
+/// Each goal requires an object with a member `a` that meets the same goal.
 struct Nested;
 
 impl Expander for Nested {

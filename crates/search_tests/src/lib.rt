@@ -1,7 +1,7 @@
 //! Tests of the leaves of the search, of expansions, rounds and decisions, with small expanders of their own.
 //!
-//! They stand beside the crates that they test, as only what is public is tested: so no crate is proved once more for
-//! its tests.
+//! They are kept beside the crates that they test, as only what is public is tested: so no crate is proved once more
+//! for its tests.
 #![tactic(auto)]
 
 #[cfg(test)]

@@ -110,8 +110,8 @@ fn answer(alloc: Global, core: &Core, positions: &[u32]) -> Result<String, Fail>
 fn by_hand(rt: HostRuntime) -> Result<(), Fail> {
     let core = table(rt.alloc())?;
     // The first set has rows of "", a, b, aa and ba; the second of "", a, b, c and d; the third of "", a, x, y and yy;
-    // the fourth of "" and a, since a state tells whether a word is empty; the last of "", a, b and c. The third has
-    // one literal fewer that speaks of names than positions, and the fourth none.
+    // the fourth of "" and a, since a state says whether a word is empty; the last of "", a, b and c. The third has one
+    // literal fewer that speaks of names than positions, and the fourth none.
     let cases = [
         (
             [0, 1, 3].as_slice(),

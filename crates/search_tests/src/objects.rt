@@ -3,15 +3,18 @@
 
 ghost use Rattle.std.specs.Prelude.{◌≡◌, IfOk, length, true};
 ghost use Rattle.js_algebra.specs.View.{are_in_table};
+ghost use Rattle.js_objects.specs.Steps.{IsOfNames};
 
 use js_algebra::{
     BranchId, Core, JsonKind, KindList, NameSet, Node, NodeList, Pattern, PatternList, Pos,
     RankList, Signed, SignedList,
 };
+use js_automaton::Automaton;
 use js_cells::Cells;
 use js_doc::{Memory, Str, StrList};
 use js_expansion::{Alternative, Leaf, Slot};
-use js_objects::{KeptNames, Names, ObjectFault, object_alternatives, object_words};
+use js_kept_automaton::KeptAutomaton;
+use js_objects::{ObjectFault, name_automaton, object_alternatives, object_words};
 use js_pattern::read_pattern;
 use js_tableau::Branch;
 use std::alloc::Global;
@@ -105,7 +108,7 @@ fn answer(
     minus: &[u32],
 ) -> Result<Result<Leaf, ObjectFault>, Fail> {
     let branch = branch(alloc, core, plus, minus)?;
-    Ok(object_alternatives(alloc, core, &branch, &mut KeptNames::new()))
+    Ok(object_alternatives(alloc, core, &branch, &mut KeptAutomaton::new()))
 }
 
 /// For each alternative: the slot and the positions of each member, those with minus from 100 on; the need; and the
@@ -300,8 +303,27 @@ fn names(
     requires { are_in_table core.now.positions branch.now.set ≡ true }
 {
     let set = branch.set.as_slice();
-    let found = Names::of_set(alloc, core, set, None)?;
-    let cells = Cells::new(alloc, core, set, &found.automaton)?;
+    let mut kept = KeptAutomaton::new();
+    match name_automaton(alloc, core, set, &mut kept) {
+        Ok(automaton) => names_of(alloc, core, branch, automaton, cell, count),
+        Err(_) => Err("no automaton")?,
+    }
+}
+
+/// The same by the automaton of the names.
+fn names_of(
+    alloc: Global,
+    core: &Core,
+    branch: &Branch,
+    automaton: &Automaton,
+    cell: u32,
+    count: u32,
+) -> Result<StrList, Fail>
+    requires in_table { are_in_table core.now.positions branch.now.set ≡ true }
+    requires automaton { IsOfNames core.now.positions branch.now.set automaton.now }
+{
+    let set = branch.set.as_slice();
+    let cells = Cells::new(alloc, core, set, automaton)?;
     if cell >= cells.len() {
         return Err("no such cell")?;
     }

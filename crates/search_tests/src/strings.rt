@@ -8,6 +8,7 @@ use js_algebra::{
 };
 use js_automaton::AutoFault;
 use js_doc::{Str, StrList};
+use js_kept_automaton::KeptAutomaton;
 use js_pattern::read_pattern;
 use js_strings::{string_alternatives, string_words};
 use js_tableau::Branch;
@@ -36,12 +37,24 @@ fn table(alloc: Global, pattern: &str, word: &str, low: u64, high: u64) -> Resul
 fn answer(alloc: Global, core: &Core, set: SignedList) -> Result<Str, Fail>
     requires { are_in_table core.now.positions set ≡ true }
 {
+    answer_by(alloc, core, set, &mut KeptAutomaton::new())
+}
+
+/// The same with what was kept of other sets, which changes nothing.
+fn answer_by(
+    alloc: Global,
+    core: &Core,
+    set: SignedList,
+    kept: &mut KeptAutomaton,
+) -> Result<Str, Fail>
+    requires { are_in_table core.now.positions set ≡ true }
+{
     let id = BranchId {
         kind: JsonKind::Text,
         number: 0,
     };
     let branch = Branch { id, set };
-    let leaf = match string_alternatives(alloc, core, &branch) {
+    let leaf = match string_alternatives(alloc, core, &branch, kept) {
         Ok(leaf) => leaf,
         Err(AutoFault::LimitStates) => return Ok(Str::from_text(alloc, "states")?),
         Err(_) => return Err("another fault")?,
@@ -90,6 +103,19 @@ fn all_four(rt: HostRuntime) -> Result<(), Fail> {
             Signed::plus(Pos(2)),
             Signed::plus(Pos(3)),
         ]?;
+        let found = answer(rt.alloc(), &core, SignedList::from_vec(set))?;
+        assert_eq!(rt; found.as_text(), wanted);
+    }
+    Ok(())
+}
+
+/// All words with these digits have eight characters or more.
+#[test]
+fn digits(rt: HostRuntime) -> Result<(), Fail> {
+    let cases = [(8, "000-0000"), (7, "none")];
+    for (high, wanted) in cases {
+        let core = table(rt.alloc(), r"\d{3}-\d{4}", "b", 0, high)?;
+        let set = vec![in rt.alloc(); Signed::plus(Pos(0)), Signed::plus(Pos(3))]?;
         let found = answer(rt.alloc(), &core, SignedList::from_vec(set))?;
         assert_eq!(rt; found.as_text(), wanted);
     }

@@ -36,7 +36,7 @@ names_the_first = refl
 names_fall : is_table (null ∷ object ((codes "b", 0) ∷ (codes "a", 0) ∷ []) ∷ []) ≡ false
 names_fall = refl
 
--- and no name stands twice
+-- no name is there twice
 name_twice : is_table (null ∷ object ((codes "a", 0) ∷ (codes "a", 0) ∷ []) ∷ []) ≡ false
 name_twice = refl
 
@@ -44,7 +44,7 @@ name_twice = refl
 first_in_order : first_forward 2 (array (1 ∷ 3 ∷ 2 ∷ 4 ∷ [])) ≡ Some 3
 first_in_order = refl
 
--- of members too
+-- of members too, the first number that isn't below is reported
 first_member : first_forward 2 (object ((codes "a", 1) ∷ (codes "b", 2) ∷ (codes "c", 3) ∷ [])) ≡ Some 2
 first_member = refl
 

@@ -17,6 +17,6 @@ abbrev pub unshared_within : List Part → ℕ → ℕ → D.Document
 unshared_within ps zero i = D.null
 unshared_within ps (suc n) i = built (unshared_within ps n) (part_at ps i)
 
--- what a part names has a smaller number, so no more than i + 1 parts stand one below another
+-- what a part names has a smaller number, so no more than i + 1 parts are one below another
 unfoldable pub unshared : List Part → ℕ → D.Document
 unshared ps i = unshared_within ps (suc i) i

@@ -1,4 +1,4 @@
--- Characters that no position's set tells apart lead to one state.
+-- Characters that no position's set distinguishes lead to one state.
 use Rattle.std.proofs.Common.{◌≡◌, ℕ, zero, suc, ◌+◌, ◌-◌, max, Bool, true, false, ◌&&◌, ◌||◌, List, [], ◌∷◌, ◌++◌, Some, None, refl, sym, ◌∙◌, ap, subst, arith, inl}
 use Rattle.patterns.specs.CharSet.{has}
 use Rattle.patterns.specs.Tree.{Tree, Trees, empty, one_of, at_start, at_end, in_turn, either, repeated, no_trees, tree}
@@ -83,7 +83,7 @@ next_alike : (t : Tree) (first : Bool) (c d : ℕ) (state : PatternState)
 next_alike t first c d done f = refl
 next_alike t first c d (reading ps) f = ap (state_with t) (reads_alike first (is_among ps) c d t f 0 true)
 
--- characters that no set tells apart lead to one state
+-- characters that no set distinguishes lead to one state
 pub same_state_of_same : SameStateOfSame
 same_state_of_same t v w c d e s f =
     state_goes_on t v c

@@ -7,9 +7,9 @@ use Rattle.std.proofs.Math.Bool.{or-false, or-true, and-false}
 use Rattle.patterns.specs.Tree.{Tree}
 use Rattle.word_states.specs.Position.{count_of, sets_of}
 use Rattle.state_laws.specs.Flow.{ends_here, is_among, flag_at, state_with}
-use Rattle.state_laws.specs.Rows.{or_each, and_each, sets_have, none_read, only, may_follow, follow_each, ends_each}
-use Rattle.state_laws.specs.UnionLaws.{IsEither, IsQuiet, EndsOfEach, FollowsEach, NextOfEach, StepsByRows}
-use Rattle.state_laws.proofs.RowsLemmas.{or_each_none, or_each_no_flags, length_follow}
+use Rattle.state_laws.specs.FollowSets.{or_each, and_each, sets_have, none_read, only, may_follow, follow_each, ends_each}
+use Rattle.state_laws.specs.UnionLaws.{IsEither, IsQuiet, EndsOfEach, FollowsEach, NextOfEach, StepsByFollowSets}
+use Rattle.state_laws.proofs.FollowSetsLemmas.{or_each_none, or_each_no_flags, length_follow}
 use Rattle.state_laws.proofs.EndsUnion.{ends_join}
 use Rattle.state_laws.proofs.FollowsUnion.{follow_joins}
 use Rattle.state_laws.proofs.Sets.{next_asks_sets}
@@ -19,7 +19,7 @@ use Rattle.state_laws.proofs.Nothing.{nothing_ends, nothing_follows}
 abbrev below : ℕ → (ℕ → Bool) → ℕ → Bool
 below n read p = nat_lt p n && read p
 
--- and from it on
+-- what was read from a number on
 abbrev from : ℕ → (ℕ → Bool) → ℕ → Bool
 from n read p = (if nat_lt p n then false else true) && read p
 
@@ -56,7 +56,7 @@ one_more n read r p = elim (cases_eq p n) [
       ∙ sym (ap (λ b. below n read p || b) (ne_eqb p n d) ∙ or-false (below n read p))
 ]
 
--- or which was not
+-- where the next number wasn't read, what was read below it is the same
 no_more : (n : ℕ) (read : ℕ → Bool) → read n ≡ false → (p : ℕ) → below (suc n) read p ≡ below n read p
 no_more n read r p = elim (cases_eq p n) [
   | inl e ↦
@@ -147,8 +147,8 @@ pub next_of_each : NextOfEach
 next_of_each t first read c b =
     next_asks_sets t first read c 0 b ∙ ap (λ z. and_each z (sets_have (sets_of t) c)) (follows_each t first read b)
 
-pub steps_by_rows : StepsByRows
-steps_by_rows = record {
+pub steps_by_follow_sets : StepsByFollowSets
+steps_by_follow_sets = record {
   steps = λ t first c ps. ap (state_with t) (next_of_each t first (is_among ps) c true);
   is_done = λ t flags. ends_of_each t false false (flag_at flags) true;
   accepts = λ t first ps. ends_of_each t first true (is_among ps) true;

@@ -17,7 +17,7 @@ use Rattle.state_laws.proofs.Pieces.{same_ends, pieces, piece, pieces_end, piece
 use Rattle.state_laws.proofs.Flags.{Agrees, agrees_left, agrees_right, length_read}
 use Rattle.list_laws.proofs.Numbers.{suc-sub_one}
 use Rattle.list_laws.proofs.Booleans.{same_test}
-use Rattle.list_laws.proofs.Tests.{in_any, from_any}
+use Rattle.list_laws.proofs.Tests.{any_from, any_find}
 
 copies_same : (f g : List ℕ → List Bool) (step go : List ℕ → List ℕ) (n : ℕ)
     → ((xs ys : List ℕ) → Same n xs ys → f xs ≡ g ys) → ((xs ys : List ℕ) → Same n xs ys → Same n (step xs) (go ys))
@@ -164,7 +164,7 @@ module _ (w : List ℕ) (read : ℕ → Bool) where
   leaf_ends ranges xs = same_test _ _ to from where
     to : list_any (reads_end ranges w) xs ≡ true → is_among (flat_map (ends (one_of ranges) w) xs) (length w) ≡ true
     to h =
-        let (i, a, t) = from_any (reads_end ranges w) xs h in
+        let (i, a, t) = any_find (reads_end ranges w) xs h in
         let (u, v) = and_parts (nat_eq (suc i) (length w)) (has ranges (slice_index w i)) t in
         let e = eqb-true (suc i) (length w) u in
         in_among (length w) (flat_map (ends (one_of ranges) w) xs)
@@ -175,7 +175,7 @@ module _ (w : List ℕ) (read : ℕ → Bool) where
     from h =
         let (i, a, k) = from_flat_map (ends (one_of ranges) w) (length w) xs (from_among (length w) _ h) in
         let (e, l, t) = sound (one_of ranges) w i (length w) k in
-        in_any (reads_end ranges w) i xs a (and_from _ _ (eq-eqb (suc i) (length w) (sym e)) t)
+        any_from (reads_end ranges w) i xs a (and_from _ _ (eq-eqb (suc i) (length w) (sym e)) t)
 
   start_ends : (v : List ℕ) (xs : List ℕ)
       → is_among xs (length v) && is_empty v ≡ is_among (flat_map (ends at_start v) xs) (length v)

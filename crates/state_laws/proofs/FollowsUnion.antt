@@ -3,9 +3,9 @@ use Rattle.std.proofs.Common.{◌≡◌, ℕ, zero, suc, ◌+◌, ◌-◌, Bool,
 use Rattle.patterns.specs.Tree.{Tree, Trees, empty, one_of, at_start, at_end, in_turn, either, repeated, no_trees, tree}
 use Rattle.word_states.specs.Position.{count_of}
 use Rattle.state_laws.specs.Flow.{ends_here, next_copies, next_copies_on}
-use Rattle.state_laws.specs.Rows.{or_each, may_follow, may_follow_in_turn, may_follow_of_one}
+use Rattle.state_laws.specs.FollowSets.{or_each, may_follow, may_follow_in_turn, may_follow_of_one}
 use Rattle.state_laws.specs.UnionLaws.{IsEither, FollowJoins}
-use Rattle.state_laws.proofs.RowsLemmas.{or_each_append, length_follow}
+use Rattle.state_laws.proofs.FollowSetsLemmas.{or_each_append, length_follow}
 use Rattle.state_laws.proofs.EndsUnion.{Joins, again_joins, ends_join}
 
 -- ---- copies

@@ -14,10 +14,10 @@ pub mod Next
 pub mod States
 -- The test on atoms says whether they are equal.
 pub mod SameAtoms
--- Characters that no position's set tells apart.
+-- Characters that no position's set distinguishes.
 pub mod Alike
 -- Lists of flags, joined position by position.
-pub mod RowsLemmas
+pub mod FollowSetsLemmas
 -- Whether a match can end is a union.
 pub mod EndsUnion
 -- What may follow one of two sets of positions is what may follow the one or the other.

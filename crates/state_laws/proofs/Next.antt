@@ -16,7 +16,7 @@ use Rattle.state_laws.proofs.Flags.{Agrees, agrees_left, agrees_right, length_re
 use Rattle.state_laws.proofs.Ends.{read_open, steps_open, ends_law, ends_pieces}
 use Rattle.list_laws.proofs.Lists.{length-end}
 use Rattle.list_laws.proofs.Booleans.{same_test}
-use Rattle.list_laws.proofs.Tests.{in_any, from_any}
+use Rattle.list_laws.proofs.Tests.{any_from, any_find}
 
 -- ---- without end assertions it is as where a character comes next
 module _ (one two : ℕ → Bool → Bool) (same : (base : ℕ) (b : Bool) → one base b ≡ two base b) where
@@ -125,7 +125,7 @@ module _ (w : List ℕ) (c : ℕ) (read : ℕ → Bool) where
   leaf_next ranges xs ys s = same_test _ _ to from where
     to : list_any (reads_end ranges longer) xs ≡ true → (is_among ys (length w) && has ranges c) ≡ true
     to h =
-        let (i, a, t) = from_any (reads_end ranges longer) xs h in
+        let (i, a, t) = any_find (reads_end ranges longer) xs h in
         let (u, v) = and_parts (nat_eq (suc i) (length longer)) (has ranges (slice_index longer i)) t in
         let e : i ≡ length w = omega (arith, eqb-true (suc i) (length longer) u, length-end w c) in
         and_from _ _ (in_among (length w) ys (s.0 (length w) (omega arith) (subst (λ z. IsIn z xs) e a)))
@@ -134,7 +134,7 @@ module _ (w : List ℕ) (c : ℕ) (read : ℕ → Bool) where
     from : (is_among ys (length w) && has ranges c) ≡ true → list_any (reads_end ranges longer) xs ≡ true
     from h =
         let (u, v) = and_parts (is_among ys (length w)) (has ranges c) h in
-        in_any (reads_end ranges longer) (length w) xs (s.1 (length w) (omega arith) (from_among (length w) ys u))
+        any_from (reads_end ranges longer) (length w) xs (s.1 (length w) (omega arith) (from_among (length w) ys u))
         (and_from _ _ (eq-eqb (suc (length w)) (length longer) (sym (length-end w c)))
         (subst (λ z. has ranges z ≡ true) (sym (last_index w c)) v))
 

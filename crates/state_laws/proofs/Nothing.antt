@@ -4,9 +4,9 @@ use Rattle.std.proofs.Common.{◌≡◌, ℕ, zero, suc, ◌+◌, ◌-◌, ◌*�
 use Rattle.patterns.specs.Tree.{Tree, Trees, empty, one_of, at_start, at_end, in_turn, either, repeated, no_trees, tree}
 use Rattle.word_states.specs.Position.{count_of, count_in, sets_of}
 use Rattle.state_laws.specs.Flow.{through_some, through_copies, through_copies_on, ends_here, ends_here_in_turn, ends_here_of_one, next_copies, next_copies_on}
-use Rattle.state_laws.specs.Rows.{and_each, no_flags, sets_have, may_follow, may_follow_in_turn, may_follow_of_one}
+use Rattle.state_laws.specs.FollowSets.{and_each, no_flags, sets_have, may_follow, may_follow_in_turn, may_follow_of_one}
 use Rattle.state_laws.specs.UnionLaws.{IsQuiet, NothingEnds, NothingFollows, NothingReads}
-use Rattle.state_laws.proofs.RowsLemmas.{no_flags_append, and_each_no_flags, length_sets_have, once}
+use Rattle.state_laws.proofs.FollowSetsLemmas.{no_flags_append, and_each_no_flags, length_sets_have, once}
 use Rattle.state_laws.proofs.Sets.{next_asks_sets}
 
 -- ---- parts of what is quiet

@@ -5,7 +5,7 @@ use Rattle.patterns.specs.CharSet.{has}
 use Rattle.patterns.specs.Tree.{Tree, Trees, empty, one_of, at_start, at_end, in_turn, either, repeated, no_trees, tree}
 use Rattle.patterns.specs.Match.{Repeats, Matches, MatchesInTurn, MatchesOne}
 use Rattle.patterns.specs.Decision.{ends}
-use Rattle.list_laws.proofs.Lists.{in_left, in_right, in_append, in_flat_map, from_flat_map}
+use Rattle.list_laws.proofs.Lists.{in_left, in_right, from_append, in_flat_map, from_flat_map}
 use Rattle.list_laws.specs.In.{IsIn}
 use Rattle.pattern_laws.proofs.Decides.{sound, complete}
 use Rattle.word_states.specs.PatternState.{without_end, all_without_end}
@@ -188,7 +188,7 @@ module _ (r : Tree) (w : List ℕ) where
 
     from : IsIn n (xs ++ piece (below n (pieces xs))) → IsIn n (pieces xs)
     from a =
-        elim (in_append n xs (piece (below n (pieces xs))) a) [
+        elim (from_append n xs (piece (below n (pieces xs))) a) [
           | inl i ↦ in_pieces 0 n n xs i (omega (arith, z)) refl
           | inr p ↦
               let (h, u, q) = from_flat_map (ends r w) n (below n (pieces xs)) p in

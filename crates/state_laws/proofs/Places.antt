@@ -3,18 +3,18 @@ use Rattle.std.proofs.lemmas.Bool.{or_cases, or_left, or_right, false_from_ne_tr
 use Rattle.std.proofs.Common.{◌≡◌, ℕ, ◌<◌, inl, inr, ⊎_elim, Bool, true, false, ◌||◌, nat_lt, nat_eq, List, [], ◌∷◌, ◌++◌, flat_map, if◌then◌else◌, refl, sym, ◌∙◌, ap, subst, arith}
 use Rattle.std.proofs.lemmas.Grind.{flat_map-append}
 use Rattle.std.specs.List.{list_any}
-use Rattle.list_laws.proofs.Lists.{in_left, in_right, in_append, in_flat_map, from_flat_map}
+use Rattle.list_laws.proofs.Lists.{in_left, in_right, from_append, in_flat_map, from_flat_map}
 use Rattle.list_laws.specs.In.{IsIn}
 use Rattle.state_laws.specs.Flow.{is_among}
 use Rattle.list_laws.proofs.Booleans.{same_test}
-use Rattle.list_laws.proofs.Tests.{in_any, from_any}
+use Rattle.list_laws.proofs.Tests.{any_from, any_find}
 
 pub in_among : (j : ℕ) (js : List ℕ) → IsIn j js → is_among js j ≡ true
-in_among j js h = in_any (nat_eq j) j js h (eq-eqb j j refl)
+in_among j js h = any_from (nat_eq j) j js h (eq-eqb j j refl)
 
 pub from_among : (j : ℕ) (js : List ℕ) → is_among js j ≡ true → IsIn j js
 from_among j js h =
-    let (x, i, t) = from_any (nat_eq j) js h in subst (λ z. IsIn z js) (sym (eqb-true j x t)) i
+    let (x, i, t) = any_find (nat_eq j) js h in subst (λ z. IsIn z js) (sym (eqb-true j x t)) i
 
 pub same_among : (j : ℕ) (xs ys : List ℕ) → (IsIn j xs → IsIn j ys) → (IsIn j ys → IsIn j xs)
     → is_among xs j ≡ is_among ys j
@@ -38,7 +38,7 @@ same_back n xs ys s = (s.1, s.0)
 pub any_fits : (test : ℕ → Bool) (n : ℕ) (xs ys : List ℕ) → ((i : ℕ) → test i ≡ true → i < n) → Fits n xs ys
     → list_any test xs ≡ true → list_any test ys ≡ true
 any_fits test n xs ys b f h =
-    let (x, i, t) = from_any test xs h in in_any test x ys (f x (b x t) i) t
+    let (x, i, t) = any_find test xs h in any_from test x ys (f x (b x t) i) t
 
 pub any_same : (test : ℕ → Bool) (n : ℕ) (xs ys : List ℕ) → ((i : ℕ) → test i ≡ true → i < n) → Same n xs ys
     → list_any test xs ≡ list_any test ys
@@ -94,7 +94,7 @@ pub among_append : (j : ℕ) (xs ys : List ℕ) → is_among (xs ++ ys) j ≡ is
 among_append j xs ys =
     same_test _ _
     (λ h. ⊎_elim (λ a. or_left _ _ (in_among j xs a)) (λ b. or_right _ _ (in_among j ys b))
-    (in_append j xs ys (from_among j (xs ++ ys) h)))
+    (from_append j xs ys (from_among j (xs ++ ys) h)))
     (λ h. in_among j (xs ++ ys) (⊎_elim (λ a. in_left j xs ys (from_among j xs a))
     (λ b. in_right j xs ys (from_among j ys b))
     (or_cases (is_among xs j) (is_among ys j) h)))
@@ -109,7 +109,7 @@ among_both f g j xs = same_test _ _ to from where
       let (x, i, k) = from_flat_map (λ i. f i ++ g i) j xs (from_among j (flat_map (λ i. f i ++ g i) xs) h) in
       ⊎_elim (λ a. or_left _ _ (in_among j (flat_map f xs) (in_flat_map f j x xs i a)))
       (λ b. or_right _ _ (in_among j (flat_map g xs) (in_flat_map g j x xs i b)))
-      (in_append j (f x) (g x) k)
+      (from_append j (f x) (g x) k)
 
   from : (is_among (flat_map f xs) j || is_among (flat_map g xs) j) ≡ true
       → is_among (flat_map (λ i. f i ++ g i) xs) j ≡ true

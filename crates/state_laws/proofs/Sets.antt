@@ -3,9 +3,9 @@ use Rattle.std.proofs.Common.{◌≡◌, ℕ, zero, suc, ◌+◌, ◌-◌, Bool,
 use Rattle.patterns.specs.Tree.{Tree, Trees, empty, one_of, at_start, at_end, in_turn, either, repeated, no_trees, tree}
 use Rattle.word_states.specs.Position.{count_of, times, sets_of, sets_in}
 use Rattle.state_laws.specs.Flow.{ends_here, next_copies, next_copies_on, reads_next, reads_next_in_turn, reads_next_of_one}
-use Rattle.state_laws.specs.Rows.{or_each, and_each, sets_have, may_follow, may_follow_in_turn, may_follow_of_one}
+use Rattle.state_laws.specs.FollowSets.{or_each, and_each, sets_have, may_follow, may_follow_in_turn, may_follow_of_one}
 use Rattle.state_laws.specs.UnionLaws.{NextAsksSets, NextJoins}
-use Rattle.state_laws.proofs.RowsLemmas.{and_each_append, and_each_or, length_follow, length_sets_have, sets_have_append, once}
+use Rattle.state_laws.proofs.FollowSetsLemmas.{and_each_append, and_each_or, length_follow, length_sets_have, sets_have_append, once}
 use Rattle.state_laws.proofs.FollowsUnion.{follow_joins}
 
 -- ---- copies

@@ -6,7 +6,7 @@ use Rattle.patterns.specs.CharSet.{has}
 use Rattle.patterns.specs.Tree.{Tree, Trees, empty, one_of, at_start, at_end, in_turn, either, repeated, no_trees, tree}
 use Rattle.patterns.specs.Match.{Matches, MatchesInTurn, MatchesOne, IsFoundIn}
 use Rattle.patterns.specs.Decision.{ends, is_empty, finds}
-use Rattle.list_laws.proofs.Lists.{in_left, in_right, in_append, in_flat_map, from_flat_map, length-end}
+use Rattle.list_laws.proofs.Lists.{in_left, in_right, from_append, in_flat_map, from_flat_map, length-end}
 use Rattle.list_laws.specs.In.{IsIn}
 use Rattle.pattern_laws.proofs.Decides.{sound, complete, finds-decides}
 use Rattle.word_states.specs.LastRead.{reads_end, in_copies, in_copies_on, last_read, last_read_in_turn, last_read_of_one}
@@ -19,7 +19,7 @@ use Rattle.state_laws.proofs.Flags.{Agrees, agrees_self, agrees_numbers}
 use Rattle.state_laws.proofs.Ends.{read_open, ends_law}
 use Rattle.state_laws.proofs.Next.{ends_open, next_law, earlier_index}
 use Rattle.list_laws.proofs.Booleans.{same_test}
-use Rattle.list_laws.proofs.Tests.{from_any}
+use Rattle.list_laws.proofs.Tests.{any_find}
 
 -- ---- places
 in_places : (n j : ℕ) → j ≤ n → IsIn j (places_to n)
@@ -34,7 +34,7 @@ from_places : (n j : ℕ) → IsIn j (places_to n) → j ≤ n
 from_places zero j (inl e) = omega (arith, e)
 from_places zero j (inr h) = absurd h
 from_places (suc n) j h =
-    elim (in_append j (places_to n) (suc n ∷ []) h) [
+    elim (from_append j (places_to n) (suc n ∷ []) h) [
       | inl a ↦ let l = from_places n j a in omega (arith, l)
       | inr (inl e) ↦ omega (arith, e)
       | inr (inr e) ↦ absurd e
@@ -285,7 +285,7 @@ none_copies_on reads step more f (suc n) base xs =
 none_at_end : (ranges : List (ℕ × ℕ)) (xs : List ℕ) → false ≡ list_any (reads_end ranges []) xs
 none_at_end ranges xs =
     same_test _ _ (λ h. absurd (false≢true h))
-    (λ h. let (i, a, t) = from_any (reads_end ranges []) xs h in
+    (λ h. let (i, a, t) = any_find (reads_end ranges []) xs h in
     let (u, v) = and_parts (nat_eq (suc i) 0) (has ranges (slice_index [] i)) t in
     let e : suc i ≡ 0 = eqb-true (suc i) 0 u in
     absurd (omega (arith, e)))

@@ -3,7 +3,7 @@ use Rattle.std.proofs.Common.{◌≡◌, true, false, [], ◌∷◌, refl, Some,
 use Rattle.patterns.specs.Tree.{Tree, one_of, at_start, at_end, in_turn, either, repeated, trees_of}
 use Rattle.word_states.specs.Position.{sets_of}
 use Rattle.state_laws.specs.Flow.{ends_here}
-use Rattle.state_laws.specs.Rows.{sets_have, none_read, only, may_follow}
+use Rattle.state_laws.specs.FollowSets.{sets_have, none_read, only, may_follow}
 
 abbrev letter_a : Tree
 letter_a = one_of ((97, 97) ∷ [])

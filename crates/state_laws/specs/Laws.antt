@@ -22,15 +22,15 @@ GoesOn =
 abbrev pub Decides : Type 0
 Decides = (t : Tree) (w : List ℕ) → accepts t w ≡ is_accepted t (is_empty w) (pattern_state t w)
 
--- words of one state that are both empty or both not go on to one state by characters that no position's set tells
--- apart
+-- words of one state that are both empty or both not go on to one state by characters that no position's set
+-- distinguishes
 abbrev pub SameStateOfSame : Type 0
 SameStateOfSame =
     (t : Tree) (v w : List ℕ) (c d : ℕ) → is_empty v ≡ is_empty w → pattern_state t v ≡ pattern_state t w
     → ((s : List (ℕ × ℕ)) → IsIn s (sets_of t) → has s c ≡ has s d)
     → pattern_state t (v ++ c ∷ []) ≡ pattern_state t (w ++ d ∷ [])
 
--- and the pattern matches in both or in neither
+-- a pattern matches in both or in neither of two such words
 abbrev pub SameTruthOfSame : Type 0
 SameTruthOfSame =
     (t : Tree) (v w : List ℕ) → is_empty v ≡ is_empty w → pattern_state t v ≡ pattern_state t w

@@ -4,7 +4,7 @@ use Rattle.patterns.specs.Tree.{Tree}
 use Rattle.word_states.specs.Position.{count_of, sets_of}
 use Rattle.word_states.specs.PatternState.{reading}
 use Rattle.state_laws.specs.Flow.{ends_here, reads_next, flag_at, is_among, state_with, next_state, is_accepted}
-use Rattle.state_laws.specs.Rows.{or_each, and_each, no_flags, sets_have, may_follow, follow_each, ends_each}
+use Rattle.state_laws.specs.FollowSets.{or_each, and_each, no_flags, sets_have, may_follow, follow_each, ends_each}
 
 -- one function says what one of two says
 abbrev pub IsEither : (both one other : ℕ → Bool) → Type 0
@@ -86,9 +86,10 @@ FlagsJoin =
     → (flag_at (or_each xs ys) p ≡ (flag_at xs p || flag_at ys p))
     × (flag_at (and_each xs ys) p ≡ (flag_at xs p && flag_at ys p))
 
--- what a pattern does in a state is known of rows, one a position, and of the sets
-pub record StepsByRows : Type 0 where
-  -- the state after a character has the flags of the rows of the positions read, where the sets have the character
+-- what a pattern does in a state is known of follow sets, one a position, and of the sets of characters
+pub record StepsByFollowSets : Type 0 where
+  -- the state after a character has the flags of the follow sets of the positions read, where the sets of characters
+  -- have it
   pub steps : (t : Tree) (first : Bool) (c : ℕ) (ps : List ℕ)
       → next_state t first c (reading ps)
       ≡ state_with t (and_each (follow_each t first (is_among ps) true (count_of t)) (sets_have (sets_of t) c))

@@ -2,12 +2,12 @@
 //! What comes next is the union of what comes next after each position that was read last, and of what comes first; a
 //! character then picks the positions whose set has it.
 //!
-//! Each law that other crates rely on is the contract of a function here, which does nothing. Their proofs stand in
+//! Each law that other crates rely on is the contract of a function here, which does nothing. Their proofs are in
 //! `proofs`, and so do the lemmas that crates above cite.
 #![tactic(auto)]
 
 ghost use Rattle.state_laws.specs.Laws.{BeginsWith, GoesOn, Decides, SameStateOfSame, SameTruthOfSame};
-ghost use Rattle.state_laws.specs.UnionLaws.{EndsJoin, FollowJoins, NextJoins, NextAsksSets, NothingEnds, NothingFollows, NothingReads, EndsOfEach, FollowsEach, NextOfEach, FlagsJoin, StepsByRows};
+ghost use Rattle.state_laws.specs.UnionLaws.{EndsJoin, FollowJoins, NextJoins, NextAsksSets, NothingEnds, NothingFollows, NothingReads, EndsOfEach, FollowsEach, NextOfEach, FlagsJoin, StepsByFollowSets};
 
 /// The state of the empty word.
 pub fn state_begins()
@@ -24,7 +24,7 @@ pub fn state_decides()
     ensures { Decides }
 {}
 
-/// Characters that no position's set tells apart lead from one state to one state.
+/// Characters that no position's set distinguishes lead from one state to one state.
 pub fn same_state_of_same()
     ensures { SameStateOfSame }
 {}
@@ -79,7 +79,8 @@ pub fn follows_each()
     ensures { FollowsEach }
 {}
 
-/// What reads a character next is the union of rows, one a position that was read, where the sets have the character.
+/// What reads a character next is the union of the follow sets of the positions that were read, where their sets have
+/// the character.
 pub fn next_of_each()
     ensures { NextOfEach }
 {}
@@ -89,7 +90,8 @@ pub fn flags_join()
     ensures { FlagsJoin }
 {}
 
-/// The next state, whether it is done and whether it is accepted are known of the rows of the positions read last.
-pub fn steps_by_rows()
-    ensures { StepsByRows }
+/// The next state, whether it is done and whether it is accepted are known of the follow sets of the positions read
+/// last.
+pub fn steps_by_follow_sets()
+    ensures { StepsByFollowSets }
 {}

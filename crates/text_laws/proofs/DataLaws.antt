@@ -31,7 +31,7 @@ member_tests k d ms h =
     let two = and_parts (every is_scalar k) (D.is_document d) three.0 in
     record { name = two.0; value = two.1; before = three.1; others = four.1 }
 
--- ---- its value
+-- ---- the value of a document's data
 
 mutual
   pub json_of-data_of : (d : D.Document) → D.is_document d ≡ true → json_of (data_of d) ≡ json_of_document d
@@ -109,7 +109,7 @@ mutual
       (flat_map (λ y. 44 ∷ y) (member_texts ms) ++ 125 ∷ []) (compact_text-data_of d) (members_text-later ms)
       ∙ commas (string_text k ++ 58 ∷ document_text d) (member_texts ms) (125 ∷ []))
 
--- ---- its depth
+-- ---- the depth of a document's data
 
 mutual
   pub depth-data_of : (d : D.Document) → tree.depth (outline (data_of d)) ≡ D.depth d

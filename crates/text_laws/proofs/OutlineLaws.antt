@@ -24,7 +24,7 @@ use Rattle.js_doc.proofs.WordOrder.{comes_before-encodes, same_text}
 use Rattle.text_laws.specs.DocumentData.{data_of, data_items, data_members}
 use Rattle.text_laws.proofs.DataLaws.{member_tests}
 
--- ---- its numbers
+-- ---- the numbers of a document's data
 
 short-pos : (n : ℕ) → is_short (pos n) ≡ true → n < 2 ^ 64
 short-pos n h =
@@ -74,7 +74,7 @@ mutual
       let both = and_parts (has_short_numbers d) (members_are_short ms) h in
       (HasNumbers-data_of d both.0, HasNumbers-data_members ms both.1)
 
--- ---- its members: each is put behind those before it
+-- ---- the members of a document's data: each is put behind those before it
 
 -- one more at the end
 abbrev behind : D.Members → List ℕ → D.Document → D.Members
@@ -181,7 +181,7 @@ mutual
       (BeforeFirst-behind found k d ms before tests.name tests.before)
       ∙ ap (λ ns. Some (data_members ns)) (together-behind found k d ms)
 
--- ---- its text is UTF-8
+-- ---- the text of a document's data is UTF-8
 
 IsUtf8-decimal : (n : ℕ) → n < 2 ^ 64 → IsUtf8 (decimal n)
 IsUtf8-decimal n h = IsUtf8-from_ascii (decimal n) (IsAscii-decimal n h)

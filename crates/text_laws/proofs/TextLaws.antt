@@ -36,7 +36,7 @@ module _ (d : Document) (is : is_document d ≡ true) (short : has_short_numbers
       ∙ value-json_tokens (outline (data_of d)) max_depth [] (subst (λ n. n ≤ 127) (sym (depth-data_of d)) shallow))
       ∙ of_json-data_of d is short
 
-  -- spaces and line feeds may stand behind it. `serde_json` reads 127 levels
+  -- spaces and line feeds may come behind it. `serde_json` reads 127 levels
   pub value_of-document_text : depth d ≤ 127 → value_of (document_text d ++ r) ≡ Some (json_of_document d)
   value_of-document_text shallow =
       value_of_read (document_text d ++ r) (data_of d) (json_of_document d)

@@ -10,7 +10,7 @@ use Rattle.word_states.specs.WordState.{have_same_state}
 use Rattle.positions.specs.Position.{Position}
 use Rattle.goals.specs.Signed.{Signed}
 use Rattle.list_laws.specs.In.{IsIn, Distinct}
-use Rattle.list_laws.proofs.Lists.{every_at, in_get}
+use Rattle.list_laws.proofs.Lists.{every_at, get_or-in}
 use Rattle.list_laws.proofs.Tests.{in_range}
 use Rattle.cells.specs.Cells.{Cells, naming, vector, place, cells}
 use Rattle.cell_laws.specs.Leading.{walk}
@@ -45,7 +45,7 @@ module _ (T : List Position) (S : List Signed) (t : Table (List ℕ)) (h : AreSt
   rowed w s =
       let r = walk (to atoms t.words (stated t) h.leads) 0 w in
       let (l, e) = walked atoms t.words (stated t) h.leads 0 [] w h.first (sym (scalars_same w) ∙ s) in
-      (get_or t.words r [], in_get t.words r [] l, vector_same T S w (get_or t.words r []) e)
+      (get_or t.words r [], get_or-in t.words r [] l, vector_same T S w (get_or t.words r []) e)
 
   -- of cells of which no words are listed, so that none are counted
   bare_cells : AreCells T S (cells characters far 0 T S t.words)

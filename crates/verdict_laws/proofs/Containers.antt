@@ -19,8 +19,8 @@ use Rattle.goal_laws.specs.Formed.{meets_goal}
 use Rattle.goal_laws.proofs.Forms.{meets-form}
 use Rattle.list_laws.specs.In.{IsIn, Distinct}
 use Rattle.list_laws.proofs.Lists.{every_at}
-use Rattle.list_laws.proofs.Counts.{distinct_filter}
-use Rattle.list_laws.proofs.Pigeons.{range_distinct}
+use Rattle.list_laws.proofs.Counts.{Distinct-filter}
+use Rattle.list_laws.proofs.Pigeons.{Distinct-range}
 use Rattle.cells.specs.Cells.{cell_of}
 use Rattle.frames.specs.Frame.{Frame, is_at_end}
 use Rattle.frames.specs.Plan.{Plan, empty_plan}
@@ -120,6 +120,7 @@ module _ (T : List Position) (ok : IsTable T) (cite : ℕ → List Signed → Bo
       (omega (arith, d, deep)) b)
       (empty_fits T (array_frame T S) B) (λ d i. i)
 
+  -- where no arrangement by the set's frame fits the empty plan, no array meets the set
   pub no_array : (S : List Signed) → FreeFrame (array_frame T S) → No K.Array S
   no_array S h (array ds) good deep k m = array_none S h ds good deep m
   no_array S h null good deep k m = cc
@@ -140,14 +141,15 @@ module _ (T : List Position) (ok : IsTable T) (cite : ℕ → List Signed → Bo
         (ON.is_arranged T ok S (table_cells T S t) (bounds_of bs) bounds (λ c n. 0) ms good
         (OS.arranged T ok S (table_cells T S t) laws ms good
         (λ x i c. literal_met T (object ms) S m x i) (bounds_of bs) (λ c n. 0)))
-        (distinct_filter (is_allowed T (table_cells T S t) S) (range_with_len 0 (length (table_cells T S t).vectors))
-        (range_distinct 0 (length (table_cells T S t).vectors)))
+        (Distinct-filter (is_allowed T (table_cells T S t) S) (range_with_len 0 (length (table_cells T S t).vectors))
+        (Distinct-range 0 (length (table_cells T S t).vectors)))
         (λ j l e a b. let i = ON.at_in (entries ms) j a in
         let d = members_deep ms (ON.entry_at (entries ms) j) i in
         child_safe l e (ON.entry_at (entries ms) j).1 (members_good ms good (ON.entry_at (entries ms) j) i)
         (omega (arith, d, deep)) b)
         (empty_fits T (stated_frame T S t bs) B) (λ d i. i)
 
+    -- where no arrangement by the set's frame fits the empty plan, no object meets the set
     pub no_object : FreeFrame (stated_frame T S t bs) → No K.Object S
     no_object h (object ms) good deep k m = object_none h ms good deep m
     no_object h null good deep k m = cc

@@ -211,6 +211,7 @@ pub record AreStated (atoms : List Atom) (t : Table (List ℕ)) : Type 0 where
   pub leads : LeadsOn atoms t.words (stated t)
   pub first : IsRowOf atoms t.words [] 0
 
+-- once all rows are taken, they are stated: each leads on, and the empty word has the first
 pub rows_stated : (atoms : List Atom) (count : ℕ) (t : Table (List ℕ)) → RowsTaken atoms count t
     → length t.targets ≡ count → AreStated atoms t
 rows_stated atoms count t h e = record {

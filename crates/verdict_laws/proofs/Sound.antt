@@ -10,7 +10,7 @@ use Rattle.goals.specs.Goal.{form, contains}
 use Rattle.goal_laws.specs.Formed.{meets_goal}
 use Rattle.goal_laws.proofs.Forms.{meets-root, contains-met}
 use Rattle.list_laws.specs.In.{IsIn}
-use Rattle.list_laws.proofs.Lists.{in_get}
+use Rattle.list_laws.proofs.Lists.{get_or-in}
 use Rattle.list_laws.proofs.Tests.{some_find}
 use Rattle.certificate_lines.specs.Line as L
 use Rattle.certificate_lines.specs.Line.{Line}
@@ -37,7 +37,7 @@ module _ (T : List Position) (ok : IsTable T) where
     go true e =
         let (a, c) = and_parts (nat_lt k (length gs)) (contains g (get_or gs k [])) e in
         absurd
-        (h (get_or gs k []) (in_get gs k [] (ltb-true k (length gs) a)) J good deep
+        (h (get_or gs k []) (get_or-in gs k [] (ltb-true k (length gs) a)) J good deep
         (contains-met T ok J g (get_or gs k []) c m))
 
   entry_in : (k : ℕ) (gs : List (List Signed)) (g : List Signed) → IsIn g gs

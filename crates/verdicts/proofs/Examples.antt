@@ -121,7 +121,7 @@ twice : shows Text (LengthMin 2) (LengthMax 1) (L.Rule (Plus 0) ∷ L.Count ∷ 
 unfolding leaf_table header trees shows follow
 twice = refl
 
--- rows, over numbers that are told apart up to 2, each leading to the next one and to itself
+-- rows, over numbers that are distinguished up to 2, each leading to the next one and to itself
 
 alike : ℕ → ℕ → Bool
 alike m n = nat_eq (min m 2) (min n 2)

@@ -20,7 +20,7 @@ use Rattle.verdicts.specs.RowLines.{Table, and_then, if_so, begin_table, row_tak
 use Rattle.verdicts.specs.Bounds.{Bound}
 use Rattle.verdicts.specs.Leaves.{are_within_limits, crossed, has_no_truth, has_no_number, least_right, least_past, stated_frame, bound_right}
 
--- whose plans: this tells which line names what is placed
+-- whose plans: this decides which line names what is placed
 pub data Form : Type 0 where
   OfArrays : Form
   OfObjects : Form

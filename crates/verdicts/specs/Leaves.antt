@@ -1,4 +1,4 @@
--- What the lines of a leaf tell of a set: crossed bounds, no truth value, no number; and the tests of rows and labels.
+-- What the lines of a leaf say of a set: crossed bounds, no truth value, no number; and the tests of rows and labels.
 use Rattle.std.specs.Prelude.{ℕ, suc, List, [], ◌∷◌, length, get_or, Bool, true, false, ◌&&◌, ◌||◌, not, nat_eq, nat_le, nat_lt, Option, Some, None, Result, Ok}
 use Rattle.std.specs.List.{range_with_len}
 use Rattle.documents.specs.Tests.{every, some}
@@ -72,7 +72,7 @@ module _ (T : List Position) (set : List Signed) where
   table_cells t = cells characters far most_words T set t.words
 
   -- the frame of the set at objects, with the bounds that were stated in place of the number of words of each cell;
-  -- lines of plans don't ask for rooms otherwise
+  -- lines of plans don't depend on rooms otherwise
   abbrev pub stated_frame : Table (List ℕ) → List Bound → Frame
   stated_frame t bs = object_frame_with (bounds_of bs) (λ c n. 0) T (table_cells t) set
 

@@ -1,8 +1,8 @@
 -- What a line of a row has to keep: its targets, one for each class of characters, are the rows to which it leads.
 --
--- A row stands as a word that leads there. So whether a target is right is a test of two words: the one of the target,
--- and the row's with the first character of the class. Rows are numbered as they are first mentioned; nothing asks for
--- more than that a target has the state, so two rows may have one state.
+-- A row is represented by a word that leads there. So whether a target is right is a test of two words: the one of the
+-- target, and the row's with the first character of the class. Rows are numbered as they are first mentioned; nothing
+-- requires more than that a target has the state, so two rows may have one state.
 use Rattle.std.specs.Prelude.{ℕ, List, [], ◌∷◌, ◌++◌, length, get_or, Bool, true, false, ◌&&◌, cond, nat_eq, nat_lt, Result, Ok, Err}
 use Rattle.word_states.specs.Atom.{Atom}
 use Rattle.word_states.specs.Classes.{class_firsts}

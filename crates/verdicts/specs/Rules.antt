@@ -1,5 +1,5 @@
 -- The rules that a certificate can break, by the numbers that are printed. Where a line breaks several, the least is
--- reported; so what a line is tested for stands in the order of these numbers.
+-- reported; so what a line is tested for is in the order of these numbers.
 use Rattle.std.specs.Prelude.{ℕ}
 
 -- a whole line that isn't too long and isn't in the grammar
@@ -14,7 +14,7 @@ too_long = 2
 abbrev pub no_end : ℕ
 no_end = 3
 
--- a line that can't stand here, or anything behind `end`
+-- a line that isn't allowed here, or anything behind `end`
 abbrev pub out_of_place : ℕ
 out_of_place = 4
 

@@ -80,7 +80,7 @@ module _ (T : List Position) (a b : ℕ) where
   judged finish s k [] = finish s k
   judged finish s k (l ∷ ls) = go_on (λ u. judged finish u (suc k) ls) k (step s l)
 
--- nothing follows
+-- the verdict where no line follows
 abbrev pub at_end : Stage → ℕ → Verdict
 at_end Ended k = Accepted
 at_end _ k = Rejected k no_end

@@ -1,4 +1,4 @@
--- Classes divide the characters, and stand in the order of their first characters.
+-- Classes divide the characters, and are in the order of their first characters.
 use Rattle.std.proofs.Common.{◌≡◌, ℕ, zero, suc, ◌<◌, ◌⊎◌, inl, inr, List, [], ◌∷◌, Bool, true, ◌&&◌, get_or, length, nat_eq, nat_lt, nat_le, ap, sym, ◌∙◌, subst, arith}
 use Rattle.std.specs.Cmp.{IsEquivalence}
 use Rattle.std.proofs.lemmas.Bool.{and_parts, and_from, cases_lt, or_left, or_right, lt-ltb, le-leb, eq-eqb}
@@ -7,7 +7,7 @@ use Rattle.patterns.specs.CharSet.{is_scalar, group_of, comes_no_later}
 use Rattle.word_states.specs.Atom.{Atom}
 use Rattle.word_states.specs.Classes.{are_alike, dividers, class_firsts, class_count, class_of}
 use Rattle.word_laws.specs.Laws.{ClassesDivide, FirstsComeFirst, ClassesInOrder}
-use Rattle.list_laws.proofs.Lists.{in_get}
+use Rattle.list_laws.proofs.Lists.{get_or-in}
 use Rattle.list_laws.specs.In.{IsIn}
 use Rattle.word_laws.proofs.Places.{place_below, place_same}
 use Rattle.word_laws.proofs.Classes.{alike_laws, firsts_have, firsts_distinct}
@@ -76,7 +76,7 @@ firsts_come_first atoms k c l i =
     let are = firsts_are sets in
     let (e, s) = and_parts (is_scalar c) (are_alike sets f c) i in
     let (d, j, t, b) = are.first c e in
-    let m : IsIn f (class_firsts atoms) = in_get (class_firsts atoms) k 0 l in
+    let m : IsIn f (class_firsts atoms) = get_or-in (class_firsts atoms) k 0 l in
     let q : f ≡ d = are.apart f d m j (laws.congr f c d s ∙ t) in (
       and_from (is_scalar f) (are_alike sets f f) (are.scalar f m) (laws.refl f),
       no_later f c (subst (λ z. (z ≡ c) ⊎ Before z c) (sym q) b),
@@ -85,7 +85,7 @@ firsts_come_first atoms k c l i =
 rising_at : (L : List ℕ) (j k d : ℕ) → Rising L → j < k → k < length L → Before (get_or L j d) (get_or L k d)
 rising_at [] j k d r l m = absurd (omega (arith, m))
 rising_at (x ∷ L) zero zero d r l m = absurd (omega (arith, l))
-rising_at (x ∷ L) zero (suc k) d r l m = r.0 (get_or L k d) (in_get L k d (omega (arith, m)))
+rising_at (x ∷ L) zero (suc k) d r l m = r.0 (get_or L k d) (get_or-in L k d (omega (arith, m)))
 rising_at (x ∷ L) (suc j) zero d r l m = absurd (omega (arith, l))
 rising_at (x ∷ L) (suc j) (suc k) d r l m = rising_at L j k d r.1 (omega (arith, l)) (omega (arith, m))
 

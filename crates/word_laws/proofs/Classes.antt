@@ -8,7 +8,7 @@ use Rattle.patterns.specs.CharSet.{has, is_within, is_scalar, group_of}
 use Rattle.word_states.specs.Atom.{Atom}
 use Rattle.word_states.specs.Classes.{are_alike, dividers, ordered_below, characters, class_firsts}
 use Rattle.word_laws.proofs.Mentions as M
-use Rattle.list_laws.proofs.Lists.{in_flat_map, from_flat_map, to_filter}
+use Rattle.list_laws.proofs.Lists.{in_flat_map, from_flat_map, in_filter}
 use Rattle.list_laws.proofs.Tests.{from_filter, beq-true}
 use Rattle.list_laws.specs.In.{IsIn}
 use Rattle.list_laws.proofs.Booleans.{beq_comm}
@@ -89,7 +89,7 @@ ordered_has n c e l =
     in_flat_map (λ g. filter (λ c. is_scalar c && nat_eq (group_of c) g) (range_with_len 0 n)) c (group_of c)
     (0 ∷ 1 ∷ 2 ∷ 3 ∷ 4 ∷ [])
     (group_is c)
-    (to_filter (λ d. is_scalar d && nat_eq (group_of d) (group_of c)) c (range_with_len 0 n)
+    (in_filter (λ d. is_scalar d && nat_eq (group_of d) (group_of c)) c (range_with_len 0 n)
     (range_in 0 n c (omega arith) (omega (arith, l))) (and_from (is_scalar c) (nat_eq (group_of c) (group_of c)) e
     (eq-eqb (group_of c) (group_of c) refl)))
 

@@ -7,7 +7,7 @@ use Rattle.patterns.specs.CharSet.{is_scalar, group_of, comes_no_later}
 use Rattle.word_states.specs.Mention.{mention, mention_all}
 use Rattle.word_states.specs.Classes.{are_alike, ordered_below, characters, firsts_among}
 use Rattle.word_laws.proofs.Mentions as M
-use Rattle.list_laws.proofs.Lists.{in_left, in_right, in_append, from_flat_map}
+use Rattle.list_laws.proofs.Lists.{in_left, in_right, from_append, from_flat_map}
 use Rattle.list_laws.proofs.Tests.{from_filter}
 use Rattle.list_laws.specs.In.{IsIn}
 use Rattle.word_laws.proofs.Classes.{alike_laws, ordered_has, ordered_only, scalar_below, in_range}
@@ -51,7 +51,7 @@ rising_append : (cs ds : List ℕ) → Rising cs → Rising ds → ((c d : ℕ) 
     → Rising (cs ++ ds)
 rising_append [] ds a b h = b
 rising_append (c ∷ cs) ds a b h = (
-  (λ d i. ⊎_elim (λ l. a.0 d l) (λ r. h c d (inl refl) r) (in_append d cs ds i)),
+  (λ d i. ⊎_elim (λ l. a.0 d l) (λ r. h c d (inl refl) r) (from_append d cs ds i)),
   rising_append cs ds a.1 b (λ e d i j. h e d (inr i) j),
 )
 
@@ -141,7 +141,7 @@ ascending = (
   zero_below h (inl e) = omega (arith, e)
   zero_below h (inr i) = let l = one_below h i in omega (arith, l)
 
--- the characters stand in order
+-- the characters are in order
 pub ordered_rising : (n : ℕ) → Rising (ordered_below n)
 unfolding ordered_below of_group
 ordered_rising n = groups_rising n (0 ∷ 1 ∷ 2 ∷ 3 ∷ 4 ∷ []) ascending
@@ -154,7 +154,7 @@ rising_apart (x ∷ L) M c d r (inr i) j = rising_apart L M c d r.1 i j
 rising_skip : (L : List ℕ) (c : ℕ) (cs : List ℕ) → Rising (L ++ c ∷ cs) → Rising (L ++ cs)
 rising_skip [] c cs r = r.1
 rising_skip (d ∷ L) c cs r = (
-  (λ e i. r.0 e (⊎_elim (λ l. in_left e L (c ∷ cs) l) (λ k. in_right e L (c ∷ cs) (inr k)) (in_append e L cs i))),
+  (λ e i. r.0 e (⊎_elim (λ l. in_left e L (c ∷ cs) l) (λ k. in_right e L (c ∷ cs) (inr k)) (from_append e L cs i))),
   rising_skip L c cs r.1,
 )
 
@@ -165,12 +165,12 @@ module _ (same : ℕ → ℕ → Bool) (laws : IsEquivalence same) where
     go true = rising_skip L c cs r
     go false = subst (λ z. Rising z) (sym (append_assoc L (c ∷ []) cs)) r
 
-  -- what is mentioned in order stands in order
+  -- what is mentioned in order is in order
   mentions_rising : (L cs : List ℕ) → Rising (L ++ cs) → Rising (mention_all same L cs)
   mentions_rising L [] r = subst (λ z. Rising z) (append-nil L) r
   mentions_rising L (c ∷ cs) r = mentions_rising (mention same L c) cs (mention_rising L c cs r)
 
-  -- and of each class the first stands there
+  -- and of each class the first is there
   abbrev HasFirst : List ℕ → ℕ → Type 0
   HasFirst L c = (d : ℕ) × IsIn d L × (same c d ≡ true) × ((d ≡ c) ⊎ Before d c)
 

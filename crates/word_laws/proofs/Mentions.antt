@@ -1,5 +1,5 @@
--- Lists in order of first mention: nothing stands twice, everything mentioned is there, and what a beginning mentions
--- stands first.
+-- Lists in order of first mention: nothing is there twice, everything mentioned is there, and what a beginning mentions
+-- comes first.
 use Rattle.std.proofs.Common.{◌≡◌, zero, ◌≤◌, ◌⊎◌, inl, inr, ⊎_elim, List, [], ◌∷◌, ◌++◌, Bool, true, false, if◌then◌else◌, length, map, is_some, refl, ap, sym, ◌∙◌, subst, append-nil, append_assoc}
 use Rattle.std.specs.Cmp.{IsEquivalence}
 use Rattle.std.specs.List.{list_any, IsDistinct, AllByRecursion}
@@ -10,7 +10,7 @@ use Rattle.std.proofs.lemmas.List.Folds.{list_any-append}
 use Rattle.std.proofs.lemmas.Map.Keys.{IsDistinct-push}
 use Rattle.std.proofs.lemmas.Map.Steps.{list_any_congr, length-le_from_keys}
 use Rattle.word_states.specs.Mention.{mention, mention_all}
-use Rattle.list_laws.proofs.Lists.{in_right, in_append}
+use Rattle.list_laws.proofs.Lists.{in_right, from_append}
 use Rattle.list_laws.specs.In.{IsIn}
 
 module _ {A : Type 0} (same : A → A → Bool) (laws : IsEquivalence same) where
@@ -86,7 +86,7 @@ module _ {A : Type 0} (same : A → A → Bool) (laws : IsEquivalence same) wher
   mention_only L x y i = go (list_any (same x) L) i where
     go : (b : Bool) → IsIn y (if b then L else L ++ x ∷ []) → IsIn y L ⊎ (y ≡ x)
     go true j = inl j
-    go false j = ⊎_elim (λ l. inl l) (λ r. ⊎_elim (λ e. inr e) (λ z. absurd z) r) (in_append y L (x ∷ []) j)
+    go false j = ⊎_elim (λ l. inl l) (λ r. ⊎_elim (λ e. inr e) (λ z. absurd z) r) (from_append y L (x ∷ []) j)
 
   pub mentions_only : (L xs : List A) (y : A) → IsIn y (mention_all same L xs) → IsIn y L ⊎ IsIn y xs
   mentions_only L [] y i = inl i
@@ -95,7 +95,7 @@ module _ {A : Type 0} (same : A → A → Bool) (laws : IsEquivalence same) wher
       (λ r. inr (inr r))
       (mentions_only (mention same L x) xs y i)
 
-  -- nothing stands twice
+  -- nothing is there twice
   pub mentions_distinct : (L xs : List A) → IsDistinct same L → IsDistinct same (mention_all same L xs)
   mentions_distinct L [] d = d
   mentions_distinct L (x ∷ xs) d = mentions_distinct (mention same L x) xs (mention_distinct L x d)
@@ -104,7 +104,7 @@ module _ {A : Type 0} (same : A → A → Bool) (laws : IsEquivalence same) wher
   mentions_append L [] ys = refl
   mentions_append L (x ∷ xs) ys = mentions_append (mention same L x) xs ys
 
-  -- what stands after a beginning of a list without repetition is not in the beginning
+  -- what comes after a beginning of a list without repetition is not in the beginning
   pub distinct_parts : (x : A) (L M : List A) → IsDistinct same (L ++ M) → Has L x → IsIn x M → ⊥
   unfolding IsDistinct
   distinct_parts x [] M d h i = cc h

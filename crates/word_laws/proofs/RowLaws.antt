@@ -62,7 +62,7 @@ module _ (atoms : List Atom) where
     pub rows_apart : IsDistinct same L
     rows_apart = R.rows_distinct same (same_laws atoms) extend [] L rows
 
-    -- each is a word
+    -- each row is a word
     pub rows_words : (w : List ℕ) → IsIn w L → list_all is_scalar w ≡ true
     rows_words = R.rows_each same (same_laws atoms) extend [] (λ w. length w) longer follows L rows
         (λ w. list_all is_scalar w ≡ true) refl more where
@@ -114,7 +114,7 @@ module _ (atoms : List Atom) where
     pub row_below : (w : List ℕ) → list_all is_scalar w ≡ true → row_of atoms L w < length L
     row_below w s = place_below same (same_laws atoms) w L (rows_all w s)
 
-    -- has the word's truths
+    -- the row of a word has the word's truths
     pub row_truth : (w : List ℕ) → list_all is_scalar w ≡ true
         → signature_of atoms (get_or L (row_of atoms L w) []) ≡ signature_of atoms w
     row_truth w s =

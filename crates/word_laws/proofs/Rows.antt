@@ -124,9 +124,6 @@ module _ {A : Type 0} (same : A → A → Bool) (laws : IsEquivalence same) (ext
       (L ≡ mention_all same [] (start ∷ flat_map extend (take i L) ++ take k (extend (get_or L i start))))
       × (i < length L)
 
-  pub begin_building : IsBuilding (start ∷ []) 0 0
-  begin_building = (refl, omega arith)
-
   pub next_mention : (L : List A) (i k : ℕ) (x d : A) → IsBuilding L i k → k < length (extend (get_or L i start))
       → x ≡ get_or (extend (get_or L i start)) k d → IsBuilding (mention same L x) i (suc k)
   next_mention L i k x d (e, l) b f =

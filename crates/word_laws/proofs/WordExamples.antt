@@ -69,18 +69,18 @@ not_listed = refl
 nothing_kept : have_same_state ab_or_ac (codes "b") (codes "abba") ≡ true
 nothing_kept = refl
 
--- the length of a beginning is kept with the words that it begins: here it tells two beginnings of one word apart
+-- the length of a beginning is kept with the words that it begins: here it distinguishes two beginnings of one word
 length_kept : atom_state (codes "a") (Words (codes "aaa" ∷ [])) ≡ beginning (codes "aaa" ∷ []) (Some 1)
 length_kept = refl
 
--- the empty word has a row of its own where nothing else tells it apart, and a least length of 0 asks for nothing
+-- the empty word has a row of its own where nothing else distinguishes it, and a least length of 0 requires nothing
 abbrev no_length : List Atom
 no_length = LengthMin 0 ∷ []
 
 no_length_rows : AreRowsOver (codes "a") no_length ([] ∷ codes "a" ∷ [])
 no_length_rows = refl
 
--- lengths are told apart up to the greatest that is required
+-- lengths are distinguished up to the greatest that is required
 lengths : AreRowsOver (codes "a") (LengthMin 1 ∷ LengthMin 3 ∷ []) ([] ∷ codes "a" ∷ codes "aa" ∷ codes "aaa" ∷ [])
 lengths = refl
 

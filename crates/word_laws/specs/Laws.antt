@@ -25,7 +25,7 @@ FirstsComeFirst =
     → (is_in_class atoms k (get_or (class_firsts atoms) k 0) ≡ true)
     × (comes_no_later (get_or (class_firsts atoms) k 0) c ≡ true)
 
--- and classes stand in the order of their first characters
+-- and classes are in the order of their first characters
 abbrev pub ClassesInOrder : Type 0
 ClassesInOrder =
     (atoms : List Atom) (j k : ℕ) → j < k → k < class_count atoms

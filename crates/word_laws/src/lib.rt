@@ -1,7 +1,7 @@
 //! Laws about words: classes divide the characters, a state goes on by classes and determines every truth, and there is
 //! one list of rows, which has the states of all words.
 //!
-//! Each law that other crates rely on is the contract of a function here, which does nothing. Their proofs stand in
+//! Each law that other crates rely on is the contract of a function here, which does nothing. Their proofs are in
 //! `proofs`, and so do the lemmas that crates above cite.
 #![tactic(auto)]
 

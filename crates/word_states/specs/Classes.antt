@@ -7,7 +7,7 @@ use Rattle.word_states.specs.Position.{sets_of}
 use Rattle.word_states.specs.Atom.{Atom, Match, Words, LengthMin}
 use Rattle.word_states.specs.Mention.{mention_all}
 
--- the sets that an atom tells from the rest: of each position of its pattern, or of each letter of its words
+-- the sets that an atom distinguishes from the rest: of each position of its pattern, or of each letter of its words
 abbrev pub divider_sets : Atom → List (List (ℕ × ℕ))
 divider_sets (Match t) = sets_of t
 divider_sets (Words ws) = flat_map (map (λ c. (c, c) ∷ [])) ws

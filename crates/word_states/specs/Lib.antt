@@ -3,8 +3,8 @@
 pub mod Position
 pub mod LastRead
 pub mod PatternState
--- And atoms, the conditions on a word, with a test of when two are the same; which characters no atom tells apart, the
--- state of a word, and the rows that the states of all words make, each list in order of first mention.
+-- And atoms, the conditions on a word, with a test of when two are the same; which characters no atom distinguishes,
+-- the state of a word, and the rows that the states of all words make, each list in order of first mention.
 pub mod Atom
 pub mod SameAtom
 pub mod AtomPositions

@@ -1,4 +1,4 @@
--- Rows: the states that words reach, numbered in order of first mention. Each row stands as its first word.
+-- Rows: the states that words reach, numbered in order of first mention. Each row is represented by its first word.
 use Rattle.std.specs.Prelude.{◌≡◌, ℕ, List, [], ◌∷◌, ◌++◌, length, map, flat_map, Bool, true}
 use Rattle.std.specs.List.{IsDistinct, list_all, position_or_len}
 use Rattle.patterns.specs.CharSet.{is_scalar}

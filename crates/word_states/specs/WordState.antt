@@ -36,7 +36,7 @@ least_length (Match t) = 0
 least_length (Words ws) = 0
 least_length (LengthMin n) = n
 
--- the greatest of the least lengths that are required: no greater length has to be told apart
+-- the greatest of the least lengths that are required: no greater length has to be distinguished
 abbrev pub greatest_least : List Atom → ℕ
 greatest_least [] = 0
 greatest_least (a ∷ atoms) = max (least_length a) (greatest_least atoms)

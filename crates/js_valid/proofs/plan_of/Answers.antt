@@ -29,4 +29,5 @@ returns c = record {
   plan = c.in_ok-order.ensures;
   places = stand-all (entries_of c.args.schema.now) c.in_ok-order.order.items c.deref.result.now
       c.in_ok-places.places.items c.deref.ensures.value c.in_ok-order.ensures c.in_ok-places.ensures;
+  choices = c.in_ok-choices.ensures;
 }

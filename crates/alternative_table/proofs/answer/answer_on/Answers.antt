@@ -9,6 +9,6 @@ pub expansion_text-requires : goal.expansion_text-requires
 expansion_text-requires c =
     let core = c.args.core.now in
     let filled : 0 < length core.positions = omega (arith, c.if-len-eq0.false, c.len.ensures.value) in
-    subst (λ k. takes k.positions k.ranks c.in-Some.goal ≡ true) (sym c.new.ensures)
+    subst (λ k. takes k.positions k.ranks c.in-Some.goal ≡ true) (sym c.new.ensures.core)
     (first_taken core.positions core.ranks c.len.ensures.table filled (signed_view c.plus.result) c.plus.ensures c.in-Some.goal
     (sym c.in_ok-goal.ensures.goal ∙ c.in-Some.is))

@@ -1,4 +1,4 @@
--- The sorted list is the set of what was followed, and its neighbours tell whether it clashes.
+-- The sorted list is the set of what was followed, and its neighbours decide whether it clashes.
 use Rattle.std.proofs.Common.{◌≡◌, map, true, false, List, [], Bool, cond, Some, None, refl, ap, sym, ◌∙◌, subst}
 use Rattle.std.proofs.lemmas.Bool.{and_from}
 use Rattle.positions.specs.Position.{Position}

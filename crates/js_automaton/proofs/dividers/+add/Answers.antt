@@ -5,7 +5,7 @@ use Rattle.word_states.specs.Position.{sets_of, sets_in}
 use Rattle.word_states.specs.Classes.{are_alike}
 use Rattle.js_pattern.specs.declared.re.Re.{the_lemmas}
 use Rattle.js_pattern.specs.View.{view}
-use Rattle.js_nfa.proofs.Items.{rest, rest-tree}
+use Rattle.js_pattern_positions.proofs.Items.{rest, rest-tree}
 use Rattle.js_automaton.proofs.AlikeLemmas.{alike-append, alike-copies}
 use Rattle.js_automaton.proofs.DividerLemmas.{alike-added}
 use Rattle.js_automaton.proofs.dividers.+add.Goals as goal

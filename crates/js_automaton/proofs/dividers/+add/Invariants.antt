@@ -3,7 +3,7 @@ use Rattle.patterns.specs.Tree.{trees_of}
 use Rattle.word_states.specs.Position.{sets_in}
 use Rattle.word_states.specs.Classes.{are_alike}
 use Rattle.js_pattern.specs.View.{view}
-use Rattle.js_nfa.proofs.Items.{rest}
+use Rattle.js_pattern_positions.proofs.Items.{rest}
 use Rattle.js_automaton.proofs.dividers.+add.Given as goal
 
 abbrev pub invariant-add_list-loop-re : goal.invariant-add_list-loop-re

@@ -1,6 +1,6 @@
 use Rattle.std.proofs.Common.{◌≡◌, replicate, false, length, ap, ap₂, sym, subst, ◌∙◌, arith}
 use Rattle.list_laws.specs.In.{IsIn}
-use Rattle.list_laws.proofs.Lists.{in_get}
+use Rattle.list_laws.proofs.Lists.{get_or-in}
 use Rattle.js_automaton.specs.AutomatonView.{atoms_of, rows_of}
 use Rattle.js_said.specs.Saying.{tells}
 use Rattle.js_cells.proofs.ToldLaws.{told_none, told_place, told_blank, told_more, told_all}
@@ -10,7 +10,7 @@ pub tell-requires-clause-said : goal.tell-requires-clause-said
 tell-requires-clause-said c =
     c.requires.said c.index-said-place.result
     (subst (λ z. IsIn z c.args.said.now) (sym c.index-said-place.is)
-    (in_get c.args.said.now c.loop-place.place c.index-said-place.result c.loop-place-test.true))
+    (get_or-in c.args.said.now c.loop-place.place c.index-said-place.result c.loop-place-test.true))
 
 pub tell-requires-clause-rows : goal.tell-requires-clause-rows
 tell-requires-clause-rows c = c.loop-place.invariant.count

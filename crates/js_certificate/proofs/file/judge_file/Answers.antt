@@ -28,7 +28,7 @@ returns-clause-read g c =
 pub returns-clause-unrejected : goal.returns-clause-unrejected
 returns-clause-unrejected g c =
     file_unrejected c.new-judge.result _ _ _ _ _ _ (g.H.Shelf.told c.args.shelf.now) (g.H.Shelf.told c.begin.new.self)
-    c.args.name.now (g.H.Shelf.left c.begin.new.self) (g.H.Shelf.left c.judge_pieces-verdict.new.shelf)
-    c.judge_pieces-verdict.result c.new-judge.ensures.table c.new-judge.ensures.premise c.new-judge.ensures.conclusion
-    c.in-Ok.ensures.told c.new-judge.ensures.stands c.new-judge.ensures.bytes c.in-Ok.ensures.begun
-    c.judge_pieces-verdict.ensures.unrejected
+    c.args.name.now (g.H.Shelf.is_begun c.judge_pieces-verdict.new.shelf) (g.H.Shelf.left c.begin.new.self)
+    (g.H.Shelf.left c.judge_pieces-verdict.new.shelf) c.judge_pieces-verdict.result c.new-judge.ensures.table
+    c.new-judge.ensures.premise c.new-judge.ensures.conclusion c.in-Ok.ensures.told c.new-judge.ensures.stands
+    c.new-judge.ensures.bytes c.in-Ok.ensures.begun c.judge_pieces-verdict.ensures.unrejected

@@ -1,4 +1,4 @@
--- What is read is what the vector of the cell tells.
+-- What is read is what the vector of the cell says.
 use Rattle.std.proofs.Common.{◌∙◌, length, sym}
 use Rattle.std.proofs.lemmas.Bool.{ltb-true, ltb-false}
 use Rattle.js_check_objects.proofs.Lookups.{bit-within, bit-past}

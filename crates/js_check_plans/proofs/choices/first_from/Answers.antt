@@ -1,4 +1,4 @@
--- What stands at a first place is a choice.
+-- What is at a first place is a choice.
 use Rattle.std.proofs.Common.{◌++◌, get_or, arith, ap, sym, ◌∙◌}
 use Rattle.goals.specs.Signed as G
 use Rattle.js_plans.specs.Choosing.{serving_cells, open_cells}

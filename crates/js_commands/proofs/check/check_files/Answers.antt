@@ -93,9 +93,11 @@ returns-clause-unrejected g c =
     (entries_of c.in-Some-Read.schema) (entries_of c.in-Some-Read-2.schema)
     (record { well_formed = of.well_formed; entries = of.entries })
     (record { well_formed = of'.well_formed; entries = of'.entries }) (g.H.Shelf.left c.check_certificate.new.shelf)
-    (g.H.Shelf.begun c.args.shelf.now) (g.H.Shelf.begun c.check_certificate.new.shelf) r
+    (g.H.Shelf.is_begun c.check_certificate.new.shelf) (g.H.Shelf.begun c.args.shelf.now)
+    (g.H.Shelf.begun c.check_certificate.new.shelf) r
     (subst (λ t. IsUnrejectedWith (entries_of c.in-Some-Read.schema) (entries_of c.in-Some-Read-2.schema) t
-    (encode_utf8_all c.args.certificate.now) (g.H.Shelf.left c.check_certificate.new.shelf) r)
+    (encode_utf8_all c.args.certificate.now) (g.H.Shelf.is_begun c.check_certificate.new.shelf)
+    (g.H.Shelf.left c.check_certificate.new.shelf) r)
     (c.in_ok-schema-2.ensures.told ∙ c.in_ok-schema.ensures.told) h)) c.check_certificate.ensures.unrejected
 
 pub returns-in_err-schema-2-clause-begun : goal.returns-in_err-schema-2-clause-begun

@@ -6,8 +6,8 @@ use Rattle.js_tableau.specs.BranchWalks.{IsBranchWalk, branches_left}
 use Rattle.js_expander.specs.Found.{from_branches}
 use Rattle.js_expander.proofs.branches.keep_branches.Given as goal
 
-abbrev pub invariant-loop-names : goal.invariant-loop-names
-invariant-loop-names l =
+abbrev pub invariant-loop-automaton : goal.invariant-loop-automaton
+invariant-loop-automaton l =
     let T = l.core.positions in
     record {
       walk : IsBranchWalk T l.walk;
@@ -16,5 +16,5 @@ invariant-loop-names l =
           ≡ keep_all l.fn.kept (from_branches T (kind_view l.kind) 0 (branches_left T l.fn.walk));
     }
 
-abbrev pub decreases-loop-names : goal.decreases-loop-names
-decreases-loop-names l = length (branches_left l.core.positions l.walk)
+abbrev pub decreases-loop-automaton : goal.decreases-loop-automaton
+decreases-loop-automaton l = length (branches_left l.core.positions l.walk)

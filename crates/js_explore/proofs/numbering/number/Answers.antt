@@ -1,4 +1,4 @@
--- Where the goal stands.
+-- Where the goal is.
 use Rattle.std.proofs.Common.{◌∙◌}
 use Rattle.js_explore.proofs.Keys.{number_is}
 use Rattle.js_explore.proofs.numbering.number.Goals as goal

@@ -8,5 +8,5 @@ use Rattle.js_goal_lines.proofs.objects.add_object_lines.Goals as goal
 pub returns-in-Ok-clause-dead : goal.returns-in-Ok-clause-dead
 returns-in-Ok-clause-dead g c =
     object-added (g.D.Dead.number_of c.args.dead.now) c.args.core.now.positions c.args.lines.now.items
-    (map line_view c.add_lines_of-added.new.lines.items) c.add_lines_of-added.result (map signed_view c.args.set.now)
-    c.add_lines_of-added.ensures
+    (map line_view c.add_lines_of.new.lines.items) c.add_lines_of.result (map signed_view c.args.set.now)
+    c.add_lines_of.ensures

@@ -1,4 +1,4 @@
--- The byte is found, or another one is a part of what stands before it.
+-- The byte is found, or another one is a part of what comes before it.
 use Rattle.std.proofs.Common.{sym, ◌∙◌}
 use Rattle.line_laws.proofs.PieceLaws.{split-found, split-grown}
 use Rattle.js_lines.proofs.pieces.split_once.Goals as goal

@@ -1,6 +1,6 @@
 use Rattle.std.proofs.Common.{◌++◌, ◌∷◌, [], ◌∙◌, ap, true, false, replicate}
 use Rattle.state_laws.specs.Flow.{flag_at}
-use Rattle.js_nfa.proofs.RowsSteps.{flag-only}
+use Rattle.js_nfa.proofs.FollowSetsSteps.{flag-only}
 use Rattle.js_nfa.proofs.followers.read_one.Goals as goal
 
 pub returns-clause-only : goal.returns-clause-only

@@ -1,6 +1,6 @@
 use Rattle.std.proofs.Common.{◌<◌, ◌+◌, ◌++◌, ◌∷◌, [], ◌∙◌, length, refl, ap, arith}
-use Rattle.js_nfa.specs.Marks.{Marks}
-use Rattle.js_nfa.proofs.RowsSteps as S
+use Rattle.js_pattern_positions.specs.Marks.{Marks}
+use Rattle.js_nfa.proofs.FollowSetsSteps as S
 use Rattle.js_nfa.proofs.followers.shown.Goals as goal
 use Rattle.js_nfa.proofs.followers.shown.Goals.{then-not-is_within+in_ok-push, else-not-is_within}
 

@@ -1,5 +1,5 @@
 use Rattle.std.proofs.Common.{◌≤◌}
-use Rattle.js_nfa.proofs.RowsSteps.{Seen}
+use Rattle.js_nfa.proofs.FollowSetsSteps.{Seen}
 use Rattle.js_nfa.proofs.followers.shown.Given as goal
 
 abbrev pub invariant-loop-c : goal.invariant-loop-c

@@ -1,6 +1,6 @@
 use Rattle.std.proofs.Common.{◌≡◌, ◌≤◌, ◌+◌, ◌*◌, ◌/◌, ◌%◌, [], ◌∷◌, length, ◌∙◌, ap, arith, length-append}
-use Rattle.js_nfa.specs.Rows.{chosen_rows}
-use Rattle.js_nfa.proofs.RowsSteps as S
+use Rattle.js_nfa.specs.FollowSets.{chosen_sets}
+use Rattle.js_nfa.proofs.FollowSetsSteps as S
 use Rattle.js_nfa.proofs.fours.fours.Goals as goal
 
 pub loop-index-preserved : goal.loop-index-preserved
@@ -13,13 +13,13 @@ loop-index-preserved c =
     let turned : c.loop-index.index / 16 * 4 ≡ 4 * (c.loop-index.index / 16) = omega arith in
     record {
       as_many = as_many;
-      rows = S.rows-more (λ n flags. flags ≡ chosen_rows c.args.rows.now (4 * (n / 16)) (n % 16) 4)
+      sets = S.sets-more (λ n flags. flags ≡ chosen_sets c.args.sets.now (4 * (n / 16)) (n % 16) 4)
           c.loop-index.fours.items c.push.new.self.items c.in_ok-union.field-0 c.loop-index.index before.as_many pushed
-          before.rows
+          before.sets
           (c.in_ok-union.ensures.flags
-          ∙ ap (λ first. chosen_rows c.args.rows.now first (c.loop-index.index % 16) 4) turned);
+          ∙ ap (λ first. chosen_sets c.args.sets.now first (c.loop-index.index % 16) 4) turned);
       within = λ n h.
-          S.rows-more (λ p flags. length flags ≤ c.args.count) c.loop-index.fours.items c.push.new.self.items
+          S.sets-more (λ p flags. length flags ≤ c.args.count) c.loop-index.fours.items c.push.new.self.items
           c.in_ok-union.field-0 c.loop-index.index before.as_many pushed
           (λ p l. before.within p (omega (arith, l, before.as_many))) c.in_ok-union.ensures.within n
           (omega (arith, h, as_many));

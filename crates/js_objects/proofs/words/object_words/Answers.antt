@@ -16,14 +16,14 @@ words_of_names-requires-clause-cell c =
     let (C, e, l, n) = c.requires.found in
     subst (λ D. c.args.cell < length D.vectors)
     (same-cells c.args.core.now.positions c.args.branch.now.set (map signed_view c.as_slice-set.result.now)
-    c.in-Ok.names.automaton c.as_slice-set.ensures c.in-Ok.ensures.names C e) l
+    c.in-Ok.automaton.now c.as_slice-set.ensures c.in-Ok.ensures.names C e) l
 
 pub words_of_names-requires-clause-count : goal.words_of_names-requires-clause-count
 words_of_names-requires-clause-count c =
     let (C, e, l, n) = c.requires.found in
     subst (λ D. c.args.count ≤ length (D.words c.args.cell))
     (same-cells c.args.core.now.positions c.args.branch.now.set (map signed_view c.as_slice-set.result.now)
-    c.in-Ok.names.automaton c.as_slice-set.ensures c.in-Ok.ensures.names C e) n
+    c.in-Ok.automaton.now c.as_slice-set.ensures c.in-Ok.ensures.names C e) n
 
 pub returns-in-Ok : goal.returns-in-Ok
 returns-in-Ok c =
@@ -32,9 +32,9 @@ returns-in-Ok c =
     let X = map signed_view c.as_slice-set.result.now in
     record {
       words = ok-map c.words_of_names.result
-          (λ w. w ≡ take c.args.count ((cells_by T X c.in-Ok.names.automaton).words c.args.cell))
+          (λ w. w ≡ take c.args.count ((cells_by T X c.in-Ok.automaton.now).words c.args.cell))
           (λ w. (C : Cells) → cells_of T S ≡ Ok C → w ≡ take c.args.count (C.words c.args.cell))
           (λ w h C e. h ∙ ap (λ D. take c.args.count (D.words c.args.cell))
-          (sym (same-cells T S X c.in-Ok.names.automaton c.as_slice-set.ensures c.in-Ok.ensures.names C e)))
+          (sym (same-cells T S X c.in-Ok.automaton.now c.as_slice-set.ensures c.in-Ok.ensures.names C e)))
           c.words_of_names.ensures;
     }

@@ -10,6 +10,6 @@ returns g c =
     let frame = g.F.PlanFrame.frame c.args.frame.now in
     c.is_at_end.ensures
     ∙ ap₂ is_at_end
-    (c.size.ensures ∙ ap₂ (size_of frame) c.of.ensures.used c.of.ensures.members
+    (c.size.ensures ∙ ap₂ (size_of frame) c.extent_of.ensures.used c.extent_of.ensures.members
     ∙ sym (size-plan frame c.args.path.now c.requires.path.few c.requires.path.valid))
     c.below.ensures

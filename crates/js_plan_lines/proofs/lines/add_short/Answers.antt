@@ -16,5 +16,5 @@ returns g c =
     (ap L.Short
     (c.from_vec.ensures
     ∙ c.in_ok-entries.ensures
-    ∙ ap (λ ms. map (entry_in number T frame ms) frame.cells) (c.as_slice.ensures.value ∙ c.in_ok-members.ensures)
-    ∙ entries-are number T frame c.args.path.now frame.cells c.requires))
+    ∙ ap (λ ms. map (entry_in number T frame ms) frame.cells) c.requires.members
+    ∙ entries-are number T frame c.args.path.now frame.cells c.requires.few))

@@ -9,8 +9,8 @@ use Rattle.js_plan_lines.proofs.Starting.{from-start}
 use Rattle.js_plan_lines.proofs.placed.served_by.Goals as goal
 use Rattle.js_plans.proofs.Served.{served_list, every-served}
 
-pub of-members-requires : goal.of-members-requires
-of-members-requires g c = part-extents c.min-start.result c.args.path.now c.args.extents.now c.requires.extents
+pub extent_of-members-requires : goal.extent_of-members-requires
+extent_of-members-requires g c = part-extents c.min-start.result c.args.path.now c.args.extents.now c.requires.extents
 
 pub returns-clause-value : goal.returns-clause-value
 returns-clause-value g c =
@@ -20,10 +20,10 @@ returns-clause-value g c =
     let all : map signed_view c.in_ok-served.served.items
     ≡ earlier c.args.server (map signed_view ds) 0 c.args.path.now =
     c.in_ok-served.ensures
-    ∙ ap (λ us. earlier c.args.server us c.of-members.result.members (drop start c.args.path.now))
+    ∙ ap (λ us. earlier c.args.server us c.extent_of-members.result.members (drop start c.args.path.now))
     (sym (drop-map signed_view start ds))
     ∙ from-start c.args.server (g.F.PlanFrame.frame c.args.frame.now) (map signed_view ds) c.args.path.now start
-    c.of-members.result.members c.requires.path first c.of-members.ensures.members in
+    c.extent_of-members.result.members c.requires.path first c.extent_of-members.ensures.members in
     served_list c.args.server ds c.in_ok-served.served.items c.reverse.new.self.items
     (g.F.PlanFrame.frame c.args.frame.now).demands c.args.path.now c.demands.ensures all c.reverse.ensures.items
 

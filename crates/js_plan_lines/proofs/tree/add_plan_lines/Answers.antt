@@ -1,6 +1,7 @@
 -- The lines so far, and those of the plans that are left.
-use Rattle.std.proofs.Common.{[], map, sym, ◌∙◌, subst}
+use Rattle.std.proofs.Common.{[], map, ap, sym, ◌∙◌, subst}
 use Rattle.js_lines.specs.View.{line_view}
+use Rattle.js_plans.specs.Servers.{cells_of}
 use Rattle.js_plan_lines.specs.FormView.{form_view}
 use Rattle.js_plan_lines.specs.Reach.{IsPath, AreExtents}
 use Rattle.js_plan_lines.specs.Kept.{WasClear}
@@ -25,6 +26,7 @@ loop-next-init g c =
     record {
       path = empty-path frame ws c.new-path.ensures.items;
       extents = extents-none [] ws c.new-extents.result.items c.new-path.ensures.items;
+      members = c.new-members.ensures.items ∙ ap cells_of (sym c.new-path.ensures.items);
       fine = first-fine number form T frame ws ps qs before now c.new-path.ensures.items c.new-pending.ensures.items v;
       clear =
           first-clear number form T frame ws ps qs before now c.new-path.ensures.items c.new-pending.ensures.items v;
@@ -35,6 +37,12 @@ loop-next-init g c =
 pub visit-requires-clause-extents : goal.visit-requires-clause-extents
 visit-requires-clause-extents g c =
     extents-none [] c.as_slice.result.now c.as_slice-2.result.now (c.as_slice.ensures.value ∙ c.new-path.ensures.items)
+
+pub visit-requires-clause-members : goal.visit-requires-clause-members
+visit-requires-clause-members g c =
+    c.as_slice-3.ensures.value
+    ∙ c.new-members.ensures.items
+    ∙ ap cells_of (sym (c.as_slice.ensures.value ∙ c.new-path.ensures.items))
 
 pub go_to-requires-clause-level : goal.go_to-requires-clause-level
 go_to-requires-clause-level g c =
@@ -47,6 +55,12 @@ visit-requires-in-Some-clause-extents g c =
     subst (λ us. AreExtents [] us c.as_slice-in-Some-2.result.now) (sym c.as_slice-in-Some.ensures.value)
     (subst (λ xs. AreExtents [] c.go_to.new.path.items xs) (sym c.as_slice-in-Some-2.ensures.value)
     c.in_ok-go_to.ensures.extents)
+
+pub visit-requires-in-Some-clause-members : goal.visit-requires-in-Some-clause-members
+visit-requires-in-Some-clause-members g c =
+    c.as_slice-in-Some-3.ensures.value
+    ∙ c.in_ok-go_to.ensures.members
+    ∙ ap cells_of (sym c.as_slice-in-Some.ensures.value)
 
 pub visit-requires-in-Some-clause-path : goal.visit-requires-in-Some-clause-path
 visit-requires-in-Some-clause-path g c =
@@ -101,6 +115,7 @@ loop-next-preserved g c =
       path = next-path number form T frame path path' es old c.in-Some.next c.in-Some.ensures.items
           c.in_ok-go_to.ensures.path c.loop-next.invariant.fine c.loop-next.invariant.path;
       extents = c.in_ok-go_to.ensures.extents;
+      members = c.in_ok-go_to.ensures.members;
       fine = next-fine number form T frame path path' es old c.in-Some.next c.in-Some.ensures.items
           c.in_ok-go_to.ensures.path c.loop-next.invariant.fine qs before now now v;
       clear = next-clear number form T frame path path' es old c.in-Some.next c.in-Some.ensures.items

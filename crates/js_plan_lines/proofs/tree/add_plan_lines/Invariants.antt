@@ -2,6 +2,7 @@
 use Rattle.std.proofs.Common.{◌≡◌, ◌++◌, [], length, map, reverse}
 use Rattle.refutations.specs.PlanTreeLines.{plan_lines}
 use Rattle.js_lines.specs.View.{line_view}
+use Rattle.js_plans.specs.Servers.{cells_of}
 use Rattle.js_plan_lines.specs.FormView.{form_view}
 use Rattle.js_plan_lines.specs.Reach.{IsPath, AreExtents}
 use Rattle.js_plan_lines.specs.Left.{lines_left, AreFine, AreClear}
@@ -15,6 +16,7 @@ invariant-loop-next g l =
     record {
       path : IsPath frame l.path.items;
       extents : AreExtents [] l.path.items l.extents.items;
+      members : l.members.items ≡ cells_of l.path.items;
       fine : AreFine frame l.path.items (reverse l.pending.items);
       clear : AreClear T frame l.path.items (reverse l.pending.items);
       lines : map line_view l.lines.items

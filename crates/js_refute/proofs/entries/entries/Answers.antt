@@ -2,7 +2,7 @@
 use Rattle.std.proofs.Common.{◌≡◌, ◌<◌, ◌≤◌, [], length, get_or, ap, arith, sym, ◌∙◌, subst}
 use Rattle.std.specs.String.{string_bytes}
 use Rattle.std.proofs.lemmas.Option.{get_or_from_slice_get, slice_get_within}
-use Rattle.list_laws.proofs.Lists.{every_at, in_slice}
+use Rattle.list_laws.proofs.Lists.{every_at, slice_get-in}
 use Rattle.js_algebra.specs.View.{are_in_table}
 use Rattle.js_refute.specs.Unmet.{goals_of, lines_of}
 use Rattle.js_refute.proofs.Growing.{IsWhole, number_below, goes_on, ends_early, ends_full}
@@ -27,7 +27,7 @@ pub append_entry-requires : goal.append_entry-requires
 append_entry-requires c =
     let u = c.args.unmet.now in
     every_at (are_in_table c.args.core.now.positions) c.goal-goal.result.now (goals_of u) c.requires
-    (in_slice c.goal-goal.result.now (goals_of u) c.in-Some.number.now c.goal-goal.ensures)
+    (slice_get-in c.goal-goal.result.now (goals_of u) c.in-Some.number.now c.goal-goal.ensures)
 
 pub loop-place-preserved : goal.loop-place-preserved
 loop-place-preserved c =

@@ -1,5 +1,6 @@
--- What stands before the entries, the entries, and the end.
+-- What comes before the entries, the entries, and the end.
 use Rattle.std.proofs.Common.{◌∷◌, ◌++◌, ℕ, ◌<◌, List, [], length, get_or, map, ap, sym, ◌∙◌, subst}
+use Rattle.std.specs.List.{insert_slice}
 use Rattle.std.specs.String.{string_bytes}
 use Rattle.list_laws.specs.In.{IsIn}
 use Rattle.certificate_lines.specs.Line as L
@@ -20,16 +21,17 @@ returns c =
     let lines = lines_of c.args.core.now.positions c.args.unmet.now in
     let ks = listed gs lines in
     let front = string_bytes c.in_ok-front.front in
-    let back = string_bytes c.in_ok-listed.text in
+    let back = string_bytes c.append_line.new.out in
     parts_text front back c.into_bytes.result.items
     (L.Version ∷ L.Goals (length ks) ∷ map (λ k. L.Goal (get_or gs k [])) ks)
     (entries gs lines (place_of ks) 0 ks) L.End
     (c.in_ok-front.ensures
     ∙ ap (λ z. lines_text (L.Version ∷ L.Goals (length z) ∷ map (λ k. L.Goal (get_or gs k [])) z))
     (c.as_slice.ensures.keys ∙ c.in_ok-listed.ensures.listed))
-    (c.in_ok-listed.ensures.text
-    ∙ ap (λ z. lines_text (entries gs lines (place_of z) 0 z)) c.in_ok-listed.ensures.listed)
-    (ap (λ v. v.items) c.into_bytes.ensures.value ∙ c.in_ok-append_line.ensures
+    (c.in_ok-append_line.ensures
     ∙ ap (λ z. z ++ line_text L.End)
-    (c.in_ok-insert_str.ensures.bytes ∙ inserted back c.as_str.result.now
-    ∙ ap (λ z. z ++ back) c.as_str.ensures.value))
+    (c.in_ok-listed.ensures.text
+    ∙ ap (λ z. lines_text (entries gs lines (place_of z) 0 z)) c.in_ok-listed.ensures.listed))
+    (ap (λ v. v.items) c.into_bytes.ensures.value ∙ c.in_ok-insert_str.ensures.bytes
+    ∙ ap (λ z. insert_slice z 0 c.as_str.result.now) c.reserve_exact.ensures.bytes
+    ∙ inserted back c.as_str.result.now ∙ ap (λ z. z ++ back) c.as_str.ensures.value)

@@ -3,7 +3,7 @@ use Rattle.std.proofs.Common.{◌+◌, ◌∷◌, [], ◌++◌, length, get_or, 
 use Rattle.std.specs.String.{string_bytes}
 use Rattle.std.proofs.lemmas.List.{map_more}
 use Rattle.std.proofs.lemmas.Option.{get_or_from_slice_get}
-use Rattle.list_laws.proofs.Lists.{in_get}
+use Rattle.list_laws.proofs.Lists.{get_or-in}
 use Rattle.certificate_lines.specs.Line as L
 use Rattle.certificate_lines.specs.Line.{Line}
 use Rattle.js_explore.specs.ExploredView.{explored_view}
@@ -13,7 +13,7 @@ use Rattle.js_refute.proofs.refutation.front.Goals as goal
 pub goal-requires : goal.goal-requires
 goal-requires c =
     c.requires.numbers (get_or c.args.listed.now c.loop-number.number-index 0)
-    (in_get c.args.listed.now c.loop-number.number-index 0 c.loop-number-test.true)
+    (get_or-in c.args.listed.now c.loop-number.number-index 0 c.loop-number-test.true)
 
 pub loop-number-preserved : goal.loop-number-preserved
 loop-number-preserved c =

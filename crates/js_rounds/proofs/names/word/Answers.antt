@@ -1,4 +1,4 @@
--- Nothing stands past the end.
+-- Nothing is past the end.
 use Rattle.std.proofs.Common.{◌≡◌, ◌≤◌, length, [], get_or, rules, ap, ◌∙◌}
 use Rattle.std.proofs.lemmas.Option.{get_or_from_slice_get}
 use Rattle.alternatives.specs.Slots.{word_at}

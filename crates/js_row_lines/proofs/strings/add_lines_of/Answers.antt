@@ -7,7 +7,7 @@ use Rattle.js_row_lines.proofs.strings.add_lines_of.Goals as goal
 
 pub returns-in-Ok : goal.returns-in-Ok
 returns-in-Ok c =
-    let a = c.in-Ok.automaton in
+    let a = c.in-Ok.automaton.now in
     let before = map line_view c.args.lines.now.items in
     let new = map line_view c.add_length_lines.new.lines.items in
     subst (λ z. OnOk c.add_length_lines.result (new ≡ before ++ z))

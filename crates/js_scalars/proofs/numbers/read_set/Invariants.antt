@@ -1,4 +1,4 @@
--- What was read, with what is left, asks what the set asks.
+-- What was read, with what is left, requires what the set requires.
 use Rattle.std.proofs.Common.{◌≡◌, map, drop, true}
 use Rattle.number_finder.specs.SetGroup.{both, number_group}
 use Rattle.js_algebra.specs.View.{signed_view, are_in_table}

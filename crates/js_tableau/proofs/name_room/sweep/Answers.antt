@@ -1,4 +1,4 @@
--- Each asks only such as were decided before it.
+-- Each depends only on such as were decided before it.
 use Rattle.std.proofs.Common.{◌+◌, ◌<◌, length, get_or, ap, ◌∙◌, arith}
 use Rattle.std.proofs.lemmas.List.{length-map}
 use Rattle.position_laws.proofs.Tables.{is_table-IsTable}

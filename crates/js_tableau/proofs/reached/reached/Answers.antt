@@ -1,4 +1,4 @@
--- One that is new is found, and those that it asks wait next; one that was found before is done with.
+-- One that is new is found, and those that it depends on wait next; one that was found before is done with.
 use Rattle.std.proofs.Common.{◌<◌, length, sym, ◌∙◌, subst, arith}
 use Rattle.name_laws.proofs.Tests.{inserted-new, inserted-old}
 use Rattle.name_laws.proofs.Searching.{search-new, search-old, search-end}

@@ -1,4 +1,4 @@
--- The first byte tells the part's kind, and each kind is read as such.
+-- The first byte determines the part's kind, and each kind is read as such.
 use Rattle.std.proofs.Common.{◌∷◌, option_map, sym, ap, ◌∙◌}
 use Rattle.js_doc.specs.PartView.{part_view}
 use Rattle.js_text.proofs.PartReading.{kind_at, first-kind, reads-null, reads-true, reads-false, reads-string, reads-array, reads-object}

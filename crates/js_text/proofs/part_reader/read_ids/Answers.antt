@@ -9,7 +9,7 @@ use Rattle.document_text_laws.proofs.PartLaws.{references, array_end}
 use Rattle.js_doc.specs.PartMembers.{number_of}
 use Rattle.js_text.proofs.ListReading.{Listing, listing-step, listing-stuck, listing-end}
 use Rattle.js_text.proofs.part_reader.read_ids.Goals as goal
-use Rattle.list_laws.proofs.Every.{every-append}
+use Rattle.list_laws.proofs.Every.{every_joined}
 
 pub returns-in_default-clause-reads : goal.returns-in_default-clause-reads
 returns-in_default-clause-reads c xs rest good is =
@@ -30,7 +30,7 @@ loop-left-preserved c =
           c.loop-left.invariant.listing (sym c.ends_list.ensures ∙ c.loop-left-test.true) c.behind_comma.ensures.value
           c.in-Some.ensures.reads);
       fine = subst (λ ds. every is_named ds ≡ true) all
-          (every-append is_named done (c.in-Some.id.0 ∷ []) c.loop-left.invariant.fine
+          (every_joined is_named done (c.in-Some.id.0 ∷ []) c.loop-left.invariant.fine
           (and_from (is_named c.in-Some.id.0) true c.in-Some.ensures.takes.0 refl));
     }
 

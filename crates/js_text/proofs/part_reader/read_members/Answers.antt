@@ -11,7 +11,7 @@ use Rattle.js_doc.specs.PartMembers.{member_view}
 use Rattle.js_text.specs.Reads.{Reads, Takes}
 use Rattle.js_text.proofs.ListReading.{Listing, listing-step, listing-stuck, listing-end}
 use Rattle.js_text.proofs.part_reader.read_members.Goals as goal
-use Rattle.list_laws.proofs.Every.{every-append}
+use Rattle.list_laws.proofs.Every.{every_joined}
 
 abbrev members_left : PartMember × Bor (List ℕ) → (List ℕ × ℕ) × List ℕ
 members_left p = (member_view p.0, p.1.now)
@@ -40,7 +40,7 @@ loop-left-preserved c =
           (subst (λ r. Reads named_text is_member c.behind_comma.result.now (option_map members_left r)) c.in-Some.is
           c.in_ok-member.ensures.reads));
       fine = subst (λ ds. every is_member ds ≡ true) all
-          (every-append is_member done ((member_view c.in-Some.member) ∷ []) c.loop-left.invariant.fine
+          (every_joined is_member done ((member_view c.in-Some.member) ∷ []) c.loop-left.invariant.fine
           (and_from (is_member (member_view c.in-Some.member)) true takes.0 refl));
     }
 

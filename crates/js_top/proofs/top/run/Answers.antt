@@ -1,6 +1,6 @@
 use Rattle.std.proofs.Common.{◌≡◌, true, false, sym, ◌∙◌, subst}
 use Rattle.js_top.specs.declared.status.Status.TheVariants.{Other, Done, Limit, Refused}
-use Rattle.js_top.proofs.FileLaws.{prepared-document, prepared-inclusion, prepared-satisfied, prepared-unsatisfied, prepared-limit, prepared-counted, prepared-report, prepared-part, prepared-correct, prepared-limited, means-refusal}
+use Rattle.js_top.proofs.FileLaws.{prepared-document, prepared-inclusion, prepared-satisfied, prepared-unsatisfied, prepared-limit, prepared-report, prepared-part, prepared-correct, prepared-limited, means-refusal}
 use Rattle.js_top.proofs.JudgingLaws.{means-judgement, prepared-decision, means-judged_refusal}
 use Rattle.js_top.proofs.CheckingLaws.{means-acceptance, means-rejection, means-check_refusal}
 use Rattle.js_top.proofs.Includes.{no_read_fault, refused-noticed, prepared-noticed, noticed-alone, written-read}
@@ -62,14 +62,6 @@ returns-in-Ok-write_report-clause-limit g c = λ e i. (
   c.text.result.now,
   c.in-Ok-write_report.ensures.whole,
   prepared-limit (g.H.Shelf.told c.args.shelf.now) c.args.words.now _ _ c.in-Ok.prepared c.text.result.now
-      c.in-Ok.ensures.says c.text.ensures (sym c.status.ensures ∙ e) i,
-)
-
-pub returns-in-Ok-write_report-clause-counted : goal.returns-in-Ok-write_report-clause-counted
-returns-in-Ok-write_report-clause-counted g c = λ e i. (
-  c.text.result.now,
-  c.in-Ok-write_report.ensures.whole,
-  prepared-counted (g.H.Shelf.told c.args.shelf.now) c.args.words.now _ _ c.in-Ok.prepared c.text.result.now
       c.in-Ok.ensures.says c.text.ensures (sym c.status.ensures ∙ e) i,
 )
 
@@ -209,19 +201,20 @@ returns-in-Ok-write_report-clause-not_read_behind g c = λ e.
 -- where a certificate isn't judged to its end
 
 pub returns-in-Ok-write_report-clause-fault_unrejected : goal.returns-in-Ok-write_report-clause-fault_unrejected
-returns-in-Ok-write_report-clause-fault_unrejected g c = λ e all.
-    fault-unrejected (g.H.Shelf.told c.args.shelf.now) (command c.args.words.now) (g.H.Shelf.left c.prepare.new.shelf)
-    (g.H.Shelf.begun c.args.shelf.now) (g.H.Shelf.begun c.prepare.new.shelf) (report_of c.in-Ok.prepared)
-    c.in-Ok.ensures.unrejected (sym c.status.ensures ∙ e) all
+returns-in-Ok-write_report-clause-fault_unrejected g c = λ e all begun.
+    fault-unrejected (g.H.Shelf.told c.args.shelf.now) (command c.args.words.now)
+    (g.H.Shelf.is_begun c.prepare.new.shelf) (g.H.Shelf.left c.prepare.new.shelf) (g.H.Shelf.begun c.args.shelf.now)
+    (g.H.Shelf.begun c.prepare.new.shelf) (report_of c.in-Ok.prepared) c.in-Ok.ensures.unrejected
+    (sym c.status.ensures ∙ e) all begun
 
 pub returns-in-Ok-write_report-clause-refusal_unrejected : goal.returns-in-Ok-write_report-clause-refusal_unrejected
 returns-in-Ok-write_report-clause-refusal_unrejected g c = λ e.
     written-unrejected (g.H.Shelf.told c.args.shelf.now) (command c.args.words.now)
-    (g.H.Shelf.left c.prepare.new.shelf) (g.H.Shelf.begun c.args.shelf.now) (g.H.Shelf.begun c.prepare.new.shelf) _ _
-    (report_of c.in-Ok.prepared) c.text.result.now c.in-Ok.ensures.unrejected c.text.ensures
-    (sym c.status.ensures ∙ e) c.in-Ok-write_report.ensures.whole
+    (g.H.Shelf.is_begun c.prepare.new.shelf) (g.H.Shelf.left c.prepare.new.shelf) (g.H.Shelf.begun c.args.shelf.now)
+    (g.H.Shelf.begun c.prepare.new.shelf) _ _ (report_of c.in-Ok.prepared) c.text.result.now
+    c.in-Ok.ensures.unrejected c.text.ensures (sym c.status.ensures ∙ e) c.in-Ok-write_report.ensures.whole
 
--- with one worker a count that rose is told
+-- with one worker a count that rose is reported
 
 pub returns-in-Ok-write_report-clause-read_noticed_alone : goal.returns-in-Ok-write_report-clause-read_noticed_alone
 returns-in-Ok-write_report-clause-read_noticed_alone g c = λ less stays alone.

@@ -11,13 +11,10 @@ loop-i-preserved c =
     let form = form_at-get (schema_view c.args.schema.now) (get_or c.args.owners.now c.loop-i.i 0)
     (form_view c.form.result.now)
     (owner_below _ c.args.owners.now c.loop-i.i c.requires c.loop-i-test.true) c.form.ensures in
-    record {
-      len = search rules;
-      asks = owner_next (schema_view c.args.schema.now) of_contains c.args.owners.now c.loop-i.i
-          (form_view c.form.result.now) _ _ _ _ c.loop-i-test.true form (search rules) c.loop-i.invariant.asks;
-    }
+    owner_next (schema_view c.args.schema.now) of_contains c.args.owners.now c.loop-i.i
+    (form_view c.form.result.now) _ _ _ _ c.loop-i-test.true form (search rules) c.loop-i.invariant
 
-pub returns-clause-asks : goal.returns-clause-asks
-returns-clause-asks c =
+pub returns : goal.returns
+returns c =
     owners_done (schema_view c.args.schema.now) of_contains c.args.owners.now c.loop-i.i _ _
-    (omega (arith, c.loop-i-test.false)) c.loop-i.invariant.asks
+    (omega (arith, c.loop-i-test.false)) c.loop-i.invariant

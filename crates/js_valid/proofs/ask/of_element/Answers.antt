@@ -13,14 +13,11 @@ loop-i-preserved c =
     let within = c.requires.within c.loop-i.i-index c.loop-i-test.true in
     let form = form_at-get (schema_view c.args.schema.now) (get_or c.args.owners.now i 0) (form_view c.form.result.now)
     (owner_below _ c.args.owners.now i c.requires.owners within) c.form.ensures in
-    record {
-      len = search rules;
-      asks = place_next (schema_view c.args.schema.now) (λ f. of_element f c.args.place) c.args.owners.now
-          c.args.asking.now c.loop-i.i-index (form_view c.form.result.now) _ _ _ _ c.loop-i-test.true form
-          (search rules) c.loop-i.invariant.asks;
-    }
+    place_next (schema_view c.args.schema.now) (λ f. of_element f c.args.place) c.args.owners.now
+    c.args.asking.now c.loop-i.i-index (form_view c.form.result.now) _ _ _ _ c.loop-i-test.true form
+    (search rules) c.loop-i.invariant
 
-pub returns-clause-asks : goal.returns-clause-asks
-returns-clause-asks c =
+pub returns : goal.returns
+returns c =
     places_done (schema_view c.args.schema.now) (λ f. of_element f c.args.place) c.args.owners.now c.args.asking.now
-    c.loop-i.i-index _ _ (omega (arith, c.loop-i-test.false)) c.loop-i.invariant.asks
+    c.loop-i.i-index _ _ (omega (arith, c.loop-i-test.false)) c.loop-i.invariant

@@ -1,4 +1,4 @@
--- What `enum` and `const` refuse is refused, and the rest hangs on no element and no member's value.
+-- What `enum` and `const` refuse is refused, and the rest depends on no element and no member's value.
 use Rattle.std.proofs.Common.{sym, ◌∙◌}
 use Rattle.std.proofs.lemmas.Result.{IfOk-weaker}
 use Rattle.js_doc.specs.View.{view}

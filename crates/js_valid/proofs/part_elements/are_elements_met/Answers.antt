@@ -1,4 +1,4 @@
--- The first element that isn't as it is asked is found.
+-- The first element that isn't as required is found.
 use Rattle.std.proofs.Common.{ℕ, suc, Bool, ◌&&◌, map, drop, get_or, length, sym, ap, ◌∙◌, ◌+◌, add-one, arith}
 use Rattle.documents.specs.Document.{Document}
 use Rattle.documents.specs.Tests.{every}

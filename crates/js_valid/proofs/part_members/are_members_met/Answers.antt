@@ -1,4 +1,4 @@
--- The first value that isn't as it is asked is found.
+-- The first value that isn't as required is found.
 use Rattle.std.proofs.Common.{true, false, map, length, sym, ap, ◌∙◌, arith}
 use Rattle.documents.specs.Tests.{every}
 use Rattle.js_doc.specs.PartMembers.{member_view}

@@ -1,4 +1,4 @@
--- What `enum` and `const` refuse is refused, and the rest is asked of the frame.
+-- What `enum` and `const` refuse is refused, and the rest is required of the frame.
 use Rattle.std.proofs.Common.{sym, ap, ◌∙◌}
 use Rattle.std.proofs.lemmas.Result.{IfOk-weaker}
 use Rattle.documents.specs.Document.{null}
@@ -15,14 +15,14 @@ use Rattle.js_valid.proofs.part_own.meets_keywords.Goals as goal
 pub returns-then-not-is_given : goal.returns-then-not-is_given
 returns-then-not-is_given c =
     sym (own-none matches (flag c.args.here.now) (keywords_view c.args.keywords.now)
-    (unshared c.args.parts.now c.args.id.0) (sym c.is_given.ensures ∙ c.if-not-is_given.true))
+    (unshared c.args.part.now.parts.now c.args.part.now.id.0) (sym c.is_given.ensures ∙ c.if-not-is_given.true))
 
 pub returns : goal.returns
 returns c =
     let here = flag c.args.here.now in
     let k = keywords_view c.args.keywords.now in
-    let ps = c.args.parts.now in
-    let i = c.args.id.0 in
+    let ps = c.args.part.now.parts.now in
+    let i = c.args.part.now.id.0 in
     let asked = ap (frame_asks matches here k) c.requires.frame
     ∙ frame-same matches here k (λ i. null) (unshared ps) (part_at ps i)
     ∙ ap (frame_asks matches here k) (sym (unshared-built ps i c.get.ensures.table c.requires.within))

@@ -7,11 +7,11 @@ use Rattle.js_walk.proofs.steps.next.Given as goal
 
 abbrev pub invariant-loop-place : goal.invariant-loop-place
 invariant-loop-place l = record {
-  within : AreWithin (pointers_of l.fn.pointers) l.waiting.items;
-  next : next_of (done_places (pointers_of l.fn.pointers) l.fn.done)
-      (stack_view (pointers_of l.fn.pointers) l.waiting.items)
-      ≡ next_of (done_places (pointers_of l.fn.pointers) l.fn.done)
-      (stack_view (pointers_of l.fn.pointers) l.fn.waiting.items);
+  within : AreWithin (pointers_of l.fn.walked.pointers) l.waiting.items;
+  next : next_of (done_places (pointers_of l.fn.walked.pointers) l.fn.walked.done)
+      (stack_view (pointers_of l.fn.walked.pointers) l.waiting.items)
+      ≡ next_of (done_places (pointers_of l.fn.walked.pointers) l.fn.walked.done)
+      (stack_view (pointers_of l.fn.walked.pointers) l.fn.waiting.items);
 }
 
 abbrev pub decreases-loop-place : goal.decreases-loop-place

@@ -9,11 +9,11 @@ use Rattle.js_walk.proofs.steps.walk.Given as goal
 
 abbrev pub invariant-loop-place : goal.invariant-loop-place
 invariant-loop-place l = record {
-  reading : IsReading rules (root_of l.fn.file) (done_places (pointers_of l.pointers) l.done)
-      (stack_view (pointers_of l.pointers) l.waiting.items) l.weight;
-  light : l.weight ≤ 2147483647;
-  kept : Kept (root_of l.fn.file) (pointers_of l.pointers) l.done l.waiting.items;
+  reading : IsReading rules (root_of l.fn.file) (done_places (pointers_of l.walked.pointers) l.walked.done)
+      (stack_view (pointers_of l.walked.pointers) l.waiting.items) l.walked.weight;
+  light : l.walked.weight ≤ 2147483647;
+  kept : Kept (root_of l.fn.file) (pointers_of l.walked.pointers) l.walked.done l.waiting.items;
 }
 
 abbrev pub decreases-loop-place : goal.decreases-loop-place
-decreases-loop-place l = count (root_of l.fn.file) - length (done_places (pointers_of l.pointers) l.done)
+decreases-loop-place l = count (root_of l.fn.file) - length (done_places (pointers_of l.walked.pointers) l.walked.done)

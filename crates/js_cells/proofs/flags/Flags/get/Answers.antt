@@ -1,5 +1,5 @@
 use Rattle.std.proofs.Common.{◌≡◌, ◌<◌, ◌≤◌, ◌*◌, ◌∙◌, false, length, get_or, sym, ap, arith}
-use Rattle.js_nfa.proofs.BitsLemmas.{bit_read, length-flags_of, flag_at-get_or}
+use Rattle.js_pattern_positions.proofs.BitsLemmas.{bit_read, length-flags_of, flag_at-get_or}
 use Rattle.js_cells.proofs.flags.Flags.get.Goals as goal
 
 pub index-requires : goal.index-requires

@@ -1,6 +1,6 @@
 use Rattle.std.proofs.Common.{◌≡◌, ◌+◌, ◌/◌, ◌∙◌, replicate, length, ap, arith}
 use Rattle.std.proofs.lemmas.List.{length-replicate}
-use Rattle.js_nfa.proofs.BitsLemmas.{flags_of-zeros, no_bits-zeros}
+use Rattle.js_pattern_positions.proofs.BitsLemmas.{flags_of-zeros, no_bits-zeros}
 use Rattle.js_cells.proofs.FlagWordLaws.{small-zeros}
 use Rattle.js_cells.proofs.flags.Flags.none.Goals as goal
 

@@ -1,7 +1,7 @@
 use Rattle.std.proofs.Common.{◌≡◌, ◌<◌, ◌/◌, ◌∙◌, length, set, get_or, ap, arith}
 use Rattle.std.proofs.lemmas.List.{get_or_read, length-set}
 use Rattle.std.specs.Int.{bit_at}
-use Rattle.js_nfa.proofs.BitsLemmas.{length-flags_of}
+use Rattle.js_pattern_positions.proofs.BitsLemmas.{length-flags_of}
 use Rattle.js_cells.proofs.FlagWordLaws.{flags_of-set, clear-set, small-set}
 use Rattle.js_cells.proofs.flags.Flags.put.Goals as goal
 

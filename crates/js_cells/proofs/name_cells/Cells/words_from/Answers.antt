@@ -1,5 +1,5 @@
 use Rattle.std.proofs.Common.{◌≡◌, ℕ, ◌<◌, ◌++◌, [], map, length, get_or, min, nat_eq, ◌∙◌}
-use Rattle.list_laws.proofs.Lists.{in_get}
+use Rattle.list_laws.proofs.Lists.{get_or-in}
 use Rattle.std.proofs.lemmas.Result.{IfOk-weaker}
 use Rattle.cells.specs.Cells.{naming, cell_of}
 use Rattle.word_states.specs.Classes.{characters}
@@ -53,5 +53,5 @@ returns-clause-exact c =
     (λ numbers h r l.
     let u = get_or rows r [] in
     counted T S atoms rows are x.automaton.now.found.1.1 x.same c.args.cell u r (l, (same_laws atoms).refl u)
-    (rows_words atoms rows are u (in_get rows r [] l)) (get_or numbers.items r 0) (h r l))
+    (rows_words atoms rows are u (get_or-in rows r [] l)) (get_or numbers.items r 0) (h r l))
     (returns-clause-numbers c)

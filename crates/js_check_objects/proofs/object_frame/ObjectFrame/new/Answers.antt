@@ -1,4 +1,4 @@
--- What is kept of the set is what its frame asks.
+-- What is kept of the set is what its frame requires.
 use Rattle.std.proofs.Common.{◌≡◌, map, true, ap, ◌∙◌, subst}
 use Rattle.frames.specs.ObjectFrame as O
 use Rattle.js_algebra.specs.View.{signed_view, are_in_table}

@@ -1,4 +1,4 @@
--- What the classes before ask, and that so many products of two numbers of 32 bits fit.
+-- What the classes before require, and that so many products of two numbers of 32 bits fit.
 use Rattle.std.proofs.Common.{◌≡◌, ◌≤◌, ◌+◌, ◌*◌, cond, false, get_or}
 use Rattle.cell_laws.specs.Counting.{sum_to}
 use Rattle.verdicts.specs.RowLines.{stated}

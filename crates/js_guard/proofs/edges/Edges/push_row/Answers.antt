@@ -1,4 +1,4 @@
--- The new row stands behind the others, which stay.
+-- The new row comes behind the others, which stay.
 use Rattle.std.proofs.Common.{◌≡◌, ◌≤◌, ◌++◌, ◌∷◌, [], length, true, ap, ap₂, sym, ◌∙◌, subst, arith, length-append}
 use Rattle.documents.specs.Tests.{every}
 use Rattle.js_guard.specs.declared.edges.Row.{Row}

@@ -1,4 +1,4 @@
--- The path stands before its last server.
+-- The path before its last server.
 use Rattle.std.proofs.Common.{◌<◌, length, arith, subst}
 use Rattle.js_plan_lines.specs.Kept.{IsClear}
 use Rattle.js_plan_lines.proofs.Extents.{before-last}

@@ -8,7 +8,7 @@ pub returns-clause-heads : goal.returns-clause-heads
 returns-clause-heads g c =
     let frame = g.F.PlanFrame.frame c.args.frame.now in
     c.heads_placed-heads.ensures.value
-    ∙ ap₂ (heads_of frame) c.of-extent.ensures.used c.of-extent.ensures.members
+    ∙ ap₂ (heads_of frame) c.extent_of-extent.ensures.used c.extent_of-extent.ensures.members
     ∙ sym (heads-are frame c.args.path.now c.requires.path)
 
 pub returns-clause-count : goal.returns-clause-count
@@ -16,5 +16,6 @@ returns-clause-count g c =
     let frame = g.F.PlanFrame.frame c.args.frame.now in
     ap₂ (λ h m. h + m)
     (c.heads_placed-heads.ensures.value
-    ∙ ap₂ (heads_of frame) c.of-extent.ensures.used c.of-extent.ensures.members) c.of-extent.ensures.members
+    ∙ ap₂ (heads_of frame) c.extent_of-extent.ensures.used c.extent_of-extent.ensures.members)
+    c.extent_of-extent.ensures.members
     ∙ sym (placed-count frame c.args.path.now c.requires.path)

@@ -1,7 +1,7 @@
 -- One place after another.
 use Rattle.std.proofs.Common.{◌≡◌, ◌<◌, [], length, get_or, ap, sym, ◌∙◌, subst, arith}
 use Rattle.list_laws.specs.In.{IsIn}
-use Rattle.list_laws.proofs.Lists.{in_get}
+use Rattle.list_laws.proofs.Lists.{get_or-in}
 use Rattle.js_waiting.specs.Mentioned.{mention}
 use Rattle.js_rounds.proofs.rounds.Rounds.take_goal.Goals as goal
 
@@ -20,6 +20,6 @@ count_place-requires-clause-goal g c =
     c.of.ensures ∙ ap (λ t. get_or t c.args.goal []) k.mentions in
     let u = get_or c.of.result.now c.loop-place.place (mention 0 0 0) in
     let low = c.requires.goals u (subst (λ us. IsIn u us) same
-    (in_get c.of.result.now c.loop-place.place (mention 0 0 0)
+    (get_or-in c.of.result.now c.loop-place.place (mention 0 0 0)
     (omega (arith, l, ap length (same ∙ sym c.of-place-end.ensures))))) in
     omega (arith, low, k.known)

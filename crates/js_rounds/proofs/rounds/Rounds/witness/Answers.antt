@@ -3,8 +3,9 @@ use Rattle.std.proofs.Common.{◌≡◌, ◌<◌, ◌+◌, ◌++◌, ◌∷◌, 
 use Rattle.search.specs.Witness as W
 use Rattle.shared_documents.specs.Part.{first_forward}
 use Rattle.search_laws.proofs.Building.{Made, made_on, next_below}
+use Rattle.expander_laws.specs.Expander.{words_by}
 use Rattle.js_explore.specs.ExploredView.{explored_view}
-use Rattle.js_rounds.specs.Slots.{place_at, words_by}
+use Rattle.js_rounds.specs.Slots.{place_at}
 use Rattle.js_rounds.proofs.Using.{written}
 use Rattle.js_rounds.specs.Meets.{IsMet}
 use Rattle.js_rounds.proofs.Sound.{goal_met}

@@ -2,8 +2,8 @@
 use Rattle.std.proofs.Common.{◌≡◌, ◌<◌, ◌+◌, true, length}
 use Rattle.search.specs.Rounds.{round}
 use Rattle.search_laws.proofs.Building.{Made}
+use Rattle.expander_laws.specs.Expander.{words_by}
 use Rattle.js_explore.specs.ExploredView.{explored_view}
-use Rattle.js_rounds.specs.Slots.{words_by}
 use Rattle.js_rounds.proofs.rounds.Rounds.witness.Given as goal
 
 abbrev pub invariant-loop-place : goal.invariant-loop-place

@@ -1,0 +1,3 @@
+-- Key lemma: `built-is` of `Building`.
+mod Building
+mod SameAtoms

@@ -1,7 +1,0 @@
-use Rattle.std.proofs.Common.{◌≡◌, drop}
-use Rattle.patterns.specs.CharSet.{has}
-use Rattle.js_pattern.proofs.char_set.CharSet.contains.Given as goal
-
--- the ranges from here on decide
-abbrev pub invariant-loop-range : goal.invariant-loop-range
-invariant-loop-range l = has (drop l.range-index l.range-items) l.code ≡ has l.self l.code

@@ -1,0 +1,12 @@
+use Rattle.js_doc.specs.JsonView.{view}
+use Rattle.js_keywords.specs.Names.{keyword_name}
+use Rattle.js_reader.specs.ObjectView.{members_of, place_of}
+use Rattle.js_reader.proofs.FaultlessLemmas.{found, patterns_read}
+use Rattle.js_reader.proofs.fields.pattern_properties.Goals as goal
+
+pub pattern_properties-requires : goal.pattern_properties-requires
+pattern_properties-requires c =
+    let object = c.args.object.now in
+    patterns_read (place_of object) (members_of object) object.plain object.faultless c.args.keyword
+    (view c.in-Some.value.now) c.requires
+    (found (λ j. view j.now) _ _ (keyword_name c.args.keyword) (members_of object) c.value.ensures c.in-Some.is)

@@ -1,0 +1,30 @@
+use Rattle.std.proofs.Common.{◌≡◌, ◌<◌, length, nat_lt, true, rules, tests, sym, ap, subst, ◌∙◌}
+use Rattle.std.proofs.lemmas.Iterator.{YieldsList-from_slice}
+use Rattle.std.proofs.lemmas.Iterator.Adapters.{serves_from_places}
+use Rattle.std.proofs.lemmas.Iterator.Search.{any_from_yields_List}
+use Rattle.documents.specs.Tests.{every, some}
+use Rattle.name_laws.specs.Rooms.{truth_at}
+use Rattle.list_laws.proofs.Tests.{list_any-some}
+use Rattle.js_algebra.specs.declared.node.Pos.{Pos}
+use Rattle.js_algebra.specs.View.{places}
+use Rattle.js_tableau.proofs.Places.{inside-at}
+use Rattle.js_tableau.proofs.name_room.is_one_held.Goals as goal
+
+-- each position is in the room
+pub any-requires-clause-callable : goal.any-requires-clause-callable
+any-requires-clause-callable c =
+    let n = length c.args.room.now in
+    let within = subst (λ l. every (λ q. nat_lt q n) (places l) ≡ true) (sym c.as_slice.ensures) c.requires in
+    serves_from_places (YieldsList-from_slice _ c.iter.ensures.rest) (λ q f h. search (rules, tests))
+    (λ q k l e.
+    let low : q.now.0 < n =
+    subst (λ (p : Pos). p.0 < n) (sym e) (inside-at (λ (p : Pos). p.0) n c.as_slice.result.now k q.now within l) in
+    search (rules, low))
+
+pub returns : goal.returns
+returns c =
+    let room = c.args.room.now in
+    any_from_yields_List (λ q. truth_at room q.0) _ _ c.any.result c.any.ensures.ran
+    (YieldsList-from_slice _ c.iter.ensures.rest) (λ q b f h. search (rules, tests))
+    ∙ list_any-some (truth_at room) (λ q. q.0) c.as_slice.result.now
+    ∙ ap (λ l. some (truth_at room) (places l)) c.as_slice.ensures
