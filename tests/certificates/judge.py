@@ -56,7 +56,7 @@ class Lines:
         self.data, self.at, self.number, self.awaited = data, 0, 0, ''
 
     def cut(self):
-        """The next whole line; none where the bytes end. Lines outside the grammar and too long ones are told."""
+        """The next whole line; none where the bytes end. Lines outside the grammar and too long ones are reported."""
         end = self.data.find(b'\n', self.at)
         if (len(self.data) if end < 0 else end) - self.at > LONGEST:
             raise Rejected(self.number + 1, 2)
@@ -67,7 +67,7 @@ class Lines:
         return line
 
     def need(self, rule, told):
-        """The line that was taken last breaks the rule where it isn't so."""
+        """The line that was taken last breaks the rule where it doesn't hold."""
         if not told:
             raise Rejected(self.number, rule)
 

@@ -3,7 +3,7 @@
 
 Each command over the examples, and over a few small schemas, is run with a limit on its address space that falls step
 by step from what it takes without one. Where memory is refused the status has to be 7 with nothing written; else the
-report and the status have to be those without a limit. What is wrong is told, and the last line counts runs by how they
+report and the status have to be those without a limit. What is wrong is reported, and the last line counts runs by how they
 ended. A run with so little that the program can't be started at all is the last one."""
 import argparse
 import collections

@@ -3,7 +3,7 @@
 
 A library that stands before glibc's own calls (`failing.c`, compiled here by `cc`) refuses one request. The status has
 to be 7 with nothing written, or the report and the status have to be those without a refusal. Of a run with more than N
-requests, N are refused, evenly spread. What is wrong is told, and the last line counts runs by how they ended."""
+requests, N are refused, evenly spread. What is wrong is reported, and the last line counts runs by how they ended."""
 import argparse
 import collections
 import os

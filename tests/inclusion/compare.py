@@ -4,7 +4,7 @@
     compare.py JSAT SEED SECONDS
 
 A document that is printed, plain or in parts, has to be valid for the first schema and invalid for the second; where
-there is none, `jsat check` has to accept the certificate, and random documents are tried in vain. What is wrong is told
+there is none, `jsat check` has to accept the certificate, and random documents are tried in vain. What is wrong is reported
 with the schemas. The last lines count the answers, and the pairs that weren't compared: for a document in parts of more
 values than MOST_VALUES, or where the package goes too deep. The status is 1 where something is wrong, and else 0."""
 import json

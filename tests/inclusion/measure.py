@@ -59,6 +59,7 @@ def pairs():
         yield '%d in %d' % (count + 1, count), closed(count + 1), closed(count)
     yield '60 overlapping patterns in themselves', patterns(60, 'null'), patterns(60, 'null')
     yield 'in 60 of which one differs', patterns(60, 'null'), patterns(60, 'boolean')
+    yield 'and back', patterns(60, 'boolean'), patterns(60, 'null')
     yield 'twelve members asked for, each served by several cells, in `false`', served_twice(12), False
     yield '1,000 listed names and as many members, in `false`', names(1000, 1000), False
     yield 'one member more', names(1000, 1001), False

@@ -1,5 +1,6 @@
 #!/usr/bin/env python3
-"""Holds the pages against the tree: what a page names exists, what it quotes stands in the source, what it prints is printed.
+"""Holds the pages against the tree: what a page names exists, what it quotes is in the source, what it prints is printed. Code and
+comments are looked at too: lines, functions, first comments, and words that are the project's own where plain ones would do.
 
     tests/pages/check.py [--jsat PROGRAM] [--known]
 
@@ -596,6 +597,65 @@ def check_code(tree, findings):
                          'run tests/pages/check.py --known')
 
 
+# 7. Words of comments and pages.
+
+# What was said before in words of the project's own, and what says it plainly. Names in backquotes are passed over.
+PLAIN_WORDS = [
+    (re.compile(r'\bhang(?:s|ing)? on\b', re.I), 'say "depends on"'),
+    (re.compile(r"\b(?:is|are) so\b(?! (?:many|few|much|little|long|short|large|small|great|far|deep|often)\b)", re.I),
+     'say that it holds, or what it is'),
+    (re.compile(r"\b(?:is|are)n't so\b", re.I), 'say that it doesn\'t hold, or what it isn\'t'),
+    (re.compile(r"\b(?:is|are|was|were|isn't|aren't|wasn't|weren't) told\b", re.I), 'say "reported", "given" or "known"'),
+    (re.compile(r'\bfine\b(?!-)', re.I), 'say "passes" or "valid"'),
+]
+COMMENTS = {'.rt': re.compile(r'//[/!]?'), '.antt': re.compile(r'(?:^|(?<=\s))--(?=\s|$)')}
+STRING = re.compile(r'"(?:\\.|[^"\\])*"')
+
+
+def comments_of(text, start):
+    """Runs of comments, each as a line and what it says; a line with code before its comment is a run of its own."""
+    run, last = [], None
+    for number, line in enumerate(text.split('\n'), 1):
+        found = start.search(line)
+        if found and '"' in line[:found.start()]:
+            line = STRING.sub('""', line)
+            found = start.search(line)
+        alone = found and not line[:found.start()].strip()
+        if run and not (alone and last == number - 1):
+            yield run
+            run = []
+        if found:
+            run.append((number, line[found.end():].strip()))
+            last = number if alone else None
+    if run:
+        yield run
+
+
+def check_words(tree, findings):
+    def look(path, lines):
+        """Lines are pairs of a number and a text; a phrase may go on from one to the next."""
+        text = ' '.join(words for _, words in lines)
+        text = SPAN.sub(lambda m: '`' + ' ' * (len(m.group(0)) - 2) + '`', text)
+        for pattern, remedy in PLAIN_WORDS:
+            for found in pattern.finditer(text):
+                place = found.start()
+                for number, words in lines:
+                    if place <= len(words):
+                        break
+                    place -= len(words) + 1
+                findings.add(path, number, '"%s" is a word of the project\'s own' % found.group(0), remedy)
+
+    for page in tree.pages:
+        for unit in page.units:
+            if not unit.is_code:
+                look(page.path, [(n, line.strip()) for n, line in enumerate(unit.text.split('\n'), unit.line)])
+    for path in tree.files:
+        start = COMMENTS.get(os.path.splitext(path)[1])
+        if start and path.startswith('crates/'):
+            for run in comments_of(tree.text(path), start):
+                look(path, run)
+
+
 def write_known(tree):
     with open(KNOWN, 'w', encoding='utf-8') as file:
         file.write('# FILE: KIND: COUNT of the findings in code that are left until the file is changed anyway. It may only shrink.\n')
@@ -622,6 +682,7 @@ def main():
     check_tables(tree, findings)
     check_examples(tree, findings, os.path.abspath(words.jsat) if words.jsat else None)
     check_code(tree, findings)
+    check_words(tree, findings)
     for path, line, text in sorted(set(findings.list)):
         print('%s:%d: %s' % (path, line, text))
     return 1 if findings.list else 0

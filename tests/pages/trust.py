@@ -3,7 +3,7 @@
 
     tests/pages/trust.py [--list]
 
-From the file of the headline it follows each import of a definition file of this repository; of the kit it tells the
+From the file of the headline it follows each import of a definition file of this repository; of the kit it names the
 libraries whose definitions are imported. Of a file of proofs it follows each definition that is named, with what that
 definition itself names, and lists it with its file's name. Lemmas are passed over, since they define nothing, and so
 are the program's own types (`declared.`), which are alternatives with their fields, as the code declares them. Silent

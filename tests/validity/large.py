@@ -1,7 +1,7 @@
 #!/usr/bin/env python3
 """Writes large schemas and documents to measure validators with: large.py FOLDER [SEED].
 
-    records        10 MB of records, a schema of 64 places: `$ref`, `enum`, `pattern`, `required`, lists in lists
+    records        10 MB of records, a schema of 62 places: `$ref`, `enum`, `pattern`, `required`, lists in lists
     alternatives   a schema of 4,882 places: eighty kinds of nodes, told apart by a `const`; below each a node is
                    asked for by an `anyOf` of fifty references, and so on; a document of 1.5 MB of such nodes
     small          a document of one node, with the same schema
