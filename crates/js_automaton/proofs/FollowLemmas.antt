@@ -1,5 +1,5 @@
 -- What may follow a state, pattern by pattern, and beside a table of states that grows.
-use Rattle.std.proofs.Common.{◌≡◌, ℕ, ◌+◌, ◌<◌, ◌≤◌, inl, inr, Bool, true, false, if◌then◌else◌, List, [], ◌∷◌, ◌++◌, Option, length, get_or, refl, sym, ◌∙◌, ap, ap₂, subst, arith, length-append}
+use Rattle.std.proofs.Common.{◌≡◌, ℕ, ◌+◌, ◌<◌, inl, inr, Bool, true, false, if◌then◌else◌, List, [], ◌∷◌, ◌++◌, Option, length, get_or, refl, sym, ◌∙◌, ap, ap₂, subst, arith}
 use Rattle.std.specs.List.{list_any}
 use Rattle.std.specs.Option.{ForSome}
 use Rattle.std.proofs.lemmas.Bool.{cases_eq}
@@ -12,7 +12,7 @@ use Rattle.js_nfa.specs.View.{tree_of, state_view}
 use Rattle.js_nfa.specs.Columns.{IsFollow}
 use Rattle.js_automaton.specs.declared.state.TupleState.{TupleState}
 use Rattle.js_automaton.specs.Keys.{same_tuple}
-use Rattle.js_automaton.specs.Follows.{AreFollowsTo, AreFollows}
+use Rattle.js_automaton.specs.Follows.{AreFollowsTo}
 
 -- what is at a place is one
 one_at : {A : Type 0} (xs : List A) (i : ℕ) (x y : A) → i < length xs → x ≡ get_or xs i x → y ≡ get_or xs i y → x ≡ y

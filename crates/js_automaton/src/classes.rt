@@ -11,8 +11,9 @@ ghost use Rattle.js_automaton.specs.ClassView.{AreClasses, first_of};
 use crate::alike::{everything, find_pieces, meet};
 use crate::class_set::class_of;
 use crate::fault::AutoFault;
+use js_doc::Memory;
 use js_nfa::Atom;
-use js_pattern::{CharSet, Memory};
+use js_pattern::CharSet;
 use std::alloc::Global;
 
 /// The most classes that atoms may have.

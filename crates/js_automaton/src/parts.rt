@@ -21,12 +21,8 @@ use js_nfa::{Atom, Nfa, positions};
 use js_pattern::Re;
 use std::alloc::Global;
 
-/// The patterns of the atoms, and their parts. `firsts` are the first characters of the classes.
-pub(crate) fn parts_of(
-    alloc: Global,
-    atoms: &[Atom],
-    firsts: &[char],
-) -> Result<(Vec<Nfa>, Vec<Part>), AutoFault>
+/// The patterns of the atoms, and their parts.
+pub(crate) fn parts_of(alloc: Global, atoms: &[Atom]) -> Result<(Vec<Nfa>, Vec<Part>), AutoFault>
     ensures atoms { IfOk result (λ r. atoms_made r.0.items r.1.items ≡ map atom_view atoms.now) }
     ensures places { IfOk result (λ r. are_placed 0 r.1.items (length r.0.items) ≡ true) }
     ensures limit { IfErr result (λ fault. fault ≡ AutoFault.LimitPositions
@@ -36,7 +32,7 @@ pub(crate) fn parts_of(
     let mut patterns = Vec::new(alloc);
     let mut parts = Vec::with_capacity(alloc, atoms.len())?;
     for atom in atoms {
-        match add_part(alloc, &mut patterns, &mut parts, atom, firsts) {
+        match add_part(alloc, &mut patterns, &mut parts, atom) {
             Ok(()) => {}
             Err(fault) => return Err(fault),
         }
@@ -50,7 +46,6 @@ fn add_part(
     patterns: &mut Vec<Nfa>,
     parts: &mut Vec<Part>,
     atom: &Atom,
-    firsts: &[char],
 ) -> Result<(), AutoFault>
     requires { are_placed 0 parts.old.items (length patterns.old.items) ≡ true }
     ensures atoms { OnOk result (atoms_made patterns.new.items parts.new.items
@@ -62,7 +57,7 @@ fn add_part(
 {
     match atom {
         Atom::Match(re) => {
-            let nfa = nfa_of(alloc, re, firsts)?;
+            let nfa = positions(alloc, re)?;
             parts.push(Part::Match(patterns.len()))?;
             patterns.push(nfa)?;
         }
@@ -75,15 +70,19 @@ fn add_part(
     Ok(())
 }
 
-/// The automaton of a pattern, ready to go on by each of these characters without a walk for it.
-fn nfa_of(alloc: Global, re: &Re, characters: &[char]) -> Result<Nfa, AutoFault>
-    ensures tree { IfOk result (λ n. tree_of n ≡ view re.now) }
-    ensures within { OnOk result (count_of (view re.now) ≤ 16384) }
-    ensures limit { IfErr result (λ fault. fault ≡ AutoFault.LimitPositions → 16384 < count_of (view re.now)) }
-    ensures only { IfErr result (λ fault. (fault ≡ AutoFault.LimitPositions) ⊎ (fault ≡ AutoFault.Memory)) }
+/// The patterns, each ready to go on by each of these characters without a walk for it.
+pub(crate) fn with_columns(
+    alloc: Global,
+    patterns: Vec<Nfa>,
+    characters: &[char],
+) -> Result<Vec<Nfa>, Memory>
+    ensures { IfOk result (λ ready. map tree_of ready.items ≡ map tree_of patterns.items) }
 {
-    let nfa = positions(alloc, re)?;
-    Ok(nfa.with_columns(alloc, characters)?)
+    let mut ready = Vec::with_capacity(alloc, patterns.len())?;
+    for nfa in patterns {
+        ready.push(nfa.with_columns(alloc, characters)?)?;
+    }
+    Ok(ready)
 }
 
 /// The beginnings of the words of all lists.

@@ -45,7 +45,7 @@ pub fn build(alloc: Global, atoms: &[Atom]) -> Result<Automaton, AutoFault>
         → (positions_of (map atom_view atoms.now) ≤ 16384) × (class_count (map atom_view atoms.now) ≤ 1024)
         × HaveStates (map atom_view atoms.now) 65537) }
 {
-    let tuples = Tuples::new(alloc, atoms)?;
+    let tuples = Tuples::new(alloc, atoms)?.with_columns(alloc)?;
     let (states, targets) = find_rows(alloc, &tuples)?;
     let told = tell_rows(alloc, &tuples, &states)?;
     Ok(Automaton {

@@ -15,7 +15,7 @@ use crate::classes::{Class, classes, firsts};
 use crate::fault::AutoFault;
 use crate::gather::{PAST, count_all, longer, longest};
 use crate::part::Part;
-use crate::parts::{ends_of, parts_of, trie_of};
+use crate::parts::{ends_of, parts_of, trie_of, with_columns};
 use crate::state::TupleState;
 use crate::trie::Trie;
 use indexmap::IndexSet;
@@ -51,11 +51,11 @@ impl Tuples {
     ghost use Rattle.patterns.specs.CharSet.{has};
     ghost use Rattle.patterns.specs.Tree.{empty};
     ghost use Rattle.word_states.specs.Atom.{Match, LengthMin, is_true};
-    ghost use Rattle.word_states.specs.Classes.{class_count, is_in_class};
+    ghost use Rattle.word_states.specs.Classes.{are_alike, class_count, is_in_class};
     ghost use Rattle.js_nfa.specs.AtomView.{atom_view};
     ghost use Rattle.js_nfa.specs.View.{tree_of};
     ghost use Rattle.js_automaton.specs.Trie.{same_edge};
-    ghost use Rattle.js_automaton.specs.Tuple.{IsStateOf};
+    ghost use Rattle.js_automaton.specs.Tuple.{IsStateOf, pattern_states};
     ghost use Rattle.word_states.specs.AtomPositions.{positions_of};
     ghost use Rattle.js_automaton.specs.Told.{matches_in};
     ghost use Rattle.js_automaton.specs.TuplesView.{atoms_of};
@@ -77,8 +77,7 @@ impl Tuples {
             return Err(AutoFault::LimitPositions);
         }
         let classes = classes(alloc, atoms)?;
-        let firsts = firsts(alloc, &classes)?;
-        let (patterns, parts) = parts_of(alloc, atoms, &firsts)?;
+        let (patterns, parts) = parts_of(alloc, atoms)?;
         let trie = trie_of(alloc, &parts)?;
         let ends = ends_of(alloc, &trie, &parts)?;
         let longest = longest(atoms);
@@ -89,6 +88,23 @@ impl Tuples {
             ends,
             classes,
             longest,
+        })
+    }
+
+    /// The same, ready to go on by `follows` and `step_by` from many states. For a pattern and the classes, where both
+    /// are many, it makes what `Nfa::with_columns` does.
+    pub(crate) fn with_columns(self, alloc: Global) -> Result<Tuples, Memory>
+        ensures { IfOk result (λ t. atoms_of t ≡ atoms_of self) }
+    {
+        let firsts = firsts(alloc, &self.classes)?;
+        let patterns = with_columns(alloc, self.patterns, &firsts)?;
+        Ok(Tuples {
+            parts: self.parts,
+            patterns,
+            trie: self.trie,
+            ends: self.ends,
+            classes: self.classes,
+            longest: self.longest,
         })
     }
 
@@ -130,11 +146,15 @@ impl Tuples {
         ensures { IfOk result (λ s. (w : List ℕ) (c : ℕ) → IsStateOf (atoms_of self.now) state.now w
             → is_in_class (atoms_of self.now) class c ≡ true → IsStateOf (atoms_of self.now) s (w ++ c ∷ [])) }
     {
-        let follows = self.follows(alloc, state)?;
-        self.step_by(alloc, state, &follows, class)
+        let c = self.classes[class as usize].first;
+        let mut patterns = Vec::with_capacity(alloc, self.patterns.len())?;
+        for (i, nfa) in self.patterns.iter().enumerate() {
+            patterns.push(nfa.next_state(alloc, &state.patterns[i], state.is_empty, c)?)?;
+        }
+        Ok(self.state_after(state, patterns, c))
     }
 
-    /// What may follow the state in each pattern, where that spares a walk for each class.
+    /// What may follow the state in each pattern, where `with_columns` spares a walk for each class.
     pub(crate) fn follows(
         &self,
         alloc: Global,
@@ -174,14 +194,24 @@ impl Tuples {
             };
             patterns.push(next_of(alloc, nfa, &state.patterns[i], &follows[i], place)?)?;
         }
+        Ok(self.state_after(state, patterns, c))
+    }
+
+    /// The state after one more character, whose states of patterns are these.
+    fn state_after(&self, state: &TupleState, patterns: Vec<PatternState>, c: char) -> TupleState
+        ensures { (w : List ℕ) (d : ℕ) → IsStateOf (atoms_of self.now) state.now w
+            → map state_view patterns.items ≡ pattern_states (atoms_of self.now) (w ++ c ∷ [])
+            → are_alike (dividers (atoms_of self.now)) c d ≡ true
+            → IsStateOf (atoms_of self.now) result (w ++ d ∷ []) }
+    {
         let node = self.trie.child_of(state.node, c);
         let length = longer(state.length, self.longest);
-        Ok(TupleState {
+        TupleState {
             is_empty: false,
             patterns,
             node,
             length,
-        })
+        }
     }
 
     /// Whether an atom is true of the words with that state.

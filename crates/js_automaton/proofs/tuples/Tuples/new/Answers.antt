@@ -18,12 +18,12 @@ invariant_of-result c =
     record {
       places = c.in_ok-patterns.ensures.places;
       nodes =
-          c.in_ok-trie.ensures ∙ ap (λ (qs : List Part). edges_of (flat_map part_words qs)) c.deref-3.ensures.value
+          c.in_ok-trie.ensures ∙ ap (λ (qs : List Part). edges_of (flat_map part_words qs)) c.deref.ensures.value
           ∙ sym (ap edges_of (words-made ts ps));
       found = λ n k.
           c.in_ok-ends.ensures n k
           ∙ ap (λ (qs : List Part). ends_at (flat_map part_words qs) (part_words (get_or qs k (P.Length 0))) n)
-          c.deref-4.ensures.value
+          c.deref-2.ensures.value
           ∙ sym (ap (λ all. ends_at all (part_words (get_or ps k (P.Length 0))) n) (words-made ts ps))
           ∙ sym (ap (λ ws. ends_at (listed (map (part_view ts) ps)) ws n) (words-at ts ps k));
       firsts = c.in_ok-classes.ensures.firsts ∙ ap class_firsts (sym same);

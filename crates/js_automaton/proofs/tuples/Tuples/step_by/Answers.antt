@@ -1,9 +1,8 @@
-use Rattle.std.proofs.Common.{◌≡◌, ◌≤◌, ◌<◌, ◌∙◌, ◌+◌, ◌∷◌, ◌++◌, [], List, false, min, length, get_or, refl, sym, ap, subst, arith}
+use Rattle.std.proofs.Common.{◌≡◌, ◌≤◌, ◌<◌, ◌∙◌, ◌+◌, ◌∷◌, ◌++◌, [], List, length, get_or, refl, sym, ap, subst, arith}
 use Rattle.js_nfa.specs.declared.nfa.Nfa.{Nfa}
 use Rattle.js_nfa.specs.declared.state.PatternState.{PatternState}
-use Rattle.js_automaton.specs.Trie.{child_of}
 use Rattle.js_automaton.specs.TuplesView.{atoms_of}
-use Rattle.js_automaton.proofs.TupleLemmas.{AreStates, states-all, states-length, states-next, states-step, step-done, first-alike}
+use Rattle.js_automaton.proofs.TupleLemmas.{AreStates, states-all, states-length, states-next, states-step, first-alike}
 use Rattle.js_automaton.proofs.tuples.Tuples.step_by.Goals as goal
 
 pub index-requires-in-loop-i : goal.index-requires-in-loop-i
@@ -40,19 +39,10 @@ returns c = λ w d h k.
     let first = c.index.result.now.first in
     let all : length t.patterns.items ≤ c.loop-i.i =
     omega (arith, c.loop-i-test.false, ap (length {A = Nfa}) c.deref-nfa-items.ensures.value) in
-    step-done (atoms_of t) c.args.state.now
-    (record {
-      is_empty = false;
-      patterns = c.loop-i.patterns;
-      node = c.child_of-node.result;
-      length = c.longer-length.result;
-    })
-    first d w h refl
+    c.state_after.ensures w d h
     (states-all t.patterns.items t.parts.items t.places c.loop-i.patterns.items (w ++ first ∷ []) c.loop-i.i all
     (subst (λ (ns : List Nfa). AreStates ns c.loop-i.patterns.items (w ++ first ∷ []) c.loop-i.i)
     c.deref-nfa-items.ensures.value (c.loop-i.invariant w h)))
-    (c.child_of-node.ensures ∙ ap (λ z. child_of z c.args.state.now.node first) t.nodes)
-    (c.longer-length.ensures ∙ ap (λ g. min (c.args.state.now.length + 1) g) t.greatest)
     (first-alike (atoms_of t) t.classes.items c.args.class c.index.result.now d t.firsts c.requires.class
     c.index.ensures k)
 
