@@ -1,5 +1,5 @@
 -- The goals of the places of a plan, as they are formed after the servers of a path.
-use Rattle.std.specs.Prelude.{◌≡◌, ℕ, suc, ◌<◌, List, [], ◌∷◌, ◌++◌, reverse, length, get_or, Option, Some, None, ⊤}
+use Rattle.std.specs.Prelude.{◌≡◌, ℕ, suc, ◌<◌, List, [], ◌∷◌, ◌++◌, map, drop, reverse, length, get_or, Option, Some, None, ⊤}
 use Rattle.positions.specs.Position.{Position}
 use Rattle.goals.specs.Signed.{Signed, Plus}
 use Rattle.frames.specs.Frame as F
@@ -30,6 +30,15 @@ AreFirst T frame k (g ∷ gs) = (goal_of T frame (F.Head k, []) ≡ Some g) × A
 -- one of those below n has none
 abbrev pub IsFirstClash : List Position → Frame → ℕ → Type 0
 IsFirstClash T frame n = (k : ℕ) × (k < n) × (goal_of T frame (F.Head k, []) ≡ None)
+
+-- the goal of what serves nothing in a cell
+abbrev pub filler_goal : List Position → Frame → ℕ → Option (List Signed)
+filler_goal T frame c = goal_of T frame (F.In c, [])
+
+-- they are those of the first of the cells, in order
+abbrev pub AreFillers : List Position → Frame → List (Option (List Signed)) → Type 0
+AreFillers T frame gs =
+    gs ++ map (filler_goal T frame) (drop (length gs) frame.cells) ≡ map (filler_goal T frame) frame.cells
 
 -- each server of a path came with its goal
 abbrev pub AreGoals : List Position → Frame → List Server → List Served → Type 0

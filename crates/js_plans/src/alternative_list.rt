@@ -1,6 +1,6 @@
 //! The alternatives of the complete plans of a frame.
 
-ghost use Rattle.std.specs.Prelude.{◌≡◌, ◌<◌, ◌≤◌, ◌+◌, ◌-◌, ◌^◌, ◌++◌, [], map, flat_map, take, length, reverse, max, slice_set, cond, nat_eq, IfOk, IfErr, OnOk};
+ghost use Rattle.std.specs.Prelude.{◌≡◌, ◌<◌, ◌≤◌, ◌+◌, ◌-◌, ◌^◌, ◌++◌, [], map, flat_map, take, length, reverse, max, slice_set, cond, nat_eq, IfOk, IfErr, OnOk, IfSome};
 ghost use Rattle.std.specs.List.{range_with_len};
 ghost use Rattle.std.specs.Option.{option_to_list};
 ghost use Rattle.goals.specs.Signed as G;
@@ -11,23 +11,26 @@ ghost use Rattle.js_expansion.specs.View.{placed_view, filler_view};
 ghost use Rattle.js_expansion.specs.AlternativeView.{alternative_view};
 ghost use Rattle.js_plans.specs.Serving.{plan_after};
 ghost use Rattle.js_plans.specs.Servers.{cells_of, servers_of};
-ghost use Rattle.js_plans.specs.Goals.{AreFirst};
+ghost use Rattle.js_plans.specs.Goals.{filler_goal, AreFirst, AreFillers};
 ghost use Rattle.js_plans.specs.Placing.{put_heads, put_members};
 ghost use Rattle.js_plans.specs.Walks.{size_of, placed_heads, IsPath, IsWalk, IsCounted, left, most_plans, told_plans};
 ghost use Rattle.js_plans.specs.Named.{most_counts, IsSmall, naming_view, placed_from, filler_in, Answers};
 
 use crate::choices::count;
 use crate::fault::PlanFault;
-use crate::formed::goal_at;
+use crate::formed::form_fillers;
 use crate::naming::Naming;
 use crate::path::{self, Extent, Served};
 use crate::plan_frame::PlanFrame;
-use crate::server::{Place, Server};
+use crate::server::Server;
 use crate::walk::{PlanStep, PlanWalk, size};
 use js_algebra::{BranchId, Goal};
 use js_doc::Memory;
 use js_expansion::{Alternative, AlternativeList, Filler, FillerList, Placed, PlacedList};
 use std::alloc::Global;
+
+/// About how many goals alternatives may hold before the ends were counted.
+const MOST_UNCOUNTED: usize = 16_384;
 
 /// Puts a goal in the place of another one.
 fn put(goals: &mut Vec<Goal>, k: usize, goal: Goal)
@@ -152,17 +155,18 @@ fn need<F: PlanFrame>(frame: &F, size: u64, extent: Extent) -> u32
     total.saturating_sub(placed) as u32
 }
 
-/// What may be added in a cell, if it has room.
+/// What may be added in a cell, if it has room, by the goal of what serves nothing there.
 fn filler<F: PlanFrame>(
-    alloc: Global,
     frame: &F,
     naming: Naming,
     placed: usize,
     members: &[u32],
     cell: u32,
+    goal: &Option<Goal>,
 ) -> Result<Option<Filler>, Memory>
     requires placed { placed < 2 ^ 32 }
     requires members { length members.now < 2 ^ 32 }
+    requires goal { goal.now ≡ filler_goal (F.table frame.now) (F.frame frame.now) cell }
     ensures { IfOk result (λ o. map filler_view (option_to_list o) ≡ map (filling_of (naming_view naming) placed)
         (filler_in (F.table frame.now) (F.frame frame.now) members.now cell)) }
 {
@@ -171,9 +175,9 @@ fn filler<F: PlanFrame>(
     if room == 0 {
         return Ok(None);
     }
-    match goal_at(alloc, frame, Place::In(cell), &[])? {
+    match goal {
         Some(goal) => Ok(Some(Filler {
-            goal,
+            goal: goal.clone()?,
             room,
             slot: naming.filling(placed, cell, first),
         })),
@@ -181,7 +185,7 @@ fn filler<F: PlanFrame>(
     }
 }
 
-/// What may be added where some are needed.
+/// What may be added where some are needed; only there the goals of cells are formed.
 fn fillers<F: PlanFrame>(
     alloc: Global,
     frame: &F,
@@ -189,25 +193,30 @@ fn fillers<F: PlanFrame>(
     need: u32,
     placed: usize,
     members: &[u32],
+    goals: &mut Vec<Option<Goal>>,
 ) -> Result<FillerList, Memory>
     requires placed { placed < 2 ^ 32 }
     requires members { length members.now < 2 ^ 32 }
-    ensures { IfOk result (λ l. l ≡ map (filling_of (naming_view naming) placed) (cond (nat_eq need 0) []
+    requires goals { AreFillers (F.table frame.now) (F.frame frame.now) goals.old.items }
+    ensures fillers { IfOk result (λ l. l ≡ map (filling_of (naming_view naming) placed) (cond (nat_eq need 0) []
         (flat_map (filler_in (F.table frame.now) (F.frame frame.now) members.now) (F.frame frame.now).cells))) }
+    ensures goals { OnOk result (AreFillers (F.table frame.now) (F.frame frame.now) goals.new.items) }
 {
     let mut fillers = Vec::new(alloc);
     if need == 0 {
         return Ok(FillerList::from_vec(fillers));
     }
-    for cell in frame.cells() {
-        if let Some(filler) = filler(alloc, frame, naming, placed, members, *cell)? {
+    form_fillers(alloc, frame, goals)?;
+    for (k, cell) in frame.cells().iter().enumerate() {
+        if let Some(filler) = filler(frame, naming, placed, members, *cell, &goals[k])? {
             fillers.push(filler)?;
         }
     }
     Ok(FillerList::from_vec(fillers))
 }
 
-/// The alternative of the complete plan of a path, of which these are the goals of first places that serve nothing.
+/// The alternative of the complete plan of a path, of which these are the goals of first places that serve nothing, and
+/// those of fillers as far as they were formed.
 pub(crate) fn alternative<F: PlanFrame>(
     alloc: Global,
     frame: &F,
@@ -215,13 +224,16 @@ pub(crate) fn alternative<F: PlanFrame>(
     branch: BranchId,
     path: &[Served],
     first: &[Goal],
+    filler_goals: &mut Vec<Option<Goal>>,
 ) -> Result<Alternative, Memory>
     requires path { IsPath (F.table frame.now) (F.frame frame.now) path.now }
     requires first { AreFirst (F.table frame.now) (F.frame frame.now) 0 first.now }
+    requires fillers { AreFillers (F.table frame.now) (F.frame frame.now) filler_goals.old.items }
     requires placed { placed_heads (F.frame frame.now) (servers_of path.now) ≤ length first.now }
     requires small { IsSmall (F.frame frame.now) }
-    ensures { IfOk result (λ a. alternative_view a ≡ plan_alternative (naming_view naming) (kind_view branch.kind)
+    ensures made { IfOk result (λ a. alternative_view a ≡ plan_alternative (naming_view naming) (kind_view branch.kind)
         branch.number (F.table frame.now) (F.frame frame.now) (plan_after (F.frame frame.now) (servers_of path.now))) }
+    ensures fillers { OnOk result (AreFillers (F.table frame.now) (F.frame frame.now) filler_goals.new.items) }
 {
     let extent = Extent::of(path);
     let size = size(frame, extent);
@@ -235,6 +247,7 @@ pub(crate) fn alternative<F: PlanFrame>(
         need,
         count + extent.members,
         cells.as_slice(),
+        filler_goals,
     )?;
     let members = placed(alloc, naming, path, &first[..count])?;
     Ok(Alternative {
@@ -267,21 +280,77 @@ fn add_told<F: PlanFrame>(
     branch: BranchId,
     walk: &PlanWalk,
     step: PlanStep,
+    filler_goals: &mut Vec<Option<Goal>>,
     alternatives: &mut Vec<Alternative>,
 ) -> Result<(), Memory>
     requires walk { IsWalk (F.table frame.now) (F.frame frame.now) walk.now }
     requires placed { step ≡ PlanStep.Complete
         → placed_heads (F.frame frame.now) (servers_of walk.now.path.items) ≤ length walk.now.first.items }
     requires small { IsSmall (F.frame frame.now) }
-    ensures { OnOk result (map alternative_view alternatives.new.items ≡ map alternative_view alternatives.old.items
+    requires fillers { AreFillers (F.table frame.now) (F.frame frame.now) filler_goals.old.items }
+    ensures added { OnOk result (map alternative_view alternatives.new.items ≡ map alternative_view alternatives.old.items
         ++ map (plan_alternative (naming_view naming) (kind_view branch.kind) branch.number (F.table frame.now)
         (F.frame frame.now)) (told_plans (F.frame frame.now) (servers_of walk.now.path.items) step)) }
+    ensures fillers { OnOk result (AreFillers (F.table frame.now) (F.frame frame.now) filler_goals.new.items) }
 {
     if let PlanStep::Complete = step {
-        let alternative = alternative(alloc, frame, naming, branch, walk.path(), walk.first())?;
+        let path = walk.path();
+        let alternative = alternative(
+            alloc,
+            frame,
+            naming,
+            branch,
+            path,
+            walk.first(),
+            filler_goals,
+        )?;
         alternatives.push(alternative)?;
     }
     Ok(())
+}
+
+/// The alternatives of the complete plans that are left, none where they would hold more than [`MOST_UNCOUNTED`] goals
+/// or so. `LimitPlans` only where the whole tree has more ends than a tree may have.
+fn collect_few<F: PlanFrame>(
+    alloc: Global,
+    frame: &F,
+    naming: Naming,
+    branch: BranchId,
+    walk: &mut PlanWalk,
+) -> Result<Option<Vec<Alternative>>, PlanFault>
+    requires walk { IsWalk (F.table frame.now) (F.frame frame.now) walk.old }
+    requires small { IsSmall (F.frame frame.now) }
+    ensures made { IfOk result (λ o. IfSome o (λ v. map alternative_view v.items
+        ≡ map (plan_alternative (naming_view naming) (kind_view branch.kind) branch.number (F.table frame.now)
+        (F.frame frame.now)) (complete (left (F.table frame.now) (F.frame frame.now) walk.old)))) }
+    ensures few { IfOk result (λ o. IfSome o (λ _.
+        walk.old.ends + ends (left (F.table frame.now) (F.frame frame.now) walk.old) ≤ most_plans)) }
+    ensures walk { OnOk result (IsWalk (F.table frame.now) (F.frame frame.now) walk.new) }
+    ensures ends { OnOk result (walk.new.ends + ends (left (F.table frame.now) (F.frame frame.now) walk.new)
+        ≡ walk.old.ends + ends (left (F.table frame.now) (F.frame frame.now) walk.old)) }
+    ensures limit { IfErr result (λ fault. fault ≡ PlanFault.LimitPlans
+        → most_plans < walk.old.ends + ends (left (F.table frame.now) (F.frame frame.now) walk.old)) }
+{
+    let mut filler_goals = Vec::new(alloc);
+    let mut alternatives = Vec::new(alloc);
+    while let Some(step) = walk.next(alloc, frame)? {
+        let placed = walk.first().len().saturating_add(walk.path().len());
+        let each = placed.saturating_add(frame.cells().len());
+        if alternatives.len().saturating_mul(each) > MOST_UNCOUNTED {
+            return Ok(None);
+        }
+        add_told(
+            alloc,
+            frame,
+            naming,
+            branch,
+            walk,
+            step,
+            &mut filler_goals,
+            &mut alternatives,
+        )?;
+    }
+    Ok(Some(alternatives))
 }
 
 /// The alternatives of the complete plans that are left.
@@ -298,9 +367,19 @@ fn collect<F: PlanFrame>(
         (kind_view branch.kind) branch.number (F.table frame.now) (F.frame frame.now))
         (complete (left (F.table frame.now) (F.frame frame.now) walk.old))) }
 {
+    let mut filler_goals = Vec::new(alloc);
     let mut alternatives = Vec::new(alloc);
     while let Some(step) = walk.step(alloc, frame)? {
-        add_told(alloc, frame, naming, branch, walk, step, &mut alternatives)?;
+        add_told(
+            alloc,
+            frame,
+            naming,
+            branch,
+            walk,
+            step,
+            &mut filler_goals,
+            &mut alternatives,
+        )?;
     }
     Ok(alternatives)
 }
@@ -308,8 +387,9 @@ fn collect<F: PlanFrame>(
 /// The alternatives of the complete plans of a frame, in order, as those of a branch. `LimitPlans` exactly where the
 /// tree of plans has more than 65,536 ends, dropped plans included.
 ///
-/// A first walk counts the ends, a second one makes the alternatives. A step costs the goal of what serves its demand;
-/// the goal of a first place that serves nothing is formed once.
+/// Few alternatives are made in one walk; where there are more, it only counts the ends that are left, and a second one
+/// makes all alternatives. A step costs the goal of what serves its demand; the goals of first places and of fillers,
+/// which serve nothing, are formed once.
 pub fn plan_alternatives<F: PlanFrame>(
     alloc: Global,
     frame: &F,
@@ -326,6 +406,9 @@ pub fn plan_alternatives<F: PlanFrame>(
         return Err(PlanFault::Memory);
     }
     let mut walk = PlanWalk::new(alloc)?;
+    if let Some(few) = collect_few(alloc, frame, naming, branch, &mut walk)? {
+        return Ok(AlternativeList::from_vec(few));
+    }
     see_all(alloc, frame, &mut walk)?;
     walk.begin()?;
     let alternatives = collect(alloc, frame, naming, branch, &mut walk)?;

@@ -6,7 +6,7 @@ ghost use Rattle.frames.specs.Plan.{goal_of, empty_plan};
 ghost use Rattle.js_algebra.specs.View.{signed_view, are_in_table};
 ghost use Rattle.js_plans.specs.Serving.{place_view};
 ghost use Rattle.js_plans.specs.Servers.{earlier, servers_of, cells_of};
-ghost use Rattle.js_plans.specs.Goals.{place_after, goal_after, AreFirst, IsFirstClash};
+ghost use Rattle.js_plans.specs.Goals.{place_after, goal_after, filler_goal, AreFirst, AreFillers, IsFirstClash};
 
 use crate::path::{self, Served};
 use crate::plan_frame::PlanFrame;
@@ -82,4 +82,21 @@ pub(crate) fn form_first<F: PlanFrame>(
         }
     }
     Ok(true)
+}
+
+/// Forms the goals of what serves nothing in each cell, none where its list clashes, unless they were formed.
+pub(crate) fn form_fillers<F: PlanFrame>(
+    alloc: Global,
+    frame: &F,
+    goals: &mut Vec<Option<Goal>>,
+) -> Result<(), Memory>
+    requires { AreFillers (F.table frame.now) (F.frame frame.now) goals.old.items }
+    ensures { OnOk result (goals.new.items
+        ≡ map (filler_goal (F.table frame.now) (F.frame frame.now)) (F.frame frame.now).cells) }
+{
+    let cells = frame.cells();
+    for k in goals.len()..cells.len() {
+        goals.push(goal_at(alloc, frame, Place::In(cells[k]), &[])?)?;
+    }
+    Ok(())
 }

@@ -33,8 +33,8 @@ slice_bounds-placed-end g c =
     ∙ sym (size-plan frame ws l c.requires.path.valid)) (c.from.ensures ∙ c.heads.ensures) in
     sym (length-take-le c.min-count.result c.args.first.now (omega (arith, count, c.requires.placed)))
 
-pub returns : goal.returns
-returns g c =
+pub returns-clause-made : goal.returns-clause-made
+returns-clause-made g c =
     let T = g.F.PlanFrame.table c.args.frame.now in
     let frame = g.F.PlanFrame.frame c.args.frame.now in
     let N = naming_view c.args.naming in
@@ -63,7 +63,7 @@ returns g c =
     ++ placed_from N k (reverse (range_with_len 0 k)) (cells_of ws) (put_members es [])) count
     ∙ sym (members-plan T frame c.args.naming es c.args.first.now c.requires.path c.requires.first c.requires.placed))
     wanted
-    (c.in_ok-fillers.ensures
+    (c.in_ok-fillers.ensures.fillers
     ∙ ap₂ (λ n k. map (filling_of N k) (cond (nat_eq n 0) []
     (flat_map (filler_in T frame c.as_slice.result.now) frame.cells))) wanted placed_all
     ∙ ap (λ cs. map (filling_of N (length (placed frame q))) (cond (nat_eq (need frame q) 0) []

@@ -5,6 +5,7 @@ use Rattle.expansions.specs.Leaves.{plan_alternative}
 use Rattle.js_algebra.specs.View.{kind_view}
 use Rattle.js_expansion.specs.AlternativeView.{alternative_view}
 use Rattle.js_plans.specs.Walks.{IsCounted, left}
+use Rattle.js_plans.specs.Goals.{AreFillers}
 use Rattle.js_plans.specs.Named.{naming_view}
 use Rattle.js_plans.proofs.alternative_list.collect.Given as goal
 
@@ -15,6 +16,7 @@ invariant-loop-alternatives g l =
     let make = plan_alternative (naming_view l.naming) (kind_view l.branch.kind) l.branch.number T frame in
     record {
       walk : IsCounted T frame l.walk;
+      fillers : AreFillers T frame l.filler_goals.items;
       made : map alternative_view l.alternatives.items ++ map make (complete (left T frame l.walk))
           ≡ map make (complete (left T frame l.fn.walk));
     }

@@ -5,11 +5,11 @@ use Rattle.js_expansion.specs.View.{filler_view}
 use Rattle.js_plans.specs.Named.{naming_view, filler_in}
 use Rattle.js_plans.proofs.alternative_list.fillers.Given as goal
 
-abbrev pub invariant-loop-cell : goal.invariant-loop-cell
-invariant-loop-cell g l =
+abbrev pub invariant-loop-k : goal.invariant-loop-k
+invariant-loop-k g l =
     let frame = g.F.PlanFrame.frame l.frame in
     let T = g.F.PlanFrame.table l.frame in
     map filler_view l.fillers.items
     ++ map (filling_of (naming_view l.naming) l.placed)
-    (flat_map (filler_in T frame l.members) (drop l.cell-index frame.cells))
+    (flat_map (filler_in T frame l.members) (drop l.k frame.cells))
     ≡ map (filling_of (naming_view l.naming) l.placed) (flat_map (filler_in T frame l.members) frame.cells)

@@ -3,8 +3,8 @@ use Rattle.std.proofs.Common.{arith, ap}
 use Rattle.frames.specs.Plan.{ends}
 use Rattle.js_plans.proofs.alternative_list.plan_alternatives.Goals as goal
 
-pub see_all-requires : goal.see_all-requires
-see_all-requires g c =
+pub collect_few-requires-clause-walk : goal.collect_few-requires-clause-walk
+collect_few-requires-clause-walk g c =
     c.in_ok-walk.ensures.walk (g.F.PlanFrame.table c.args.frame.now) (g.F.PlanFrame.frame c.args.frame.now)
 
 pub collect-requires-clause-walk : goal.collect-requires-clause-walk
@@ -16,6 +16,7 @@ collect-requires-clause-walk g c =
       few = omega (
         arith,
         c.in_ok-see_all.ensures.few,
+        c.in_ok-few.ensures.ends,
         c.in_ok-begin.ensures.ends,
         ap ends (c.in_ok-begin.ensures.left T frame),
         ap ends (c.in_ok-walk.ensures.left T frame),
