@@ -68,24 +68,21 @@ module _ (frame : Frame) where
       → (d : Signed) × (ds : List Signed) × (drop (length ws) frame.demands ≡ d ∷ ds)
   some-left ws l = (_, _, drop-cons frame.demands (length ws) (Plus 0) l)
 
-  -- what a choice means, of a path that is known otherwise
-  pub some-choice : (us cut : List Server) (o : Option Choice) (choice : Choice) (slot : Slot) → us ≡ cut
-      → o ≡ Some choice → with_rest_at frame us o ≡ choices_at frame us slot
-      → choices_at frame cut slot ≡ choice.server ∷ choices_at frame cut choice.rest
-  some-choice us cut o choice slot e is w =
-      ap (λ vs. choices_at frame vs slot) (sym e) ∙ sym w ∙ ap₂ (λ vs p. with_rest_at frame vs p) e is
+  -- what a choice means
+  pub some-choice : (ws : List Server) (o : Option Choice) (choice : Choice) (slot : Slot) → o ≡ Some choice
+      → with_rest_at frame ws o ≡ choices_at frame ws slot
+      → choices_at frame ws slot ≡ choice.server ∷ choices_at frame ws choice.rest
+  some-choice ws o choice slot is w = sym w ∙ ap (λ p. with_rest_at frame ws p) is
 
-  pub valid-choice : (us cut : List Server) (o : Option Choice) (choice : Choice) → us ≡ cut → o ≡ Some choice
-      → IfSome o (λ choice. is_valid frame.heads (length (cells_of us)) choice.server ≡ true)
-      → is_valid frame.heads (length (cells_of cut)) choice.server ≡ true
-  valid-choice us cut o choice e is v =
-      subst (λ vs. is_valid frame.heads (length (cells_of vs)) choice.server ≡ true) e
-      (subst (λ p. IfSome p (λ choice. is_valid frame.heads (length (cells_of us)) choice.server ≡ true)) is v)
+  pub valid-choice : (ws : List Server) (o : Option Choice) (choice : Choice) → o ≡ Some choice
+      → IfSome o (λ choice. is_valid frame.heads (length (cells_of ws)) choice.server ≡ true)
+      → is_valid frame.heads (length (cells_of ws)) choice.server ≡ true
+  valid-choice ws o choice is v =
+      subst (λ p. IfSome p (λ choice. is_valid frame.heads (length (cells_of ws)) choice.server ≡ true)) is v
 
-  pub no-choice : (us cut : List Server) (o : Option Choice) (slot : Slot) → us ≡ cut → o ≡ None
-      → with_rest_at frame us o ≡ choices_at frame us slot → choices_at frame cut slot ≡ []
-  no-choice us cut o slot e is w =
-      ap (λ vs. choices_at frame vs slot) (sym e) ∙ sym w ∙ ap (λ p. with_rest_at frame us p) is
+  pub no-choice : (ws : List Server) (o : Option Choice) (slot : Slot) → o ≡ None
+      → with_rest_at frame ws o ≡ choices_at frame ws slot → choices_at frame ws slot ≡ []
+  no-choice ws o slot is w = sym w ∙ ap (λ p. with_rest_at frame ws p) is
 
   -- the entry that comes next
   module _ (path cut : List Server) (es old : List Pending) (e : Pending) (q : old ≡ es ++ e ∷ [])

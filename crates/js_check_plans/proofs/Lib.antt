@@ -4,3 +4,5 @@ mod Placing
 mod RoomLemmas
 mod DutyLemmas
 mod LineLemmas
+mod CountLemmas
+mod PathLemmas

@@ -1,5 +1,5 @@
 -- The choices of a demand are those from the first slot on.
-use Rattle.std.proofs.Common.{◌≡◌, ◌+◌, ◌-◌, ◌≤◌, List, ◌++◌, map, length, arith, ap, ◌∙◌}
+use Rattle.std.proofs.Common.{◌≡◌, ◌-◌, ◌≤◌, List, ◌++◌, map, length, arith, ap, ◌∙◌}
 use Rattle.std.specs.List.{range_with_len}
 use Rattle.frames.specs.Frame.{Frame}
 use Rattle.js_plans.specs.declared.server.Server.{Server}

@@ -1,9 +1,8 @@
 -- The plan of a list of servers: its places, its members and its size, and what one more server makes of it.
-use Rattle.std.proofs.Common.{◌≡◌, ℕ, ◌+◌, List, [], ◌∷◌, ◌++◌, take, drop, true, arith, sym, subst}
+use Rattle.std.proofs.Common.{◌≡◌, ℕ, List, [], ◌∷◌, ◌++◌, take, drop, true, arith, sym, subst}
 use Rattle.std.proofs.lemmas.List.{length-append, length-take, take-append-drop}
 use Rattle.frames.specs.Frame.{Frame}
 use Rattle.js_plans.specs.declared.server.Server.{Server}
-use Rattle.js_plans.specs.declared.server.Server.TheVariants as V
 use Rattle.js_plans.specs.Servers.{is_valid, are_valid}
 use Rattle.js_check_plans.specs.Reach.{IsPath}
 use Rattle.js_check_plans.specs.OpenDuties.{Fits}

@@ -3,5 +3,6 @@
 pub mod FormView
 pub mod Reach
 pub mod Rooms
+pub mod Counts
 pub mod Slots
 pub mod OpenDuties

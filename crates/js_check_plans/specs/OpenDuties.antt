@@ -49,10 +49,10 @@ pending_duties form frame ws (e ∷ es) =
     option_duties form frame (take e.level ws) e.next ++ pending_duties form frame (take e.level ws) es
 
 abbrev pub others : Form → Frame → OpenPlans → List Duty
-others form frame w = pending_duties form frame w.path.items (reverse w.pending.items)
+others form frame w = pending_duties form frame w.path.servers.items (reverse w.pending.items)
 
 abbrev pub duties : Form → Frame → OpenPlans → List Duty
-duties form frame w = cond w.has_plan (at_hand form frame w.path.items ∷ others form frame w) []
+duties form frame w = cond w.has_plan (at_hand form frame w.path.servers.items ∷ others form frame w) []
 
 abbrev pub entry : ℕ → Slot → Pending
 entry n slot = record { level = n; next = slot }
@@ -68,8 +68,8 @@ AreFine frame ws (e ∷ es) =
 
 -- plans of that frame
 pub record IsOpen (frame : Frame) (w : OpenPlans) : Type 0 where
-  pub path : IsPath frame w.path.items
-  pub fine : AreFine frame w.path.items (reverse w.pending.items)
+  pub path : IsPath frame w.path.servers.items
+  pub fine : AreFine frame w.path.servers.items (reverse w.pending.items)
 
 -- that plans are of a frame is a fact: it has one proof at most
 AreFine-prop : (frame : Frame) (ws : List Server) (es : List Pending) → IsProp (AreFine frame ws es)
@@ -86,5 +86,5 @@ IsOpen-prop frame w x y = λ i. record {
     few = le_prop x.path.few y.path.few i;
     valid = Coded-set coded_bool _ _ x.path.valid y.path.valid i;
   };
-  fine = AreFine-prop frame w.path.items (reverse w.pending.items) x.fine y.fine i;
+  fine = AreFine-prop frame w.path.servers.items (reverse w.pending.items) x.fine y.fine i;
 }

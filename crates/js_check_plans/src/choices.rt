@@ -2,7 +2,7 @@
 //!
 //! Choices are found and never listed, as a frame may have many first places.
 
-ghost use Rattle.std.specs.Prelude.{◌≡◌, ◌<◌, ◌≤◌, ◌++◌, drop, length, get_or, not, true, IfOk, IfSome};
+ghost use Rattle.std.specs.Prelude.{◌≡◌, ◌<◌, ◌≤◌, ◌++◌, drop, length, get_or, not, true, IfSome};
 ghost use Rattle.goals.specs.Signed as G;
 ghost use Rattle.frames.specs.Fillers.{times};
 ghost use Rattle.frames.specs.Frame.{is_at_end};
@@ -11,10 +11,9 @@ ghost use Rattle.js_plans.specs.Choosing.{serving_cells, open_cells};
 ghost use Rattle.js_check_plans.specs.Slots.{choices_from, choices_at, with_rest, with_rest_at};
 
 use crate::check_frame::CheckFrame;
-use crate::path;
-use js_doc::Memory;
+use crate::members::Members;
+use crate::path::Path;
 use js_plans::Server;
-use std::alloc::Global;
 
 /// What is tried for a demand, in this order: what is at each first place, each member, and a new member in each cell,
 /// given by its place in the list of cells.
@@ -33,35 +32,29 @@ pub(crate) struct Choice {
 }
 
 /// The first choice from a slot on, if there is one.
-pub(crate) fn first_choice<F: CheckFrame>(
-    alloc: Global,
-    frame: &F,
-    path: &[Server],
-    slot: Slot,
-) -> Result<Option<Choice>, Memory>
-    requires { length path.now < length (F.frame frame.now).demands }
-    ensures choices { IfOk result (λ o. with_rest_at (F.frame frame.now) path.now o
-        ≡ choices_at (F.frame frame.now) path.now slot) }
-    ensures valid { IfOk result (λ o. IfSome o (λ choice. is_valid (F.frame frame.now).heads
-        (length (cells_of path.now)) choice.server ≡ true)) }
+pub(crate) fn first_choice<F: CheckFrame>(frame: &F, path: &Path, slot: Slot) -> Option<Choice>
+    requires { length path.now.servers.items < length (F.frame frame.now).demands }
+    ensures choices { with_rest_at (F.frame frame.now) path.now.servers.items result
+        ≡ choices_at (F.frame frame.now) path.now.servers.items slot }
+    ensures valid { IfSome result (λ choice. is_valid (F.frame frame.now).heads
+        (length (cells_of path.now.servers.items)) choice.server ≡ true) }
 {
-    let members = path::cells(alloc, path)?;
-    Ok(first_from(frame, path.len(), members.as_slice(), slot))
+    first_from(frame, path.len(), path.members(), slot)
 }
 
 /// The first choice from a slot on, with members in these cells.
 fn first_from<F: CheckFrame>(
     frame: &F,
     demand: usize,
-    members: &[u32],
+    members: &Members,
     slot: Slot,
 ) -> Option<Choice>
     requires { demand < length (F.frame frame.now).demands }
-    ensures choices { with_rest (F.frame frame.now) (get_or (F.frame frame.now).demands demand (G.Plus 0)) members.now
-        result ≡ choices_from (F.frame frame.now) (get_or (F.frame frame.now).demands demand (G.Plus 0)) members.now
-        slot }
-    ensures valid { IfSome result (λ choice. is_valid (F.frame frame.now).heads (length members.now) choice.server
-        ≡ true) }
+    ensures choices { with_rest (F.frame frame.now) (get_or (F.frame frame.now).demands demand (G.Plus 0))
+        members.now.cells.items result ≡ choices_from (F.frame frame.now) (get_or (F.frame frame.now).demands demand
+        (G.Plus 0)) members.now.cells.items slot }
+    ensures valid { IfSome result (λ choice. is_valid (F.frame frame.now).heads (length members.now.cells.items)
+        choice.server ≡ true) }
 {
     match slot {
         Slot::Head(k) => {
@@ -83,19 +76,19 @@ fn first_from<F: CheckFrame>(
 fn first_member<F: CheckFrame>(
     frame: &F,
     demand: usize,
-    members: &[u32],
+    members: &Members,
     from: usize,
 ) -> Option<Choice>
     requires { demand < length (F.frame frame.now).demands }
-    ensures choices { with_rest (F.frame frame.now) (get_or (F.frame frame.now).demands demand (G.Plus 0)) members.now
-        result ≡ serving_cells (F.frame frame.now) (get_or (F.frame frame.now).demands demand (G.Plus 0)) from
-        (drop from members.now) ++ open_cells (F.frame frame.now)
-        (get_or (F.frame frame.now).demands demand (G.Plus 0)) members.now (F.frame frame.now).cells }
-    ensures valid { IfSome result (λ choice. is_valid (F.frame frame.now).heads (length members.now) choice.server
-        ≡ true) }
+    ensures choices { with_rest (F.frame frame.now) (get_or (F.frame frame.now).demands demand (G.Plus 0))
+        members.now.cells.items result ≡ serving_cells (F.frame frame.now) (get_or (F.frame frame.now).demands demand
+        (G.Plus 0)) from (drop from members.now.cells.items) ++ open_cells (F.frame frame.now) (get_or (F.frame
+        frame.now).demands demand (G.Plus 0)) members.now.cells.items (F.frame frame.now).cells }
+    ensures valid { IfSome result (λ choice. is_valid (F.frame frame.now).heads (length members.now.cells.items)
+        choice.server ≡ true) }
 {
-    for k in from..members.len() {
-        if frame.is_inside(demand, members[k]) {
+    for k in from..members.cells.len() {
+        if frame.is_inside(demand, members.cells[k]) {
             return Some(Choice {
                 server: Server::Member(k),
                 rest: Slot::Member(k + 1),
@@ -109,15 +102,15 @@ fn first_member<F: CheckFrame>(
 fn first_new<F: CheckFrame>(
     frame: &F,
     demand: usize,
-    members: &[u32],
+    members: &Members,
     from: usize,
 ) -> Option<Choice>
     requires { demand < length (F.frame frame.now).demands }
-    ensures choices { with_rest (F.frame frame.now) (get_or (F.frame frame.now).demands demand (G.Plus 0)) members.now
-        result ≡ open_cells (F.frame frame.now) (get_or (F.frame frame.now).demands demand (G.Plus 0)) members.now
-        (drop from (F.frame frame.now).cells) }
-    ensures valid { IfSome result (λ choice. is_valid (F.frame frame.now).heads (length members.now) choice.server
-        ≡ true) }
+    ensures choices { with_rest (F.frame frame.now) (get_or (F.frame frame.now).demands demand (G.Plus 0))
+        members.now.cells.items result ≡ open_cells (F.frame frame.now) (get_or (F.frame frame.now).demands demand
+        (G.Plus 0)) members.now.cells.items (drop from (F.frame frame.now).cells) }
+    ensures valid { IfSome result (λ choice. is_valid (F.frame frame.now).heads (length members.now.cells.items)
+        choice.server ≡ true) }
 {
     let cells = frame.cells();
     for i in from..cells.len() {
@@ -132,25 +125,11 @@ fn first_new<F: CheckFrame>(
     None
 }
 
-fn has_room(cap: Option<u32>, members: &[u32], cell: u32) -> bool
-    ensures { result ≡ not (is_at_end (times cell members.now) cap) }
+fn has_room(cap: Option<u32>, members: &Members, cell: u32) -> bool
+    ensures { result ≡ not (is_at_end (times cell members.now.cells.items) cap) }
 {
     match cap {
-        Some(cap) => count(members, cell) < cap as usize,
+        Some(cap) => members.count(cell) < cap as usize,
         None => true,
     }
-}
-
-/// How many of the cells are that one.
-pub(crate) fn count(cells: &[u32], cell: u32) -> usize
-    ensures value { result ≡ times cell cells.now }
-    ensures bound { result ≤ length cells.now }
-{
-    let mut count = 0;
-    for other in cells {
-        if *other == cell {
-            count += 1;
-        }
-    }
-    count
 }

@@ -1,14 +1,11 @@
 //! How far plans reach, and how many they have.
 
-ghost use Rattle.std.specs.Prelude.{◌≡◌, ◌≤◌, ◌+◌, ◌-◌, ◌^◌, length, max, min};
+ghost use Rattle.std.specs.Prelude.{◌≡◌, ◌≤◌, ◌+◌, ◌-◌, ◌^◌, max, min};
 ghost use Rattle.frames.specs.Frame.{is_at_end};
-ghost use Rattle.js_plans.specs.Servers.{used_after, most_used, cells_of};
 ghost use Rattle.js_plans.specs.Walks.{size_of};
 ghost use Rattle.js_check_plans.specs.Reach.{heads_of};
 
 use crate::check_frame::CheckFrame;
-use crate::path::members_after;
-use js_plans::Server;
 
 /// How far a plan reaches.
 #[derive(Clone, Copy)]
@@ -16,35 +13,6 @@ pub(crate) struct Extent {
     /// One more than the last first place that serves.
     pub used: u64,
     pub members: usize,
-}
-
-/// One more than the last first place that serves, when one more demand is served.
-fn used_after(used: u64, server: Server) -> u64
-    requires { used ≤ 2 ^ 32 }
-    ensures value { result ≡ used_after used server }
-    ensures bound { result ≤ 2 ^ 32 }
-{
-    match server {
-        Server::Head(k) => used.max(u64::from(k) + 1),
-        _ => used,
-    }
-}
-
-impl Extent {
-    pub(crate) fn of(path: &[Server]) -> Extent
-        ensures used { result.used ≡ most_used 0 path.now }
-        ensures members { result.members ≡ length (cells_of path.now) }
-        ensures few { result.members ≤ length path.now }
-        ensures bound { result.used ≤ 2 ^ 32 }
-    {
-        let mut used = 0;
-        let mut members = 0;
-        for server in path {
-            used = used_after(used, *server);
-            members = members_after(members, *server);
-        }
-        Extent { used, members }
-    }
 }
 
 pub(crate) fn is_at_end(count: u128, below: Option<u128>) -> bool

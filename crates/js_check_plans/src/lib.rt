@@ -10,6 +10,7 @@ mod choices;
 mod extent;
 mod form;
 mod lines;
+mod members;
 mod open_plans;
 mod path;
 mod placed;

@@ -12,13 +12,13 @@ ghost use Rattle.js_check_plans.specs.Reach.{IsPath};
 ghost use Rattle.js_check_plans.specs.OpenDuties.{after_line, after_at, is_split};
 
 use crate::check_frame::CheckFrame;
-use crate::extent::{Extent, heads_placed, is_at_end, size};
+use crate::extent::{heads_placed, is_at_end, size};
 use crate::form::PlanForm;
+use crate::path::Path;
 use crate::placed::is_refuted_at;
 use crate::rooms::falls_short;
 use js_algebra::Goal;
 use js_lines::{CertEnd, CertLine, ShortEntry};
-use js_plans::Server;
 use js_rules::{Rule, RuleFault};
 use std::alloc::Global;
 
@@ -32,26 +32,26 @@ pub(crate) fn is_split(line: &CertLine) -> bool
 }
 
 /// Whether the plan has too many.
-fn is_over<F: CheckFrame>(frame: &F, path: &[Server]) -> bool
-    requires { IsPath (F.frame frame.now) path.now }
-    ensures { result ≡ is_at_end (size (F.frame frame.now) (plan_after (F.frame frame.now) path.now))
+fn is_over<F: CheckFrame>(frame: &F, path: &Path) -> bool
+    requires { IsPath (F.frame frame.now) path.now.servers.items }
+    ensures { result ≡ is_at_end (size (F.frame frame.now) (plan_after (F.frame frame.now) path.now.servers.items))
         (F.frame frame.now).below }
 {
-    is_at_end(size(frame, Extent::of(path)), frame.below())
+    is_at_end(size(frame, path.extent()), frame.below())
 }
 
 /// The plan has too many.
 fn over<F: CheckFrame>(
     form: PlanForm,
     frame: &F,
-    path: &[Server],
+    path: &Path,
     goals: &[Goal],
 ) -> Result<(), RuleFault>
-    requires { IsPath (F.frame frame.now) path.now }
-    ensures ended { OnOk result (after_line (F.table frame.now) goals.now (form_view form) (F.frame frame.now) path.now
-        L.Count ≡ Ok []) }
+    requires { IsPath (F.frame frame.now) path.now.servers.items }
+    ensures ended { OnOk result (after_line (F.table frame.now) goals.now (form_view form) (F.frame frame.now)
+        path.now.servers.items L.Count ≡ Ok []) }
     ensures broken { IfErr result (λ fault. Breaks (after_line (F.table frame.now) goals.now (form_view form)
-        (F.frame frame.now) path.now L.Count) fault) }
+        (F.frame frame.now) path.now.servers.items L.Count) fault) }
 {
     if is_over(frame, path) {
         Ok(())
@@ -64,16 +64,16 @@ fn over<F: CheckFrame>(
 fn refuted<F: CheckFrame>(
     alloc: Global,
     frame: &F,
-    path: &[Server],
+    path: &Path,
     goals: &[Goal],
     number: u64,
     end: CertEnd,
 ) -> Result<(), RuleFault>
-    requires { IsPath (F.frame frame.now) path.now }
-    ensures ended { OnOk result (after_at (F.table frame.now) goals.now (F.frame frame.now) path.now number
-        (end_view end) ≡ Ok []) }
-    ensures broken { IfErr result (λ fault. Breaks (after_at (F.table frame.now) goals.now (F.frame frame.now) path.now
-        number (end_view end)) fault) }
+    requires { IsPath (F.frame frame.now) path.now.servers.items }
+    ensures ended { OnOk result (after_at (F.table frame.now) goals.now (F.frame frame.now) path.now.servers.items
+        number (end_view end) ≡ Ok []) }
+    ensures broken { IfErr result (λ fault. Breaks (after_at (F.table frame.now) goals.now (F.frame frame.now)
+        path.now.servers.items number (end_view end)) fault) }
 {
     if is_refuted_at(alloc, frame, path, goals, number, end)? {
         Ok(())
@@ -87,16 +87,16 @@ fn member<F: CheckFrame>(
     alloc: Global,
     form: PlanForm,
     frame: &F,
-    path: &[Server],
+    path: &Path,
     goals: &[Goal],
     number: u32,
     end: CertEnd,
 ) -> Result<(), RuleFault>
-    requires { IsPath (F.frame frame.now) path.now }
-    ensures ended { OnOk result (after_line (F.table frame.now) goals.now (form_view form) (F.frame frame.now) path.now
-        (L.OfMember number (end_view end)) ≡ Ok []) }
+    requires { IsPath (F.frame frame.now) path.now.servers.items }
+    ensures ended { OnOk result (after_line (F.table frame.now) goals.now (form_view form) (F.frame frame.now)
+        path.now.servers.items (L.OfMember number (end_view end)) ≡ Ok []) }
     ensures broken { IfErr result (λ fault. Breaks (after_line (F.table frame.now) goals.now (form_view form)
-        (F.frame frame.now) path.now (L.OfMember number (end_view end))) fault) }
+        (F.frame frame.now) path.now.servers.items (L.OfMember number (end_view end))) fault) }
 {
     match form {
         PlanForm::OfObjects => refuted(alloc, frame, path, goals, u64::from(number), end),
@@ -109,20 +109,20 @@ fn index<F: CheckFrame>(
     alloc: Global,
     form: PlanForm,
     frame: &F,
-    path: &[Server],
+    path: &Path,
     goals: &[Goal],
     number: u32,
     end: CertEnd,
 ) -> Result<(), RuleFault>
-    requires { IsPath (F.frame frame.now) path.now }
-    ensures ended { OnOk result (after_line (F.table frame.now) goals.now (form_view form) (F.frame frame.now) path.now
-        (L.OfIndex number (end_view end)) ≡ Ok []) }
+    requires { IsPath (F.frame frame.now) path.now.servers.items }
+    ensures ended { OnOk result (after_line (F.table frame.now) goals.now (form_view form) (F.frame frame.now)
+        path.now.servers.items (L.OfIndex number (end_view end)) ≡ Ok []) }
     ensures broken { IfErr result (λ fault. Breaks (after_line (F.table frame.now) goals.now (form_view form)
-        (F.frame frame.now) path.now (L.OfIndex number (end_view end))) fault) }
+        (F.frame frame.now) path.now.servers.items (L.OfIndex number (end_view end))) fault) }
 {
     match form {
         PlanForm::OfArrays => {
-            if u64::from(number) < heads_placed(frame, Extent::of(path)) {
+            if u64::from(number) < heads_placed(frame, path.extent()) {
                 refuted(alloc, frame, path, goals, u64::from(number), end)
             } else {
                 Err(RuleFault::Breaks(Rule::NotRefuted))
@@ -137,20 +137,20 @@ fn tail<F: CheckFrame>(
     alloc: Global,
     form: PlanForm,
     frame: &F,
-    path: &[Server],
+    path: &Path,
     goals: &[Goal],
     number: u32,
     end: CertEnd,
 ) -> Result<(), RuleFault>
-    requires { IsPath (F.frame frame.now) path.now }
-    ensures ended { OnOk result (after_line (F.table frame.now) goals.now (form_view form) (F.frame frame.now) path.now
-        (L.OfTail number (end_view end)) ≡ Ok []) }
+    requires { IsPath (F.frame frame.now) path.now.servers.items }
+    ensures ended { OnOk result (after_line (F.table frame.now) goals.now (form_view form) (F.frame frame.now)
+        path.now.servers.items (L.OfTail number (end_view end)) ≡ Ok []) }
     ensures broken { IfErr result (λ fault. Breaks (after_line (F.table frame.now) goals.now (form_view form)
-        (F.frame frame.now) path.now (L.OfTail number (end_view end))) fault) }
+        (F.frame frame.now) path.now.servers.items (L.OfTail number (end_view end))) fault) }
 {
     match form {
         PlanForm::OfArrays => {
-            let heads = heads_placed(frame, Extent::of(path));
+            let heads = heads_placed(frame, path.extent());
             refuted(alloc, frame, path, goals, heads + u64::from(number), end)
         }
         PlanForm::OfObjects => Err(RuleFault::Breaks(Rule::OutOfPlace)),
@@ -162,15 +162,15 @@ fn short<F: CheckFrame>(
     alloc: Global,
     form: PlanForm,
     frame: &F,
-    path: &[Server],
+    path: &Path,
     goals: &[Goal],
     entries: &[ShortEntry],
 ) -> Result<(), RuleFault>
-    requires { IsPath (F.frame frame.now) path.now }
-    ensures ended { OnOk result (after_line (F.table frame.now) goals.now (form_view form) (F.frame frame.now) path.now
-        (L.Short (map entry_view entries.now)) ≡ Ok []) }
+    requires { IsPath (F.frame frame.now) path.now.servers.items }
+    ensures ended { OnOk result (after_line (F.table frame.now) goals.now (form_view form) (F.frame frame.now)
+        path.now.servers.items (L.Short (map entry_view entries.now)) ≡ Ok []) }
     ensures broken { IfErr result (λ fault. Breaks (after_line (F.table frame.now) goals.now (form_view form)
-        (F.frame frame.now) path.now (L.Short (map entry_view entries.now))) fault) }
+        (F.frame frame.now) path.now.servers.items (L.Short (map entry_view entries.now))) fault) }
 {
     if path.len() < frame.demands().len() {
         return Err(RuleFault::Breaks(Rule::PlanLeft));
@@ -187,16 +187,16 @@ pub(crate) fn ends<F: CheckFrame>(
     alloc: Global,
     form: PlanForm,
     frame: &F,
-    path: &[Server],
+    path: &Path,
     goals: &[Goal],
     line: &CertLine,
 ) -> Result<(), RuleFault>
-    requires path { IsPath (F.frame frame.now) path.now }
+    requires path { IsPath (F.frame frame.now) path.now.servers.items }
     requires other { is_split (line_view line.now) ≡ false }
-    ensures ended { OnOk result (after_line (F.table frame.now) goals.now (form_view form) (F.frame frame.now) path.now
-        (line_view line.now) ≡ Ok []) }
+    ensures ended { OnOk result (after_line (F.table frame.now) goals.now (form_view form) (F.frame frame.now)
+        path.now.servers.items (line_view line.now) ≡ Ok []) }
     ensures broken { IfErr result (λ fault. Breaks (after_line (F.table frame.now) goals.now (form_view form)
-        (F.frame frame.now) path.now (line_view line.now)) fault) }
+        (F.frame frame.now) path.now.servers.items (line_view line.now)) fault) }
 {
     match line {
         CertLine::Count => over(form, frame, path, goals),

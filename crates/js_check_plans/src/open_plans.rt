@@ -20,12 +20,13 @@ use crate::check_frame::CheckFrame;
 use crate::choices::{Slot, first_choice};
 use crate::form::PlanForm;
 use crate::lines::{ends, is_split};
+use crate::path::Path;
 use js_algebra::Goal;
 use js_doc::Memory;
 use js_lines::CertLine;
-use js_plans::Server;
 use js_rules::{Rule, RuleFault};
 use std::alloc::Global;
+use std::mem;
 
 /// Plans to come: the first `level` of the path serve as before, and each choice from `next` on serves the demand after
 /// them.
@@ -40,7 +41,7 @@ struct Pending {
 #[derive(Drop)]
 pub struct OpenPlans {
     /// What serves each demand so far, in the plan at hand.
-    path: Vec<Server>,
+    path: Path,
     pending: Vec<Pending>,
     has_plan: bool,
 }
@@ -52,7 +53,7 @@ impl OpenPlans {
         ensures duties { (form : Form) (frame : Frame) → duties form frame result ≡ plan_duty form frame ∷ [] }
     {
         OpenPlans {
-            path: Vec::new(alloc),
+            path: Path::new(alloc),
             pending: Vec::new(alloc),
             has_plan: true,
         }
@@ -85,17 +86,17 @@ impl OpenPlans {
         match self.judge(alloc, form, frame, goals, line) {
             Ok(()) => Ok(()),
             Err(fault) => {
-                self.clear();
+                self.clear(alloc);
                 Err(fault)
             }
         }
     }
 
     /// Plans of whatever frame, after a fault.
-    fn clear(&mut self)
+    fn clear(&mut self, alloc: Global)
         ensures { (frame : Frame) → IsOpen frame self.new }
     {
-        self.path.clear();
+        self.path = Path::new(alloc);
         self.pending.clear();
     }
 
@@ -122,7 +123,7 @@ impl OpenPlans {
         if is_split(line) {
             return self.split(alloc, frame);
         }
-        ends(alloc, form, frame, self.path.as_slice(), goals, line)?;
+        ends(alloc, form, frame, &self.path, goals, line)?;
         self.go_on(alloc, frame)?;
         Ok(())
     }
@@ -159,14 +160,15 @@ impl OpenPlans {
         ensures duties { OnOk result ((form : Form) → duties form (F.frame frame.now) self.new
             ≡ others form (F.frame frame.now) self.old) }
     {
+        let mut path = mem::replace(&mut self.path, Path::new(alloc));
         while let Some(last) = self.pending.pop() {
-            self.path.truncate(last.level);
-            if let Some(choice) = first_choice(alloc, frame, self.path.as_slice(), last.next)? {
+            path = path.cut(last.level)?;
+            if let Some(choice) = first_choice(frame, &path, last.next) {
                 self.pending.push(Pending {
                     next: choice.rest,
                     ..last
                 })?;
-                self.path.push(choice.server)?;
+                self.path = path.with(choice.server)?;
                 return Ok(());
             }
         }

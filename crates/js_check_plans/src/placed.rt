@@ -15,8 +15,8 @@ ghost use Rattle.js_plans.specs.Goals.{place_after};
 ghost use Rattle.js_check_plans.specs.Reach.{server_at, served_at, IsPath};
 
 use crate::check_frame::CheckFrame;
-use crate::extent::{Extent, heads_placed};
-use crate::path::{self, place_of};
+use crate::extent::heads_placed;
+use crate::path::{Path, earlier, place_of};
 use crate::refuted::is_refuted;
 use js_algebra::{Goal, Signed};
 use js_doc::Memory;
@@ -25,10 +25,10 @@ use js_plans::{Place, Server};
 use std::alloc::Global;
 
 /// What is placed by that number: one of the first places, or a member behind them.
-fn server_at<F: CheckFrame>(frame: &F, path: &[Server], number: u64) -> Option<Server>
-    ensures { result ≡ server_at (F.frame frame.now) path.now number }
+fn server_at<F: CheckFrame>(frame: &F, path: &Path, number: u64) -> Option<Server>
+    ensures { result ≡ server_at (F.frame frame.now) path.now.servers.items number }
 {
-    let extent = Extent::of(path);
+    let extent = path.extent();
     let heads = heads_placed(frame, extent);
     if number < heads {
         return Some(Server::Head(number as u32));
@@ -64,14 +64,15 @@ pub(crate) fn list_at<F: CheckFrame>(
 fn served_by<F: CheckFrame>(
     alloc: Global,
     frame: &F,
-    path: &[Server],
+    path: &Path,
     server: Server,
 ) -> Result<Vec<Signed>, Memory>
-    requires { length path.now ≤ length (F.frame frame.now).demands }
-    ensures value { IfOk result (λ v. map signed_view v.items ≡ served_at (F.frame frame.now) path.now server) }
+    requires { length path.now.servers.items ≤ length (F.frame frame.now).demands }
+    ensures value { IfOk result (λ v. map signed_view v.items ≡ served_at (F.frame frame.now) path.now.servers.items
+        server) }
     ensures in_table { IfOk result (λ v. are_in_table (F.table frame.now) (map signed_view v.items) ≡ true) }
 {
-    let mut served = path::earlier(alloc, path, frame.demands(), server)?;
+    let mut served = earlier(alloc, path.servers(), frame.demands(), server)?;
     served.reverse();
     Ok(served)
 }
@@ -97,20 +98,20 @@ pub(crate) fn is_place_refuted<F: CheckFrame>(
 pub(crate) fn is_refuted_at<F: CheckFrame>(
     alloc: Global,
     frame: &F,
-    path: &[Server],
+    path: &Path,
     goals: &[Goal],
     number: u64,
     end: CertEnd,
 ) -> Result<bool, Memory>
-    requires { IsPath (F.frame frame.now) path.now }
+    requires { IsPath (F.frame frame.now) path.now.servers.items }
     ensures { IfOk result (λ b. b ≡ P.is_refuted_at (F.table frame.now) (cites goals.now) (F.frame frame.now)
-        (slice_get (placed (F.frame frame.now) (plan_after (F.frame frame.now) path.now)) number)
+        (slice_get (placed (F.frame frame.now) (plan_after (F.frame frame.now) path.now.servers.items)) number)
         (ending (end_view end))) }
 {
     match server_at(frame, path, number) {
         Some(server) => {
             let served = served_by(alloc, frame, path, server)?;
-            let place = place_of(alloc, path, server)?;
+            let place = place_of(path, server);
             is_place_refuted(alloc, frame, goals, place, served.as_slice(), end)
         }
         None => Ok(false),

@@ -1,7 +1,6 @@
 //! The rooms of cells that a line keeps, and whether a plan needs more.
 
 ghost use Rattle.std.specs.Prelude.{◌≡◌, ◌≤◌, ◌<◌, ◌^◌, ◌*◌, map, IfOk, IfSome, length};
-ghost use Rattle.frames.specs.Fillers.{times};
 ghost use Rattle.frames.specs.Plan.{need};
 ghost use Rattle.frames.specs.PlanLines as P;
 ghost use Rattle.verdicts.specs.Duties as D;
@@ -13,21 +12,20 @@ ghost use Rattle.js_check_plans.specs.Reach.{IsPath};
 ghost use Rattle.js_check_plans.specs.Rooms.{refuted_room, entry_room, rooms_in};
 
 use crate::check_frame::CheckFrame;
-use crate::choices::count;
-use crate::extent::{self, Extent};
-use crate::path;
+use crate::extent::need;
+use crate::members::Members;
+use crate::path::Path;
 use crate::placed::is_place_refuted;
 use js_algebra::Goal;
 use js_doc::Memory;
 use js_lines::{CertEnd, ShortEntry};
-use js_plans::{Place, Server};
+use js_plans::Place;
 use std::alloc::Global;
 
-/// The room that is left in a cell with such members, if it is bounded.
-fn room_of(cap: Option<u32>, members: &[u32], cell: u32) -> Option<u32>
-    ensures { result ≡ P.room_of (times cell members.now) cap }
+/// The room that is left in a cell with so many members, if it is bounded.
+fn room_of(cap: Option<u32>, count: usize) -> Option<u32>
+    ensures { result ≡ P.room_of count cap }
 {
-    let count = count(members, cell);
     match cap {
         Some(cap) => Some((cap as usize).saturating_sub(count) as u32),
         None => None,
@@ -57,15 +55,15 @@ fn entry_room<F: CheckFrame>(
     alloc: Global,
     frame: &F,
     goals: &[Goal],
-    members: &[u32],
+    members: &Members,
     cell: u32,
     entry: ShortEntry,
 ) -> Result<Option<u32>, Memory>
-    ensures { IfOk result (λ o. o ≡ entry_room (F.table frame.now) (cites goals.now) (F.frame frame.now) members.now
-        cell (D.entry (entry_view entry))) }
+    ensures { IfOk result (λ o. o ≡ entry_room (F.table frame.now) (cites goals.now) (F.frame frame.now)
+        members.now.cells.items cell (D.entry (entry_view entry))) }
 {
     match entry {
-        ShortEntry::Kept => Ok(room_of(frame.cap(cell), members, cell)),
+        ShortEntry::Kept => Ok(room_of(frame.cap(cell), members.count(cell))),
         ShortEntry::Clash => refuted_room(alloc, frame, goals, cell, CertEnd::Clash),
         ShortEntry::Goal(number) => {
             refuted_room(alloc, frame, goals, cell, CertEnd::Goal(number))
@@ -78,11 +76,11 @@ fn rooms<F: CheckFrame>(
     alloc: Global,
     frame: &F,
     goals: &[Goal],
-    members: &[u32],
+    members: &Members,
     entries: &[ShortEntry],
 ) -> Result<Option<u128>, Memory>
-    ensures { IfOk result (λ o. o ≡ rooms_in (F.table frame.now) (cites goals.now) (F.frame frame.now) members.now
-        (F.frame frame.now).cells (map D.entry (map entry_view entries.now))) }
+    ensures { IfOk result (λ o. o ≡ rooms_in (F.table frame.now) (cites goals.now) (F.frame frame.now)
+        members.now.cells.items (F.frame frame.now).cells (map D.entry (map entry_view entries.now))) }
 {
     let cells = frame.cells();
     if entries.len() != cells.len() {
@@ -111,17 +109,16 @@ fn is_short(missing: u128, rooms: Option<u128>) -> bool
 pub(crate) fn falls_short<F: CheckFrame>(
     alloc: Global,
     frame: &F,
-    path: &[Server],
+    path: &Path,
     goals: &[Goal],
     entries: &[ShortEntry],
 ) -> Result<bool, Memory>
-    requires { IsPath (F.frame frame.now) path.now }
-    ensures { IfOk result (λ b. b ≡ P.is_short (need (F.frame frame.now) (plan_after (F.frame frame.now) path.now))
-        (P.rooms (F.table frame.now) (cites goals.now) (F.frame frame.now)
-        (plan_after (F.frame frame.now) path.now).members (F.frame frame.now).cells
-        (map D.entry (map entry_view entries.now)))) }
+    requires { IsPath (F.frame frame.now) path.now.servers.items }
+    ensures { IfOk result (λ b. b ≡ P.is_short (need (F.frame frame.now) (plan_after (F.frame frame.now)
+        path.now.servers.items)) (P.rooms (F.table frame.now) (cites goals.now) (F.frame frame.now) (plan_after (F.frame
+        frame.now) path.now.servers.items).members (F.frame frame.now).cells (map D.entry (map entry_view
+        entries.now)))) }
 {
-    let members = path::cells(alloc, path)?;
-    let rooms = rooms(alloc, frame, goals, members.as_slice(), entries)?;
-    Ok(is_short(extent::need(frame, Extent::of(path)), rooms))
+    let rooms = rooms(alloc, frame, goals, path.members(), entries)?;
+    Ok(is_short(need(frame, path.extent()), rooms))
 }

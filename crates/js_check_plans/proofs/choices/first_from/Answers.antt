@@ -10,7 +10,7 @@ pub returns-then-k-heads-clause-choices : goal.returns-then-k-heads-clause-choic
 returns-then-k-heads-clause-choices g c =
     let frame = g.F.CheckFrame.frame c.args.frame.now in
     let d = get_or frame.demands c.args.demand (G.Plus 0) in
-    let cs = c.args.members.now in
+    let cs = c.args.members.now.cells.items in
     sym (ap (choices_from frame d cs) c.in-Head.is
     ∙ ap (λ xs. xs ++ serving_cells frame d 0 cs ++ open_cells frame d cs frame.cells)
     (range-from c.in-Head.k frame.heads (omega (arith, c.heads.ensures, c.if-k-heads.true))))

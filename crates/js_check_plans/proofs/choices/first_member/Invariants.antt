@@ -8,4 +8,5 @@ abbrev pub invariant-loop-k : goal.invariant-loop-k
 invariant-loop-k g l =
     let frame = g.F.CheckFrame.frame l.frame in
     let d = get_or frame.demands l.demand (G.Plus 0) in
-    serving_cells frame d l.k (drop l.k l.members) ≡ serving_cells frame d l.from (drop l.from l.members)
+    serving_cells frame d l.k (drop l.k l.members.cells.items)
+    ≡ serving_cells frame d l.from (drop l.from l.members.cells.items)

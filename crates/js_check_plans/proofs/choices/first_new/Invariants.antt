@@ -8,4 +8,5 @@ abbrev pub invariant-loop-i : goal.invariant-loop-i
 invariant-loop-i g l =
     let frame = g.F.CheckFrame.frame l.frame in
     let d = get_or frame.demands l.demand (G.Plus 0) in
-    open_cells frame d l.members (drop l.i frame.cells) ≡ open_cells frame d l.members (drop l.from frame.cells)
+    open_cells frame d l.members.cells.items (drop l.i frame.cells)
+    ≡ open_cells frame d l.members.cells.items (drop l.from frame.cells)

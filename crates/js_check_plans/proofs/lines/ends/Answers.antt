@@ -11,7 +11,7 @@ pub returns-in-Short-clause-broken : goal.returns-in-Short-clause-broken
 returns-in-Short-clause-broken g c =
     let T = g.F.CheckFrame.table c.args.frame.now in
     let frame = g.F.CheckFrame.frame c.args.frame.now in
-    let left = after_line T c.args.goals.now (form_view c.args.form) frame c.args.path.now in
+    let left = after_line T c.args.goals.now (form_view c.args.form) frame c.args.path.now.servers.items in
     subst (λ v. IfErr c.short.result (λ fault. Breaks v fault))
     (ap (λ es. left (L.Short es)) c.as_slice.ensures ∙ ap (λ l. left (line_view l)) (sym c.in-Short.is))
     c.short.ensures.broken

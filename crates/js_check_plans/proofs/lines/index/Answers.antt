@@ -15,14 +15,14 @@ returns-then-from-heads_placed-clause-ended g c =
     let T = g.F.CheckFrame.table c.args.frame.now in
     let frame = g.F.CheckFrame.frame c.args.frame.now in
     let gs = c.args.goals.now in
-    let ws = c.args.path.now in
+    let ws = c.args.path.now.servers.items in
     let e = end_view c.args.end in
     let less : c.args.number < c.heads_placed.result =
     omega (arith, c.from.ensures, c.if-from-heads_placed.true) in
     subst (λ v. OnOk c.refuted.result (v ≡ Ok []))
     (ap (λ n. after_at T gs frame ws n e) c.from-then-from-heads_placed.ensures
     ∙ sym (index-line T gs frame ws c.args.number c.heads_placed.result e true c.requires
-    (c.heads_placed.ensures.value ∙ ap₂ (heads_of frame) c.of.ensures.used c.of.ensures.members)
+    (c.heads_placed.ensures.value ∙ ap₂ (heads_of frame) c.extent.ensures.used c.extent.ensures.members)
     (lt-ltb c.args.number c.heads_placed.result less))
     ∙ ap (λ f. after_line T gs (form_view f) frame ws (L.OfIndex c.args.number e)) (sym c.in-OfArrays.is))
     c.refuted.ensures.ended
@@ -32,14 +32,14 @@ returns-then-from-heads_placed-clause-broken g c =
     let T = g.F.CheckFrame.table c.args.frame.now in
     let frame = g.F.CheckFrame.frame c.args.frame.now in
     let gs = c.args.goals.now in
-    let ws = c.args.path.now in
+    let ws = c.args.path.now.servers.items in
     let e = end_view c.args.end in
     let less : c.args.number < c.heads_placed.result =
     omega (arith, c.from.ensures, c.if-from-heads_placed.true) in
     subst (λ v. IfErr c.refuted.result (λ fault. Breaks v fault))
     (ap (λ n. after_at T gs frame ws n e) c.from-then-from-heads_placed.ensures
     ∙ sym (index-line T gs frame ws c.args.number c.heads_placed.result e true c.requires
-    (c.heads_placed.ensures.value ∙ ap₂ (heads_of frame) c.of.ensures.used c.of.ensures.members)
+    (c.heads_placed.ensures.value ∙ ap₂ (heads_of frame) c.extent.ensures.used c.extent.ensures.members)
     (lt-ltb c.args.number c.heads_placed.result less))
     ∙ ap (λ f. after_line T gs (form_view f) frame ws (L.OfIndex c.args.number e)) (sym c.in-OfArrays.is))
     c.refuted.ensures.broken
@@ -49,11 +49,11 @@ returns-else-from-heads_placed-clause-broken g c =
     let T = g.F.CheckFrame.table c.args.frame.now in
     let frame = g.F.CheckFrame.frame c.args.frame.now in
     let gs = c.args.goals.now in
-    let ws = c.args.path.now in
+    let ws = c.args.path.now.servers.items in
     let e = end_view c.args.end in
     let more : c.heads_placed.result ≤ c.args.number =
     omega (arith, c.from.ensures, c.if-from-heads_placed.false) in
     ap (λ f. after_line T gs (form_view f) frame ws (L.OfIndex c.args.number e)) c.in-OfArrays.is
     ∙ index-line T gs frame ws c.args.number c.heads_placed.result e false c.requires
-    (c.heads_placed.ensures.value ∙ ap₂ (heads_of frame) c.of.ensures.used c.of.ensures.members)
+    (c.heads_placed.ensures.value ∙ ap₂ (heads_of frame) c.extent.ensures.used c.extent.ensures.members)
     (le-ltb c.args.number c.heads_placed.result more)

@@ -10,6 +10,6 @@ returns g c =
     let frame = g.F.CheckFrame.frame c.args.frame.now in
     c.is_at_end.ensures
     ∙ ap₂ is_at_end
-    (c.size.ensures ∙ ap₂ (size_of frame) c.of.ensures.used c.of.ensures.members
-    ∙ sym (size-plan frame c.args.path.now c.requires.few c.requires.valid))
+    (c.size.ensures ∙ ap₂ (size_of frame) c.extent.ensures.used c.extent.ensures.members
+    ∙ sym (size-plan frame c.args.path.now.servers.items c.requires.few c.requires.valid))
     c.below.ensures

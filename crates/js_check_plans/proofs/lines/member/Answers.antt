@@ -13,7 +13,7 @@ returns-in-OfObjects-clause-broken g c =
     let T = g.F.CheckFrame.table c.args.frame.now in
     let frame = g.F.CheckFrame.frame c.args.frame.now in
     let gs = c.args.goals.now in
-    let ws = c.args.path.now in
+    let ws = c.args.path.now.servers.items in
     let e = end_view c.args.end in
     subst (λ v. IfErr c.refuted.result (λ fault. Breaks v fault))
     (ap (λ n. after_at T gs frame ws n e) c.from.ensures

@@ -14,12 +14,12 @@ returns-in-OfArrays-clause-ended g c =
     let T = g.F.CheckFrame.table c.args.frame.now in
     let frame = g.F.CheckFrame.frame c.args.frame.now in
     let gs = c.args.goals.now in
-    let ws = c.args.path.now in
+    let ws = c.args.path.now.servers.items in
     let e = end_view c.args.end in
     let h = c.heads_placed-heads.result in
     subst (λ v. OnOk c.refuted.result (v ≡ Ok []))
     (sym (tail-line T gs frame ws c.args.number h (h + c.from.result) e c.requires
-    (c.heads_placed-heads.ensures.value ∙ ap₂ (heads_of frame) c.of.ensures.used c.of.ensures.members)
+    (c.heads_placed-heads.ensures.value ∙ ap₂ (heads_of frame) c.extent.ensures.used c.extent.ensures.members)
     (ap (λ n. h + n) c.from.ensures))
     ∙ ap (λ f. after_line T gs (form_view f) frame ws (L.OfTail c.args.number e)) (sym c.in-OfArrays.is))
     c.refuted.ensures.ended
@@ -29,12 +29,12 @@ returns-in-OfArrays-clause-broken g c =
     let T = g.F.CheckFrame.table c.args.frame.now in
     let frame = g.F.CheckFrame.frame c.args.frame.now in
     let gs = c.args.goals.now in
-    let ws = c.args.path.now in
+    let ws = c.args.path.now.servers.items in
     let e = end_view c.args.end in
     let h = c.heads_placed-heads.result in
     subst (λ v. IfErr c.refuted.result (λ fault. Breaks v fault))
     (sym (tail-line T gs frame ws c.args.number h (h + c.from.result) e c.requires
-    (c.heads_placed-heads.ensures.value ∙ ap₂ (heads_of frame) c.of.ensures.used c.of.ensures.members)
+    (c.heads_placed-heads.ensures.value ∙ ap₂ (heads_of frame) c.extent.ensures.used c.extent.ensures.members)
     (ap (λ n. h + n) c.from.ensures))
     ∙ ap (λ f. after_line T gs (form_view f) frame ws (L.OfTail c.args.number e)) (sym c.in-OfArrays.is))
     c.refuted.ensures.broken

@@ -18,8 +18,9 @@ returns g c =
     c.is_short.ensures
     ∙ ap₂ is_short
     (c.need.ensures
-    ∙ ap₂ (λ u m. max frame.lower (size_of frame u m) - (frame.heads + m)) c.of.ensures.used c.of.ensures.members
-    ∙ sym (need-path frame c.args.path.now c.requires))
+    ∙ ap₂ (λ u m. max frame.lower (size_of frame u m) - (frame.heads + m)) c.extent.ensures.used
+    c.extent.ensures.members
+    ∙ sym (need-path frame c.args.path.now.servers.items c.requires))
     (c.in_ok-rooms.ensures
-    ∙ ap (λ ms. rooms_in T cite frame ms frame.cells es) (c.as_slice.ensures.value ∙ c.in_ok-members.ensures)
-    ∙ sym (rooms-path T cite frame c.args.path.now frame.cells es c.requires.few))
+    ∙ ap (λ ms. rooms_in T cite frame ms frame.cells es) c.members.ensures
+    ∙ sym (rooms-path T cite frame c.args.path.now.servers.items frame.cells es c.requires.few))

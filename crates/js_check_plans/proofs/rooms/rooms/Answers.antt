@@ -11,7 +11,8 @@ pub returns-then-entries-cells : goal.returns-then-entries-cells
 returns-then-entries-cells g c =
     let frame = g.F.CheckFrame.frame c.args.frame.now in
     let es = map entry_view c.args.entries.now in
-    sym (rooms-other (g.F.CheckFrame.table c.args.frame.now) (cites c.args.goals.now) frame c.args.members.now
+    sym (rooms-other (g.F.CheckFrame.table c.args.frame.now) (cites c.args.goals.now) frame
+    c.args.members.now.cells.items
     frame.cells (map D.entry es)
     (λ h. c.if-entries-cells.true
     (sym (length-map es D.entry ∙ length-map c.args.entries.now entry_view) ∙ h

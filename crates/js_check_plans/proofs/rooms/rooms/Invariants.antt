@@ -12,8 +12,8 @@ invariant-loop-i g l =
     let frame = g.F.CheckFrame.frame l.frame in
     let T = g.F.CheckFrame.table l.frame in
     record {
-      sum : plus (Some l.total) (rooms_in T (cites l.goals) frame l.members (drop l.i l.cells)
+      sum : plus (Some l.total) (rooms_in T (cites l.goals) frame l.members.cells.items (drop l.i l.cells)
           (map D.entry (map entry_view (drop l.i l.entries))))
-          ≡ rooms_in T (cites l.goals) frame l.members l.cells (map D.entry (map entry_view l.entries));
+          ≡ rooms_in T (cites l.goals) frame l.members.cells.items l.cells (map D.entry (map entry_view l.entries));
       bound : l.total ≤ 2 ^ 32 * l.i;
     }

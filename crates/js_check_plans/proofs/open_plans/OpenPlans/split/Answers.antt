@@ -12,7 +12,7 @@ use Rattle.js_check_plans.proofs.open_plans.OpenPlans.split.Goals as goal
 pub go_on-requires-clause-plans : goal.go_on-requires-clause-plans
 go_on-requires-clause-plans g c =
     let frame = g.F.CheckFrame.frame c.args.frame.now in
-    let ws = c.args.self.now.path.items in
+    let ws = c.args.self.now.path.servers.items in
     let l : length ws < length frame.demands = omega (
       arith,
       c.requires.plans.path.few,
@@ -33,7 +33,7 @@ pub returns-clause-taken : goal.returns-clause-taken
 returns-clause-taken g c = λ form gs.
     let T = g.F.CheckFrame.table c.args.frame.now in
     let frame = g.F.CheckFrame.frame c.args.frame.now in
-    let ws = c.args.self.now.path.items in
+    let ws = c.args.self.now.path.servers.items in
     let l : length ws < length frame.demands = omega (
       arith,
       c.requires.plans.path.few,
