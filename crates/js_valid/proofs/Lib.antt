@@ -24,6 +24,8 @@ pub mod Settled
 pub mod DecideLaws
 -- Forms that are decided alone.
 pub mod PlainLaws
+-- Where references end.
+pub mod TargetLaws
 -- Tests of lists.
 pub mod TestLaws
 -- Names that rise, and binary searches.

@@ -25,10 +25,23 @@ pub record IsPlan (es : List Entry) (order : List ℕ) : Type 0 where
 abbrev pub StandAt : (order places : List ℕ) → ℕ → Type 0
 StandAt order places e = (get_or places e 0 < length order) × (get_or order (get_or places e 0) 0 ≡ e)
 
--- an order of validation, with the place of each entry in it, and the values that it lists
+-- validity by the patterns of the grammar
+abbrev pub valid_at : List Entry → ℕ → Document → Bool
+valid_at es = entry_valid matches es
+
+-- the target of an entry, which past the last one is the entry itself
+abbrev pub target_at : List ℕ → ℕ → ℕ
+target_at targets e = get_or targets e e
+
+-- a document meets an entry exactly where it meets the target
+abbrev pub HasTargets : List Entry → List ℕ → Type 0
+HasTargets es targets = (e : ℕ) (J : Document) → valid_at es (target_at targets e) J ≡ valid_at es e J
+
+-- an order of validation, with the place of each entry in it, its target, and the values that it lists
 pub record IsPlanned (es : List Entry) (p : Plan) : Type 0 where
   pub plan : IsPlan es p.order.items
   pub places : (e : ℕ) → e < length es → StandAt p.order.items p.places.items e
+  pub targets : HasTargets es p.targets.items
   pub choices : HasChoices es p.choices.items
 
 -- the entries that a validator goes by
@@ -38,10 +51,6 @@ table_of v = schema_view v.schema.now
 -- the order is one of its schema
 abbrev pub HasPlan : Validator → Type 0
 HasPlan v = IsPlanned (table_of v) v.plan.now
-
--- validity by the patterns of the grammar
-abbrev pub valid_at : List Entry → ℕ → Document → Bool
-valid_at es = entry_valid matches es
 
 -- what an applied entry names in place is applied as well
 abbrev pub IsClosed : List Entry → List Bool → Type 0

@@ -25,7 +25,7 @@ use crate::ask::{
     of_contains, of_element, of_member, of_name, only_entry,
 };
 use crate::own::meets_own;
-use crate::plain::{is_plain, target_of};
+use crate::plain::is_plain;
 use crate::request::{Request, add_requested, keep_requests, refuse_all, refuse_none, requested};
 use crate::scalar::{are_plain, is_scalar, own_verdicts};
 use crate::settle::settle;
@@ -93,7 +93,7 @@ impl Validator<'_> {
         requires { HasPlan self.now }
         ensures { IfOk result (λ b. b ≡ valid_at (table_of self.now) entry (view doc.now)) }
     {
-        let target = target_of(self.schema, entry);
+        let target = self.plan.target_of(entry);
         if target >= self.schema.len() {
             return Ok(false);
         }

@@ -32,6 +32,7 @@ mod search;
 mod settle;
 mod stand;
 mod tables;
+mod targets;
 mod validator;
 mod verdicts;
 
@@ -47,6 +48,7 @@ ghost use Rattle.js_valid.specs.Plan.{IsPlan, IsPlanned};
 use crate::choices::all_choices;
 use crate::order::order_of;
 use crate::plan::{Plan, places_of};
+use crate::targets::targets_of;
 use crate::validator::Validator;
 pub use fault::ValidFault;
 use js_doc::{Doc, Memory, PartId, Parts};
@@ -85,16 +87,19 @@ pub fn valid_parts(
     Ok(is_part_met(alloc, &schema.table, &plan, parts, part)?)
 }
 
-/// The entries in an order in which each comes after those that it names in place, with the values that each lists.
+/// The entries in an order in which each comes after those that it names in place, with the target of each and the
+/// values that it lists.
 fn plan_of(alloc: Global, schema: &RankedSchema) -> Result<Plan<'_>, Memory>
     ensures { IfOk result (λ plan. IsPlanned (entries_of schema.now) plan) }
 {
     let order = ordered(alloc, schema)?;
     let places = places_of(alloc, &order, schema.table.len() as usize)?;
+    let targets = targets_of(alloc, &schema.table, &order)?;
     let choices = all_choices(alloc, &schema.table)?;
     Ok(Plan {
         order,
         places,
+        targets,
         choices,
     })
 }

@@ -1,49 +1,12 @@
-//! Entries that are applied alone to a document. References are followed; a form that then depends on no other entry's
-//! verdict on the same document needs no table of verdicts.
+//! Forms that depend on no other entry's verdict on the same document: where an entry is applied alone, and references
+//! end at such a form, no table of verdicts is needed.
 
-ghost use Rattle.std.specs.Prelude.{◌≡◌, ℕ, true, List};
-ghost use Rattle.documents.specs.Document.{Document};
-ghost use Rattle.draft06.specs.EntryValidity.{form_at};
+ghost use Rattle.std.specs.Prelude.{◌≡◌};
 ghost use Rattle.js_schema.specs.View.{form_view, keywords_view};
-ghost use Rattle.js_schema.specs.SchemaView.{schema_view};
-ghost use Rattle.js_valid.specs.Plain.{is_plain, reference};
-ghost use Rattle.js_valid.specs.Plan.{IsPlan, valid_at};
+ghost use Rattle.js_valid.specs.Plain.{is_plain};
 ghost use Rattle.schemas.specs.Entry.{Asks};
 
-use js_schema::{Form, Keywords, Schema};
-
-/// The entry at which references from that one end. Time in the number of references.
-pub(crate) fn target_of(schema: &Schema, entry: u32) -> u32
-    ensures { (order : List ℕ) → IsPlan (schema_view schema.now) order → (J : Document)
-        → valid_at (schema_view schema.now) result J ≡ valid_at (schema_view schema.now) entry J }
-{
-    let mut target = entry;
-    for _ in 0..schema.len() {
-        match reference_at(schema, target) {
-            None => return target,
-            Some(next) => target = next,
-        }
-    }
-    target
-}
-
-fn reference_at(schema: &Schema, entry: u32) -> Option<u32>
-    ensures { result ≡ reference (form_at (schema_view schema.now) entry) }
-{
-    if entry >= schema.len() {
-        return None;
-    }
-    reference_of(schema.form(entry))
-}
-
-fn reference_of(form: &Form) -> Option<u32>
-    ensures { result ≡ reference (form_view form.now) }
-{
-    match form {
-        Form::Ref(target) => Some(*target),
-        _ => None,
-    }
-}
+use js_schema::{Form, Keywords};
 
 /// Whether the form depends on no other entry's verdict on the same document, and requires something of each part at
 /// one place only.

@@ -1,9 +1,10 @@
-//! The entries of a schema in rising order of their ranks, where each of them is, and the values that each lists: made
-//! once for a document.
+//! The entries of a schema in rising order of their ranks, where each of them is, where its references end, and the
+//! values that it lists: made once for a document.
 
 ghost use Rattle.std.specs.Prelude.{◌≡◌, ℕ, ◌<◌, nat_eq, IfOk, length, get_or, if◌then◌else◌};
-ghost use Rattle.js_valid.specs.Plan.{StandAt};
+ghost use Rattle.js_valid.specs.Plan.{StandAt, target_at};
 
+use crate::targets::target_at;
 use js_doc::{Doc, Memory};
 use std::alloc::Global;
 
@@ -12,6 +13,9 @@ use std::alloc::Global;
 pub(crate) struct Plan<'a> {
     pub(crate) order: Vec<u32>,
     pub(crate) places: Vec<usize>,
+
+    /// The entry at which references from each one end.
+    pub(crate) targets: Vec<u32>,
 
     /// The values of each entry's `enum`, in the order of documents.
     pub(crate) choices: Vec<Vec<&'a Doc>>,
@@ -27,6 +31,13 @@ impl Plan<'_> {
             return self.places[number];
         }
         0
+    }
+
+    /// The entry at which references from that one end; past the last one it is that one itself.
+    pub(crate) fn target_of(&self, entry: u32) -> u32
+        ensures { result ≡ target_at self.now.targets.items entry }
+    {
+        target_at(&self.targets, entry)
     }
 }
 

@@ -1,4 +1,4 @@
-use Rattle.std.proofs.Common.{◌≡◌, ℕ, ◌<◌, List, length, get_or, ap, subst, arith}
+use Rattle.std.proofs.Common.{◌≡◌, ℕ, ◌<◌, List, length, get_or, sym, ap, subst, arith}
 use Rattle.schemas.specs.Entry.{Entry}
 use Rattle.js_guard.specs.RankedView.{entries_of}
 use Rattle.js_valid.specs.Plan.{IsPlan, StandAt}
@@ -24,10 +24,15 @@ places_of-requires c =
     listed (entries_of c.args.schema.now) c.in_ok-order.order.items c.deref.result.now _ c.deref.ensures.value
     c.len.ensures.value c.in_ok-order.ensures
 
+pub targets_of-requires : goal.targets_of-requires
+targets_of-requires c =
+    subst (IsPlan (entries_of c.args.schema.now)) (sym c.deref-2.ensures.value) c.in_ok-order.ensures
+
 pub returns : goal.returns
 returns c = record {
   plan = c.in_ok-order.ensures;
   places = stand-all (entries_of c.args.schema.now) c.in_ok-order.order.items c.deref.result.now
       c.in_ok-places.places.items c.deref.ensures.value c.in_ok-order.ensures c.in_ok-places.ensures;
+  targets = c.in_ok-targets.ensures;
   choices = c.in_ok-choices.ensures;
 }

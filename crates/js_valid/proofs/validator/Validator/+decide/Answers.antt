@@ -21,6 +21,7 @@ use Rattle.js_valid.proofs.SearchLaws.{form-fine}
 use Rattle.js_valid.specs.Plain.{is_plain, is_scalar}
 use Rattle.js_schema.specs.View.{form_view}
 use Rattle.js_valid.proofs.DepthLaws.{item-depth, member-depth, view-scalar, view-Text}
+use Rattle.js_valid.proofs.TargetLaws.{target-met}
 use Rattle.js_valid.proofs.validator.Validator.+decide.Goals as goal
 
 pub decide_element-refuse_all-requires : goal.decide_element-refuse_all-requires
@@ -471,7 +472,8 @@ is_each_met-returns t c =
 
 pub is_met-returns-then-target-len : goal.is_met-returns-then-target-len
 is_met-returns-then-target-len t c =
-    sym (sym (c.target_of-target.ensures c.args.self.now.plan.now.order.items c.requires.plan (view c.args.doc.now))
+    sym (sym (target-met (table_of c.args.self.now) c.args.self.now.plan.now c.requires c.target_of-target.result
+    c.args.entry (view c.args.doc.now) c.target_of-target.ensures)
     ∙ valid-past (table_of c.args.self.now) c.args.self.now.plan.now.order.items c.requires.plan
     c.target_of-target.result (view c.args.doc.now) (omega (arith, c.len.ensures.value, c.if-target-len.true)))
 
@@ -506,11 +508,13 @@ is_met-returns-then-is_plain t c =
     W.ok_then c.meets_plain.result _ _
     (λ b e. e ∙ L.plain-valid es order c.requires.plan target (form_view c.form-form.result.now)
     (view c.args.doc.now) form plain
-    ∙ c.target_of-target.ensures order c.requires.plan (view c.args.doc.now)) c.meets_plain.ensures
+    ∙ target-met (table_of c.args.self.now) c.args.self.now.plan.now c.requires c.target_of-target.result
+    c.args.entry (view c.args.doc.now) c.target_of-target.ensures) c.meets_plain.ensures
 
 pub is_met-returns : goal.is_met-returns
 is_met-returns t c =
-    let same = c.target_of-target.ensures c.args.self.now.plan.now.order.items c.requires.plan (view c.args.doc.now) in
+    let same = target-met (table_of c.args.self.now) c.args.self.now.plan.now c.requires c.target_of-target.result
+    c.args.entry (view c.args.doc.now) c.target_of-target.ensures in
     let table : c.deref.result.now ≡ valid_at (table_of c.args.self.now) c.target_of-target.result
     (view c.args.doc.now) ∷ [] = search rules in
     c.holds.ensures ∙ ap (λ bs. flag bs 0) table ∙ same

@@ -4,7 +4,7 @@ use Rattle.js_schema.specs.View.{form_view}
 use Rattle.js_schema.specs.SchemaView.{schema_view}
 use Rattle.js_valid.specs.Plain.{reference}
 use Rattle.js_valid.proofs.PlanLaws.{form_at-get}
-use Rattle.js_valid.proofs.plain.reference_at.Goals as goal
+use Rattle.js_valid.proofs.targets.reference_at.Goals as goal
 
 pub returns-then-entry-len : goal.returns-then-entry-len
 returns-then-entry-len c =
