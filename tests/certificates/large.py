@@ -178,6 +178,25 @@ def open_splits(count):
             + ['array'] + ['split'] * count)
 
 
+def deep_splits(count, side):
+    """All demands are split, and the first place serves each of them. Where a new element serves a demand in its place,
+    up to so many more are split below that, and the element refutes each of the plans."""
+    yield from ('certificate 1', 'goals 1', 'goal +0', 'entry 0')
+    for kind in KINDS:
+        yield from ('at ' + kind, 'rule +0')
+        if kind != 'array':
+            yield 'kind +%d' % (2 * count + 3)
+            continue
+        yield from ('rule +%d' % place for place in (2 * count + 6, *range(2, 2 * count + 1, 2)))
+        yield 'array'
+        yield from ['split'] * count
+        yield 'short clash'
+        for below in range(count):
+            more = min(side, below)
+            yield from ['split'] * more + ['tail 0 clash'] * (2 * more + 1)
+    yield 'end'
+
+
 def next_rule(core, held):
     for position, sign in sorted(held):
         found = core.choices((position, sign), 'array')
@@ -196,6 +215,7 @@ def good():
     yield 'repeated_rule', ({'type': []}, NONE), repeated_rule(1000000), None
     yield 'nested_rules', nested(10000), nested_rules(10000), None
     yield 'plans_65536', demands(4, 16), plan_lines(4, 16), None
+    yield 'deep_splits', demands(5000, 1), deep_splits(5000, 20), None
 
 
 def hostile():
@@ -257,6 +277,9 @@ def compare():
         assert plan_lines(*sizes) == certificate(Core(*demands(*sizes)))
         assert judged(demands(*sizes), plan_lines(*sizes)) == 'accepted'
     for count in (1, 2, 5):
+        assert list(deep_splits(count, 0)) == certificate(Core(*demands(count, 1)))
+        for side in (0, 1, 3):
+            assert judged(demands(count, 1), deep_splits(count, side)) == 'accepted'
         lines = open_splits(count)
         assert judged(demands(count, 0), lines) == 'rejected %d 3' % (len(lines) + 1)
     for name, schemas, lines, (line, rule) in hostile():
