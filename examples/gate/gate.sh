@@ -9,15 +9,16 @@
 # -j    how many comparisons run side by side (4)
 # -c    where certificates and documents are stored (beside the schemas of NEW)
 #
-# Schemas are the files *.json below OLD and NEW. Each comparison prints a line, in the order of names:
+# Schemas are the files *.json below OLD and NEW, links and hidden ones too. Each comparison prints a line, in the order
+# of names:
 #
 #   pass NAME DIRECTION FILE       the certificate, which `jsat check` accepted
 #   breaks NAME DIRECTION DOCUMENT a document that only the schema that has to be included accepts
 #   open NAME DIRECTION WORDS      a limit was passed, a schema was refused, or a file couldn't be read or stored
 #   added NAME, removed NAME       only NEW has it, only OLD has it
 #
-# Status 0: all pass. 1: something breaks or was removed. 2: other words, or no schema in either folder. 3: nothing breaks,
-# but something is open.
+# Status 0: all pass. 1: something breaks or was removed. 2: other words, or no schema in OLD. 3: nothing breaks, but
+# something is open.
 # JSAT names the program; without it, `jsat` is looked for as a command.
 set -u
 
@@ -36,7 +37,8 @@ compare() {
         first=$new/$name second=$old/$name
     fi
     local kept=$stored/${name%.json}.$direction
-    if ! mkdir -p "$(dirname "$kept")" || ! : >"$kept.text"; then
+    # (of an earlier comparison nothing is left beside what this one stores)
+    if ! mkdir -p "$(dirname "$kept")" || ! rm -f "$kept.certificate" "$kept.document" || ! : >"$kept.text"; then
         echo "open $name $direction nothing can be stored: $kept"
         return
     fi
@@ -65,14 +67,8 @@ compare() {
     esac
 }
 
-# The file of the line that is found of one schema in one direction.
-result_of() {
-    echo "$results/$(printf %s "$1" | tr / :).$2"
-}
-
 if [ "${1-}" = --one ]; then
-    results=$5
-    compare "$2" "$3" "$4" "$6" "$7" >"$(result_of "$6" "$7")"
+    compare "$2" "$3" "$4" "$7" "$8" >"$5/$6"
     exit 0
 fi
 
@@ -99,37 +95,56 @@ stored=${stored:-$new}
 results=$(mktemp -d) || exit 3
 trap 'rm -rf "$results"' EXIT
 
-schemas() {
-    (cd "$1" && find . -type f -name '*.json' | sed 's|^\./||' | LC_ALL=C sort)
-}
-both=$(LC_ALL=C comm -12 <(schemas "$old") <(schemas "$new"))
-if [ -z "$(schemas "$old")$(schemas "$new")" ]; then
-    echo "gate.sh: no schema *.json below $old or $new" >&2
+schemas() (
+    set -o pipefail
+    cd "$1" && find -L . ! -type d -name '*.json' | sed 's|^\./||' | LC_ALL=C sort
+)
+is_open=0
+old_names=$(schemas "$old") || is_open=1
+new_names=$(schemas "$new") || is_open=1
+[ "$is_open" = 0 ] || echo "open . . a folder below $old or $new couldn't be read"
+if [ -z "$old_names" ]; then
+    echo "gate.sh: no schema *.json below $old" >&2
     exit 2
 fi
 
-# Each pair and direction to compare, ended by null bytes, so that names may have blanks.
-comparisons() {
-    [ -n "$both" ] || return
-    printf '%s\n' "$both" | while IFS= read -r name; do
-        for direction in $directions; do
-            printf '%s\0%s\0' "$name" "$direction"
-        done
-    done
+# The names that both have (12), or only the new one (13) or the old one (23).
+names() {
+    LC_ALL=C comm "-$1" <(printf '%s\n' "$old_names") <(printf '%s\n' "$new_names") | sed '/^$/d'
 }
-comparisons | xargs -0 -r -n 2 -P "$jobs" bash "$0" --one "$old" "$new" "$stored" "$results"
-# What was killed has no line, and isn't taken for what passes.
-comparisons | while IFS= read -r -d '' name && IFS= read -r -d '' direction; do
-    result=$(result_of "$name" "$direction")
-    [ -s "$result" ] || echo "open $name $direction the comparison didn't come to its end" >"$result"
-done
 
-LC_ALL=C comm -13 <(schemas "$old") <(schemas "$new") | sed 's/^/added /' >"$results/.added"
-LC_ALL=C comm -23 <(schemas "$old") <(schemas "$new") | sed 's/^/removed /' >"$results/.removed"
-cat "$results"/* "$results/.added" "$results/.removed" 2>/dev/null >"$results/.all"
-cat "$results/.all"
-if grep -q -e '^breaks ' -e '^removed ' "$results/.all"; then
-    exit 1
-elif grep -q '^open ' "$results/.all"; then
-    exit 3
+# The number of each comparison, with its name and direction, ended by null bytes, so that names may have blanks.
+comparisons() {
+    local number=0 name direction
+    while IFS= read -r name; do
+        for direction in $directions; do
+            number=$((number + 1))
+            printf '%s\0%s\0%s\0' "$number" "$name" "$direction"
+        done
+    done < <(names 12)
+}
+comparisons | xargs -0 -r -n 3 -P "$jobs" bash "$0" --one "$old" "$new" "$stored" "$results"
+
+# Whatever became of the files of results, each comparison counts: what was killed has no line, and isn't taken for what
+# passes.
+breaks=0
+while IFS= read -r -d '' number && IFS= read -r -d '' name && IFS= read -r -d '' direction; do
+    line=
+    [ -s "$results/$number" ] && line=$(cat "$results/$number")
+    [ -n "$line" ] || line="open $name $direction the comparison didn't come to its end"
+    case $line in
+        "pass "*) ;;
+        "breaks "*) breaks=1 ;;
+        *) is_open=1 ;;
+    esac
+    printf '%s\n' "$line"
+done < <(comparisons)
+names 13 | sed 's/^/added /'
+removed=$(names 23)
+if [ -n "$removed" ]; then
+    breaks=1
+    printf '%s\n' "$removed" | sed 's/^/removed /'
 fi
+[ "$breaks" = 0 ] || exit 1
+[ "$is_open" = 0 ] || exit 3
+exit 0

@@ -68,4 +68,30 @@ echo true >"$work/one/a.json"
 # What can't be stored, and a program that can't be started, are no pass.
 expect 3 "open a.json backward" -c /dev/null/none backward "$work/one" "$work/one" 2>"$work/errors"
 JSAT=/dev/null/none expect 3 "open a.json backward" backward "$work/one" "$work/one" 2>"$work/errors"
+# Hidden names, names that differ in a sign of folders, and links count.
+mkdir -p "$work/before/a" "$work/after/a" "$work/elsewhere"
+echo '{"minimum": 0}' | tee "$work/before/.hidden.json" "$work/before/a:b.json" "$work/before/a/b.json" >"$work/before/link.json"
+echo '{"minimum": 1}' | tee "$work/after/.hidden.json" "$work/after/a/b.json" >"$work/elsewhere/link.json"
+cp "$work/before/a:b.json" "$work/after/a:b.json"
+ln -s "$work/elsewhere/link.json" "$work/after/link.json"
+expect 1 "breaks .hidden.json backward
+breaks a/b.json backward
+pass a:b.json backward
+breaks link.json backward" -j 1 backward "$work/before" "$work/after"
+# A link that leads nowhere, an empty old folder, and no place for results are no pass.
+ln -sf "$work/elsewhere/none.json" "$work/after/link.json"
+rm -r "$work/after/.hidden.json" "$work/after/a"
+rm -r "$work/before/.hidden.json" "$work/before/a"
+expect 3 "pass a:b.json backward
+open link.json backward" backward "$work/before" "$work/after" 2>"$work/errors"
+expect 2 "" backward "$work/nothing" "$work/after" 2>"$work/errors"
+TMPDIR=$work/none expect 3 "" backward "$work/one" "$work/one" 2>"$work/errors"
+# Of an earlier comparison nothing is left.
+expect 0 "pass a.json backward" -c "$work/kept" backward "$work/one" "$work/one"
+echo false >"$work/nothing/a.json"
+expect 1 "breaks a.json backward" -c "$work/kept" backward "$work/one" "$work/nothing"
+if [ -e "$work/kept/a.backward.certificate" ]; then
+    echo "a certificate of an earlier comparison is left"
+    status=1
+fi
 exit $status
